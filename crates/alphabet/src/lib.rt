@@ -1,0 +1,334 @@
+// The bytes of labels and lines: the class of each byte, what a well-formed label is, and the fields of a line (01, Labels and Rule text).
+use search::Found;
+ghost use mathlib.Core.Path.{_≡_};
+ghost use Rattle.alphabet.specs.Alphabet.{classOf, faultOf, fieldAt};
+
+// The numbers of the four classes in the table below.
+pub const LABEL: u8 = 0;
+
+pub const BLANK: u8 = 1;
+
+pub const NEWLINE: u8 = 2;
+
+pub const OTHER: u8 = 3;
+
+// The class of each of the 256 byte values.
+const CLASSES: [u8; 256] = [
+    3,
+    3,
+    3,
+    3,
+    3,
+    3,
+    3,
+    3,
+    3,
+    1,
+    2,
+    3,
+    3,
+    3,
+    3,
+    3,
+    3,
+    3,
+    3,
+    3,
+    3,
+    3,
+    3,
+    3,
+    3,
+    3,
+    3,
+    3,
+    3,
+    3,
+    3,
+    3,
+    1,
+    0,
+    3,
+    0,
+    0,
+    0,
+    0,
+    3,
+    0,
+    0,
+    0,
+    0,
+    0,
+    0,
+    0,
+    3,
+    0,
+    0,
+    0,
+    0,
+    0,
+    0,
+    0,
+    0,
+    0,
+    0,
+    0,
+    0,
+    0,
+    0,
+    0,
+    0,
+    0,
+    0,
+    0,
+    0,
+    0,
+    0,
+    0,
+    0,
+    0,
+    0,
+    0,
+    0,
+    0,
+    0,
+    0,
+    0,
+    0,
+    0,
+    0,
+    0,
+    0,
+    0,
+    0,
+    0,
+    0,
+    0,
+    0,
+    0,
+    3,
+    0,
+    0,
+    0,
+    0,
+    0,
+    0,
+    0,
+    0,
+    0,
+    0,
+    0,
+    0,
+    0,
+    0,
+    0,
+    0,
+    0,
+    0,
+    0,
+    0,
+    0,
+    0,
+    0,
+    0,
+    0,
+    0,
+    0,
+    0,
+    0,
+    0,
+    0,
+    0,
+    0,
+    0,
+    3,
+    3,
+    3,
+    3,
+    3,
+    3,
+    3,
+    3,
+    3,
+    3,
+    3,
+    3,
+    3,
+    3,
+    3,
+    3,
+    3,
+    3,
+    3,
+    3,
+    3,
+    3,
+    3,
+    3,
+    3,
+    3,
+    3,
+    3,
+    3,
+    3,
+    3,
+    3,
+    3,
+    3,
+    3,
+    3,
+    3,
+    3,
+    3,
+    3,
+    3,
+    3,
+    3,
+    3,
+    3,
+    3,
+    3,
+    3,
+    3,
+    3,
+    3,
+    3,
+    3,
+    3,
+    3,
+    3,
+    3,
+    3,
+    3,
+    3,
+    3,
+    3,
+    3,
+    3,
+    3,
+    3,
+    3,
+    3,
+    3,
+    3,
+    3,
+    3,
+    3,
+    3,
+    3,
+    3,
+    3,
+    3,
+    3,
+    3,
+    3,
+    3,
+    3,
+    3,
+    3,
+    3,
+    3,
+    3,
+    3,
+    3,
+    3,
+    3,
+    3,
+    3,
+    3,
+    3,
+    3,
+    3,
+    3,
+    3,
+    3,
+    3,
+    3,
+    3,
+    3,
+    3,
+    3,
+    3,
+    3,
+    3,
+    3,
+    3,
+    3,
+    3,
+    3,
+    3,
+    3,
+    3,
+    3,
+    3,
+    3,
+    3,
+    3,
+    3,
+    3,
+    3,
+    3,
+    3,
+    3,
+];
+
+// The class of a byte.
+pub fn class(b: u8) -> u8
+    ensures { λ r. ⌜ r ≡ classOf b ⌝ }
+{
+    CLASSES[b as usize]
+}
+
+// The place of the first fault of a label, or nothing where it is well formed: 0 for an empty label and for a leading dash, 255 for one
+// that is too long and has no earlier fault.
+pub fn label_fault(label: &[u8]) -> Found
+    ensures { λ r. ⌜ r ≡ faultOf (now (label .entry)) ⌝ }
+{
+    if label.len() == 0 {
+        return Found::At(0);
+    }
+    if label[0] == 45 {
+        return Found::At(0);
+    }
+    let mut i = 0;
+    while i < label.len() {
+        if i == 255 {
+            return Found::At(255);
+        }
+        if class(label[i]) != LABEL {
+            return Found::At(i);
+        }
+        i += 1;
+    }
+    Found::Nothing
+}
+
+// What a field reader answers: where the next field starts and where it ends, which is where the reader goes on; or that none is left.
+pub enum Field {
+    Part { start: usize, end: usize },
+    End,
+}
+
+// The first index from `from` on whose byte is no blank (or, with `blanks` false, is one), or the end of the line.
+fn skip(line: &[u8], from: usize, blanks: bool) -> usize {
+    let mut i = from;
+    while i < line.len() {
+        if (class(line[i]) == BLANK) != blanks {
+            return i;
+        }
+        i += 1;
+    }
+    i
+}
+
+// The next field of a line from an index on: a longest run of bytes that are no blanks.
+pub fn next_field(line: &[u8], from: usize) -> Field
+    ensures { λ r. ⌜ r ≡ fieldAt (now (line .entry)) from ⌝ }
+{
+    let start = skip(line, from, true);
+    if line.len() <= start {
+        return Field::End;
+    }
+    let end = skip(line, start, false);
+    Field::Part { start, end }
+}

@@ -1,0 +1,123 @@
+// Rule lines and change-rule writes, judged by their bytes alone: refusals 1 to 5, before any table is looked at (01, Rule text and Single
+// writes). Each field is judged where it stands in the line.
+use alphabet::Field;
+use modes::Access;
+use search::Found;
+ghost use mathlib.Core.Path.{_≡_};
+ghost use Rattle.lines.specs.Lines.{ruleLineAt, ruleSaid, ruleOf, RuleInside, changeLineAt, changeSaid, changeOf, ChangeInside};
+
+// Where a field stands: line[start..end].
+pub struct Span {
+    pub start: usize,
+    pub end: usize,
+}
+
+// Where a line's two labels stand.
+pub struct Pair {
+    pub subject: Span,
+    pub object: Span,
+}
+
+// What a line of rule text says: nothing, a refusal's number, or a rule with its modes.
+pub enum RuleLine {
+    Skipped,
+    Refused(u8),
+    Rule(Pair, u8),
+}
+
+// What a change-rule write says: a refusal's number, or a change with the modes that it allows and those that it denies.
+pub enum ChangeLine {
+    Refused(u8),
+    Change(Pair, u8, u8),
+}
+
+// What a line of rule text says, whatever the table.
+pub fn rule_line(line: &[u8]) -> RuleLine
+    ensures { λ r. ⌜ r ≡ ruleLineAt (now (line .entry)) ⌝ }
+    ensures { λ r. ⌜ ruleSaid (now (line .entry)) r ≡ ruleOf (now (line .entry)) ⌝ }
+    ensures { λ r. ⌜ RuleInside (now (line .entry)) r ⌝ }
+{
+    if 600 < line.len() {
+        return RuleLine::Refused(1);
+    }
+    let Field::Part { start: a, end: b } = alphabet::next_field(line, 0) else {
+        return RuleLine::Skipped;
+    };
+    let Field::Part { start: c, end: d } = alphabet::next_field(line, b) else {
+        return RuleLine::Refused(2);
+    };
+    let Field::Part { start: e, end: f } = alphabet::next_field(line, d) else {
+        return RuleLine::Refused(2);
+    };
+    let Field::End = alphabet::next_field(line, f) else {
+        return RuleLine::Refused(2);
+    };
+    let Found::Nothing = alphabet::label_fault(&line[a..b]) else {
+        return RuleLine::Refused(3);
+    };
+    let Found::Nothing = alphabet::label_fault(&line[c..d]) else {
+        return RuleLine::Refused(3);
+    };
+    let Access::Modes(m) = modes::read_modes(&line[e..f], 63, true) else {
+        return RuleLine::Refused(4);
+    };
+    if search::same_bytes(&line[a..b], &line[c..d]) {
+        return RuleLine::Refused(5);
+    }
+    RuleLine::Rule(
+        Pair {
+            subject: Span { start: a, end: b },
+            object: Span { start: c, end: d },
+        },
+        m,
+    )
+}
+
+// What a change-rule write says, whatever the table.
+pub fn change_line(line: &[u8]) -> ChangeLine
+    ensures { λ r. ⌜ r ≡ changeLineAt (now (line .entry)) ⌝ }
+    ensures { λ r. ⌜ changeSaid (now (line .entry)) r ≡ changeOf (now (line .entry)) ⌝ }
+    ensures { λ r. ⌜ ChangeInside (now (line .entry)) r ⌝ }
+{
+    if 600 < line.len() {
+        return ChangeLine::Refused(1);
+    }
+    let Field::Part { start: a, end: b } = alphabet::next_field(line, 0) else {
+        return ChangeLine::Refused(2);
+    };
+    let Field::Part { start: c, end: d } = alphabet::next_field(line, b) else {
+        return ChangeLine::Refused(2);
+    };
+    let Field::Part { start: e, end: f } = alphabet::next_field(line, d) else {
+        return ChangeLine::Refused(2);
+    };
+    let Field::Part { start: g, end: h } = alphabet::next_field(line, f) else {
+        return ChangeLine::Refused(2);
+    };
+    let Field::End = alphabet::next_field(line, h) else {
+        return ChangeLine::Refused(2);
+    };
+    let Found::Nothing = alphabet::label_fault(&line[a..b]) else {
+        return ChangeLine::Refused(3);
+    };
+    let Found::Nothing = alphabet::label_fault(&line[c..d]) else {
+        return ChangeLine::Refused(3);
+    };
+    let Access::Modes(allow) = modes::read_modes(&line[e..f], 62, true) else {
+        return ChangeLine::Refused(4);
+    };
+    let Access::Modes(deny) = modes::read_modes(&line[g..h], 62, true) else {
+        return ChangeLine::Refused(4);
+    };
+    if search::same_bytes(&line[a..b], &line[c..d]) {
+        return ChangeLine::Refused(5);
+    }
+    ChangeLine::Change(
+        Pair {
+            subject: Span { start: a, end: b },
+            object: Span { start: c, end: d },
+        },
+        allow,
+        deny,
+    )
+}

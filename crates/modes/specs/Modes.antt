@@ -1,0 +1,67 @@
+-- 01, Modes: a set of the letters r w x a t b, its bits, and how it is read and written. One table of letters and bits serves both. The
+-- letters are those of the kernel's Smack text; the four of the first version (source document 003) are overruled. Assumes nothing.
+use Prim.Native.Nat.{ℕ, _-_}
+use mathlib.Core.Bool.{Bool, true, false, cond, not, _&&_, _||_}
+use mathlib.Core.List.{List, [], _∷_, foldl}
+use lib.ListN.{length}
+use lib.Dec.{eqb}
+use lib.Bits.{bitAnd, bitOr}
+use Rattle.search.specs.Search.{all}
+use Rattle.modes.specs.declared.Letter.{Letter}
+use Rattle.modes.specs.declared.Access.{Access}
+use Rattle.modes.specs.declared.Access.the-variants.{Modes, Bad}
+
+-- the letters and their bits, in the fixed order: read, write, execute, append, transmute, bring-up
+abbrev pub letters : List Letter
+letters =
+    record { letter = 114; bit = 32 }
+    ∷ record { letter = 119; bit = 16 }
+    ∷ record { letter = 120; bit = 8 }
+    ∷ record { letter = 97; bit = 4 }
+    ∷ record { letter = 116; bit = 2 }
+    ∷ record { letter = 98; bit = 1 }
+    ∷ []
+
+-- the bit of a letter in either case (a capital letter is 32 below the small one), or 0 for any other byte
+abbrev pub bitAmong : List Letter → ℕ → ℕ
+bitAmong [] b = 0
+bitAmong (l ∷ ls) b = cond (eqb b (l .letter) || eqb b (l .letter - 32)) (l .bit) (bitAmong ls b)
+
+unfoldable pub bitOf : ℕ → ℕ
+bitOf b = bitAmong letters b
+
+-- whether a byte may stand in an access field: a letter of `allowed`, or a dash where `dash` says so
+unfoldable pub allowedByte : ℕ → Bool → ℕ → Bool
+unfolding bitOf
+allowedByte allowed dash b = not (eqb (bitAnd (bitOf b) allowed) 0) || (dash && eqb b 45)
+
+-- the letters of a field; a dash is a placeholder
+unfoldable pub modesOf : List ℕ → ℕ
+unfolding bitOf
+modesOf field = foldl (λ (m b : ℕ). bitOr m (bitOf b)) 0 field
+
+unfoldable pub readModes : ℕ → Bool → List ℕ → Access
+unfolding allowedByte modesOf
+readModes allowed dash field = cond (all (allowedByte allowed dash) field) (Modes (modesOf field)) Bad
+
+-- whether modes hold a bit
+abbrev pub has : ℕ → ℕ → Bool
+has m bit = not (eqb (bitAnd m bit) 0)
+
+-- modes as text: their letters in the fixed order, or a dash where there are none
+abbrev pub lettersIn : List Letter → ℕ → List ℕ
+lettersIn [] m = []
+lettersIn (l ∷ ls) m = cond (has m (l .bit)) (l .letter ∷ lettersIn ls m) (lettersIn ls m)
+
+unfoldable pub modesText : ℕ → List ℕ
+modesText m = cond (eqb m 0) (45 ∷ []) (lettersIn letters m)
+
+-- the letters that each place allows: a rule's all six, a change's all but b, a request's r w x a
+abbrev pub ruleLetters : ℕ
+ruleLetters = 63
+
+abbrev pub changeLetters : ℕ
+changeLetters = 62
+
+abbrev pub requestLetters : ℕ
+requestLetters = 60

@@ -1,0 +1,109 @@
+// Access modes: the letters r w x a t b and their bits, read from text and written to it (01, Modes).
+ghost use mathlib.Core.Path.{_≡_};
+ghost use mathlib.Core.List.{_++_};
+ghost use Prim.Native.Nat.{_+_, _<_, _≤_};
+ghost use lib.ListN.{length, take, drop};
+ghost use Rattle.search.specs.Bytes.{written};
+ghost use Rattle.modes.specs.Modes.{bitOf, readModes, modesText};
+
+// A letter and its bit.
+pub struct Letter {
+    pub letter: u8,
+    pub bit: u8,
+}
+
+// How many letters there are.
+const COUNT: usize = 6;
+
+// The letters in the order in which they are written out: r, w, x, a, t, b. Reading searches it, listing walks it.
+const LETTERS: [Letter; 6] = [
+    Letter {
+        letter: 114,
+        bit: 32,
+    },
+    Letter {
+        letter: 119,
+        bit: 16,
+    },
+    Letter {
+        letter: 120,
+        bit: 8,
+    },
+    Letter { letter: 97, bit: 4 },
+    Letter {
+        letter: 116,
+        bit: 2,
+    },
+    Letter { letter: 98, bit: 1 },
+];
+
+// What reading an access field answers: its modes, or that it has a byte not allowed there.
+pub enum Access {
+    Modes(u8),
+    Bad,
+}
+
+// The bit of a letter in either case, or 0 for any other byte.
+fn bit_of(b: u8) -> u8
+    ensures { λ r. ⌜ r ≡ bitOf b ⌝ }
+{
+    let mut i = 0;
+    while i < COUNT {
+        let entry = LETTERS[i];
+        if b == entry.letter {
+            return entry.bit;
+        }
+        if b == entry.letter - 32 {
+            return entry.bit;
+        }
+        i += 1;
+    }
+    0
+}
+
+// The modes of an access field, which may have the letters of `allowed` and, where `dash` says so, dashes.
+pub fn read_modes(field: &[u8], allowed: u8, dash: bool) -> Access
+    ensures { λ r. ⌜ r ≡ readModes allowed dash (now (field .entry)) ⌝ }
+{
+    let mut modes = 0;
+    let mut i = 0;
+    while i < field.len() {
+        let b = field[i];
+        let bit = bit_of(b);
+        if bit & allowed == 0 {
+            if !dash {
+                return Access::Bad;
+            }
+            if b != 45 {
+                return Access::Bad;
+            }
+        }
+        modes = modes | bit;
+        i += 1;
+    }
+    Access::Modes(modes)
+}
+
+// Writes modes as text from index `at`, the letters in their order or a dash, and answers how many bytes that took. Who calls it has made
+// sure that there is room for six.
+pub fn write_modes(out: &mut [u8], at: usize, modes: u8) -> usize
+    requires { ⌜ (at + 6 ≤ length (now out)) × (modes < 64) ⌝ }
+    ensures { λ r. ⌜ r ≡ length (modesText modes) ⌝ }
+    ensures { λ _. ⌜ now (out .exit) ≡ written (now (out .entry)) at (modesText modes) ⌝ }
+{
+    if modes == 0 {
+        out[at] = 45;
+        return 1;
+    }
+    let mut n = 0;
+    let mut i = 0;
+    while i < COUNT {
+        let entry = LETTERS[i];
+        if modes & entry.bit != 0 {
+            out[at + n] = entry.letter;
+            n += 1;
+        }
+        i += 1;
+    }
+    n
+}

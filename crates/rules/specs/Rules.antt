@@ -1,0 +1,100 @@
+-- 01, Rule text: where the rule of a pair of labels stands or goes, refusals 6 and 7, and the tables once it is set. Assumes nothing.
+use Prim.Native.Nat.{ℕ, _+_, _<_, _≤_}
+use mathlib.Core.Bool.{Bool, true, false, cond, _&&_}
+use mathlib.Core.Path.{_≡_}
+use mathlib.Core.List.{List, [], _∷_, _++_}
+use lib.ListN.{length, getD, set}
+use lib.Dec.{ltb, leb}
+use Rattle.search.specs.Search.{put, placeOf, countOf}
+use Rattle.search.specs.declared.Found.{Found}
+use Rattle.search.specs.declared.Found.the-variants.{At, Nothing}
+use Rattle.store.specs.declared.Rule.{Rule}
+use Rattle.store.specs.Table.{Table, labelIn, pairIn, labelLimit, ruleLimit}
+use Rattle.store.specs.Layout.{Store, tableOf, withLabel, withRule, Sizes, Counts}
+use Rattle.rules.specs.declared.Spot.{Spot}
+use Rattle.rules.specs.declared.Place.{Place}
+use Rattle.rules.specs.declared.Place.the-variants as p
+
+-- the numbers that two labels have, or get when they enter, subject first, and how many labels there then are
+abbrev pub subjectNumber : Table → Found → ℕ
+subjectNumber t s = placeOf s (length (t .labels))
+
+abbrev pub objectNumber : Table → Found → Found → ℕ
+objectNumber t s o = placeOf o (countOf s (length (t .labels)))
+
+abbrev pub labelsAfter : Table → Found → Found → ℕ
+labelsAfter t s o = countOf o (countOf s (length (t .labels)))
+
+-- the pair's rule, by these numbers
+abbrev pub ruleOf : Table → Found → Found → Found
+ruleOf t s o = pairIn t (subjectNumber t s) (objectNumber t s o)
+
+-- whether a new entry has no place in a table of n entries
+abbrev pub noPlace : Found → ℕ → ℕ → Bool
+noPlace (At i) n limit = false
+noPlace Nothing n limit = leb limit n
+
+-- 6 more new labels than free label places, 7 the pair has no rule and 256 are stored
+abbrev pub placeFor : Table → Found → Found → Place
+placeFor t s o =
+    cond (ltb labelLimit (labelsAfter t s o))
+    (p.Refused 6)
+    (cond (noPlace (ruleOf t s o) (length (t .rules)) ruleLimit)
+    (p.Refused 7)
+    (p.At (record { subject = s; object = o; rule = ruleOf t s o })))
+
+unfoldable pub placing : Table → List ℕ → List ℕ → Place
+placing t s o = placeFor t (labelIn t s) (labelIn t o)
+
+-- the modes of the pair's rule; a pair with no rule has none
+abbrev pub modesOfRule : Found → List Rule → ℕ
+modesOfRule (At i) rules = getD rules i (record { subject = 0; object = 0; modes = 0 }) .modes
+modesOfRule Nothing rules = 0
+
+-- the labels once one of them has entered: last, where it is not there
+abbrev pub grown : Found → List (List ℕ) → List ℕ → List (List ℕ)
+grown (At i) ls l = ls
+grown Nothing ls l = ls ++ (l ∷ [])
+
+-- an accepted rule: new labels enter, subject first, and the pair's modes are set wholly, in its place or last
+abbrev pub ruleFor : Table → Spot → ℕ → Rule
+ruleFor t spot m = record { subject = subjectNumber t (spot .subject); object = objectNumber t (spot .subject) (spot .object); modes = m }
+
+unfoldable pub withPair : Table → List ℕ → List ℕ → Spot → ℕ → Table
+withPair t s o spot m =
+    record {
+      labels = grown (spot .object) (grown (spot .subject) (t .labels) s) o;
+      rules = put (spot .rule) (t .rules) (ruleFor t spot m);
+      mappings = t .mappings;
+      onlycap = t .onlycap;
+    }
+
+-- ---- the same in the lent slices: the new label's place, the rule's three numbers and the two counts change, and nothing else
+
+abbrev pub entered : Found → List ℕ → ℕ → List ℕ → List ℕ
+entered (At i) labels n l = labels
+entered Nothing labels n l = withLabel labels n l
+
+abbrev pub ruleAtSpot : ℕ → Spot → ℕ → Rule
+ruleAtSpot n spot m = record { subject = placeOf (spot .subject) n; object = placeOf (spot .object) (countOf (spot .subject) n); modes = m }
+
+-- the modes of the rule at a place
+abbrev pub modesAtPlace : List ℕ → Found → ℕ
+modesAtPlace e (At i) = getD e (512 + i) 0
+modesAtPlace e Nothing = 0
+
+unfoldable pub ruleSet : Store → List ℕ → List ℕ → Spot → ℕ → Store
+ruleSet st s o spot m =
+    record {
+      labels = entered (spot .object) (entered (spot .subject) (st .labels) (getD (st .words) 0 0) s) (countOf (spot .subject) (getD (st .words) 0 0)) o;
+      entries = withRule (st .entries) (placeOf (spot .rule) (getD (st .words) 1 0)) (ruleAtSpot (getD (st .words) 0 0) spot m);
+      words = set (set (st .words) 0 (countOf (spot .object) (countOf (spot .subject) (getD (st .words) 0 0)))) 1 (countOf (spot .rule) (getD (st .words) 1 0));
+    }
+
+-- what is known of a pair that has a place in a tested store
+pub record Placed (st : Store) (s o : List ℕ) (spot : Spot) : Type 0 where
+  pub sizes : Sizes (st .labels) (st .entries) (st .words)
+  pub counts : Counts (st .words)
+  pub at : placing (tableOf st) s o ≡ p.At spot
+  pub subject : length s ≤ 255
+  pub object : length o ≤ 255

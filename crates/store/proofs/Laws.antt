@@ -1,0 +1,177 @@
+-- Laws of the layout. Assumes nothing.
+use mathlib.Core.Path.{_≡_, refl, sym, ap, _∙_, subst}
+use mathlib.Core.Bool.{Bool, true, false, cond, _&&_}
+use mathlib.Core.List.{List, [], _∷_, _++_, append-assoc}
+use Prim.Native.Nat.{ℕ, zero, suc, _+_, _*_, _-_, _%_, _<_, _≤_}
+use native.Mathlib.Numerals.{add-one}
+use native.Mathlib.Omega.{arith}
+use lib.Dec.{eqb, ltb, leb}
+use borrow.Author.Tests.{eqb-true, leb-true, eq-eqb, le-leb, ltb-true, lt-ltb}
+use lib.ListN.{length, take, drop, getD, set, length-append, length-take, length-drop, length-set, take-append-drop}
+use lib.Seq.{take-suc, take-append-le, take-append-seam, drop-append-le, take-take, drop-at, getD-take, getD-drop, length-take-le, take-suc-set, drop-set-lt, drop-cons, getD-set-same, getD-set-other}
+use Rattle.search.specs.Search.{first, all, entries, placeOf, countOf}
+use Rattle.search.specs.Bytes.{written}
+use Rattle.search.proofs.Laws.{and-both, and-assoc, all-snoc, all-weaker, entries-same}
+use Rattle.store.specs.declared.Rule.{Rule}
+use Rattle.store.specs.declared.Mapping.{Mapping}
+use Rattle.store.specs.Table.{Table, soundRule, soundMapping, soundTable}
+use Rattle.store.specs.Layout.{Store, store, labelAt, ruleAt, mappingAt, onlycapAt, tableOf, undamagedOf, withLabel, withRule, held, Sizes, Counts}
+
+-- ---- a test over the entries of a table, by the runs of numbers that hold them
+
+-- two tests in one pass are the two passes
+pub all-and : {A : Type 0} (p q : A → Bool) (l : List A) → all (λ (x : A). p x && q x) l ≡ (all p l && all q l)
+unfolding all
+all-and p q [] = refl
+all-and p q (x ∷ xs) = rw (all-and p q xs) (swap (p x) (q x) (all p xs) (all q xs))
+  where
+    swap : (a b c d : Bool) → ((a && b) && (c && d)) ≡ ((a && c) && (b && d))
+    swap true true c d = refl
+    swap true false true d = refl
+    swap true false false d = refl
+    swap false b c d = refl
+
+-- a test of a table's entries that reads one number of each is a test of the run of these numbers
+pub all-run :
+    {A : Type 0} (p : A → Bool) (q : ℕ → Bool) (f : ℕ → A) (l : List ℕ) (n : ℕ) →
+    n ≤ length l →
+    ((k : ℕ) → k < n → p (f k) ≡ q (getD l k 0)) →
+    all p (entries f n) ≡ all q (take n l)
+unfolding entries all
+all-run p q f l zero h e = refl
+all-run p q f l (suc n) h e =
+    let hn : n < length l = omega arith in
+    let ih = all-run p q f l n (omega arith) (λ k kh. e k (omega arith)) in
+    all-snoc p (entries f n) (f n)
+        ∙ rw (ih, e n (omega arith), take-suc l n 0 hn) (sym (all-snoc q (take n l) (getD l n 0)))
+
+-- a number of a part of a run
+pub part-at : (l : List ℕ) (a n k : ℕ) → k < n → getD (take n (drop a l)) k 0 ≡ getD l (a + k) 0
+part-at l a n k h = rw (getD-take n (drop a l) k 0 h, getD-drop a l k 0)
+
+pub part-length : (l : List ℕ) (a n : ℕ) → a + n ≤ length l → length (take n (drop a l)) ≡ n
+part-length l a n h = simp (length-take, length-drop) (omega arith)
+
+-- the test of the damage check: five runs of numbers and one of sets
+pub sound-runs :
+    (n : ℕ) (e w : List ℕ) →
+    length e ≡ 840 →
+    length w ≡ 36 →
+    Counts w →
+    soundTable n (tableOf (store [] e w))
+    ≡ ((((all (λ (x : ℕ). ltb x n) (take (getD w 1 0) (take 256 (drop 0 e))) && all (λ (x : ℕ). ltb x n) (take (getD w 1 0) (take 256 (drop 256 e))))
+    && all (λ (x : ℕ). ltb x 64) (take (getD w 1 0) (take 256 (drop 512 e))))
+    && (all (λ (x : ℕ). ltb x n) (take (getD w 2 0) (take 32 (drop 768 e))) && all (λ (x : ℕ). eqb (x % 2) 0) (take (getD w 2 0) (take 32 (drop 4 w)))))
+    && all (λ (x : ℕ). ltb x n) (take (getD w 3 0) (take 8 (drop 832 e))))
+unfolding soundTable soundRule soundMapping ruleAt mappingAt onlycapAt
+sound-runs n e w he hw c =
+    rw (
+      all-and (λ (r : Rule). ltb (r .subject) n && ltb (r .object) n) (λ (r : Rule). ltb (r .modes) 64) (entries (ruleAt e) (getD w 1 0)),
+      all-and (λ (r : Rule). ltb (r .subject) n) (λ (r : Rule). ltb (r .object) n) (entries (ruleAt e) (getD w 1 0)),
+      all-and (λ (m : Mapping). ltb (m .label) n) (λ (m : Mapping). eqb (m .set % 2) 0) (entries (mappingAt e w) (getD w 2 0)),
+      all-run (λ (r : Rule). ltb (r .subject) n) (λ (x : ℕ). ltb x n) (ruleAt e) (take 256 (drop 0 e)) (getD w 1 0) (rw (part-length e 0 256 (omega arith)) (c .rules)) (λ k h. ap (λ (x : ℕ). ltb x n) (sym (getD-take 256 e k 0 (omega (arith, c .rules))))),
+      all-run (λ (r : Rule). ltb (r .object) n) (λ (x : ℕ). ltb x n) (ruleAt e) (take 256 (drop 256 e)) (getD w 1 0) (rw (part-length e 256 256 (omega arith)) (c .rules)) (λ k h. ap (λ (x : ℕ). ltb x n) (sym (part-at e 256 256 k (omega (arith, c .rules))))),
+      all-run (λ (r : Rule). ltb (r .modes) 64) (λ (x : ℕ). ltb x 64) (ruleAt e) (take 256 (drop 512 e)) (getD w 1 0) (rw (part-length e 512 256 (omega arith)) (c .rules)) (λ k h. ap (λ (x : ℕ). ltb x 64) (sym (part-at e 512 256 k (omega (arith, c .rules))))),
+      all-run (λ (m : Mapping). ltb (m .label) n) (λ (x : ℕ). ltb x n) (mappingAt e w) (take 32 (drop 768 e)) (getD w 2 0) (rw (part-length e 768 32 (omega arith)) (c .mappings)) (λ k h. ap (λ (x : ℕ). ltb x n) (sym (part-at e 768 32 k (omega (arith, c .mappings))))),
+      all-run (λ (m : Mapping). eqb (m .set % 2) 0) (λ (x : ℕ). eqb (x % 2) 0) (mappingAt e w) (take 32 (drop 4 w)) (getD w 2 0) (rw (part-length w 4 32 (omega arith)) (c .mappings)) (λ k h. ap (λ (x : ℕ). eqb (x % 2) 0) (sym (part-at w 4 32 k (omega (arith, c .mappings))))),
+      all-run (λ (k : ℕ). ltb k n) (λ (x : ℕ). ltb x n) (onlycapAt e) (take 8 (drop 832 e)) (getD w 3 0) (rw (part-length e 832 8 (omega arith)) (c .onlycap)) (λ k h. ap (λ (x : ℕ). ltb x n) (sym (part-at e 832 8 k (omega (arith, c .onlycap)))))
+    )
+
+-- ---- the label store
+
+-- what stands behind a place does not change its label
+pub label-front : (p q : List ℕ) (k : ℕ) → k * 256 + 256 ≤ length p → labelAt (p ++ q) k ≡ labelAt p k
+unfolding labelAt
+label-front p q k h =
+    let h₁ : k * 256 ≤ length p = omega arith in
+    let h₂ : 256 ≤ length (drop (k * 256) p) = simp length-drop (omega arith) in
+    rw (drop-append-le (k * 256) p q h₁, take-append-le 256 (drop (k * 256) p) q h₂)
+
+-- the label that was written is the one in its place
+pub label-written : (t : List ℕ) (k : ℕ) (l : List ℕ) → k * 256 ≤ length t → length l ≤ 255 → labelAt (withLabel t k l) k ≡ l
+unfolding labelAt withLabel written
+label-written t k l h small =
+    let e : length (take (k * 256) t) ≡ k * 256 = length-take-le (k * 256) t h in
+    let rest : List ℕ = drop (k * 256 + suc (length l)) t in
+    rw (drop-at (take (k * 256) t) (length l ∷ l ++ rest) (k * 256) e) (take-take (length l) 255 (l ++ rest) small ∙ take-append-seam l rest)
+
+-- the labels before it are as they were
+pub label-before : (t : List ℕ) (k j : ℕ) (l : List ℕ) → k * 256 ≤ length t → j < k → labelAt (withLabel t k l) j ≡ labelAt t j
+unfolding withLabel written
+label-before t k j l h hj =
+    let e : j * 256 + 256 ≤ length (take (k * 256) t) = rw (length-take-le (k * 256) t h) (omega arith) in
+    label-front (take (k * 256) t) (length l ∷ l ++ drop (k * 256 + suc (length l)) t) j e
+    ∙ sym (label-front (take (k * 256) t) (drop (k * 256) t) j e)
+    ∙ rw (take-append-drop (k * 256) t)
+
+-- the length byte, and then the label behind it, are one write
+pub written-cons : (t : List ℕ) (at x : ℕ) (l : List ℕ) → at < length t → written (set t at x) (at + 1) l ≡ written t at (x ∷ l)
+unfolding written
+written-cons t at x l h =
+    let e : at + 1 + length l ≡ at + suc (length l) = omega arith in
+    let h₁ : at < at + suc (length l) = omega arith in
+    rw (e, drop-set-lt (at + suc (length l)) t at x h₁, add-one, take-suc-set t at x h) (append-assoc (take at t) (x ∷ []) (l ++ drop (at + suc (length l)) t))
+
+-- ---- what an undamaged store has
+
+pub record Undamaged (s : Store) : Type 0 where
+  pub sizes : Sizes (s .labels) (s .entries) (s .words)
+  pub counts : Counts (s .words)
+  pub sound : soundTable (getD (s .words) 0 0) (tableOf s) ≡ true
+
+pub undamaged-is : (s : Store) → undamagedOf s ≡ true → Undamaged s
+unfolding undamagedOf
+undamaged-is s e =
+    let a = and-both _ _ e in
+    let b = and-both _ _ (a .1) in
+    let c = and-both _ _ (b .1) in
+    let d = and-both _ _ (c .1) in
+    let f = and-both _ _ (d .1) in
+    let g = and-both _ _ (f .1) in
+    let h = and-both _ _ (g .1) in
+    record {
+      sizes = record { labels = eqb-true _ _ (a .0); entries = eqb-true _ _ (b .0); words = eqb-true _ _ (c .0) };
+      counts = record { labels = leb-true _ _ (d .0); rules = leb-true _ _ (f .0); mappings = leb-true _ _ (g .0); onlycap = leb-true _ _ (h .0) };
+      sound = h .1;
+    }
+
+pub is-undamaged : (s : Store) → Undamaged s → undamagedOf s ≡ true
+unfolding undamagedOf
+is-undamaged s u =
+    rw (
+      eq-eqb _ _ (u .sizes .labels),
+      eq-eqb _ _ (u .sizes .entries),
+      eq-eqb _ _ (u .sizes .words),
+      le-leb _ _ (u .counts .labels),
+      le-leb _ _ (u .counts .rules),
+      le-leb _ _ (u .counts .mappings),
+      le-leb _ _ (u .counts .onlycap),
+      u .sound
+    )
+
+-- what is sound among n labels is sound among more
+module _ (n m : ℕ) (h : n ≤ m) where
+  below-more : (k : ℕ) → ltb k n ≡ true → ltb k m ≡ true
+  below-more k q = lt-ltb k m (omega (arith, ltb-true k n q))
+
+  rule-more : (r : Rule) → soundRule n r ≡ true → soundRule m r ≡ true
+  unfolding soundRule
+  rule-more r q =
+      let c = and-both _ _ q in
+      let d = and-both _ _ (c .0) in
+      rw (below-more (r .subject) (d .0), below-more (r .object) (d .1), c .1)
+
+  mapping-more : (g : Mapping) → soundMapping n g ≡ true → soundMapping m g ≡ true
+  unfolding soundMapping
+  mapping-more g q = let c = and-both _ _ q in rw (below-more (g .label) (c .0), c .1)
+
+  pub sound-more : (t : Table) → soundTable n t ≡ true → soundTable m t ≡ true
+  unfolding soundTable
+  sound-more t e =
+      let a = and-both _ _ e in
+      let b = and-both _ _ (a .0) in
+      rw (
+        all-weaker (soundRule n) (soundRule m) rule-more (t .rules) (b .0),
+        all-weaker (soundMapping n) (soundMapping m) mapping-more (t .mappings) (b .1),
+        all-weaker (λ (k : ℕ). ltb k n) (λ (k : ℕ). ltb k m) below-more (t .onlycap) (a .1)
+      )

@@ -1,0 +1,86 @@
+-- How the tables lie in the three lent slices, and when a lent state is damaged (01, refusal 0). Assumes nothing.
+--   labels   64 places of 256 bytes: a label's length, its bytes, and bytes that mean nothing
+--   entries  the rules' subjects from 0, their objects from 256, their modes from 512; the mappings' labels from 768, their levels from 800;
+--            the onlycap list from 832 to 840
+--   words    the counts of labels, rules, mappings and onlycap labels; from 4 to 36 the mappings' category sets
+-- What stands at or past a count means nothing, and is never looked at.
+use Prim.Native.Nat.{ℕ, _+_, _*_, _≤_}
+use mathlib.Core.Bool.{Bool, true, false, cond, _&&_}
+use mathlib.Core.Path.{_≡_}
+use mathlib.Core.List.{List, [], _∷_, _++_}
+use lib.ListN.{length, take, drop, getD, set}
+use lib.Dec.{eqb, ltb, leb}
+use Rattle.search.specs.Search.{entries}
+use Rattle.search.specs.Bytes.{written}
+use Rattle.store.specs.declared.Rule.{Rule}
+use Rattle.store.specs.declared.Mapping.{Mapping}
+use Rattle.store.specs.Table.{Table, soundTable, labelLimit, ruleLimit, mappingLimit, onlycapLimit}
+
+-- the three lent slices
+pub record Store : Type 0 where
+  pub labels : List ℕ
+  pub entries : List ℕ
+  pub words : List ℕ
+
+abbrev pub store : List ℕ → List ℕ → List ℕ → Store
+store l e w = record { labels = l; entries = e; words = w }
+
+-- the label that a place holds: its length, and then its bytes
+abbrev pub held : List ℕ → List ℕ
+held [] = []
+held (n ∷ bytes) = take n bytes
+
+unfoldable pub labelAt : List ℕ → ℕ → List ℕ
+labelAt labels k = held (take 256 (drop (k * 256) labels))
+
+unfoldable pub ruleAt : List ℕ → ℕ → Rule
+ruleAt e k = record { subject = getD e k 0; object = getD e (256 + k) 0; modes = getD e (512 + k) 0 }
+
+unfoldable pub mappingAt : List ℕ → List ℕ → ℕ → Mapping
+mappingAt e w k = record { label = getD e (768 + k) 0; level = getD e (800 + k) 0; set = getD w (4 + k) 0 }
+
+unfoldable pub onlycapAt : List ℕ → ℕ → ℕ
+onlycapAt e k = getD e (832 + k) 0
+
+-- the tables that a store holds
+abbrev pub tableOf : Store → Table
+tableOf s =
+    record {
+      labels = entries (labelAt (s .labels)) (getD (s .words) 0 0);
+      rules = entries (ruleAt (s .entries)) (getD (s .words) 1 0);
+      mappings = entries (mappingAt (s .entries) (s .words)) (getD (s .words) 2 0);
+      onlycap = entries (onlycapAt (s .entries)) (getD (s .words) 3 0);
+    }
+
+-- refusal 0 is given exactly when this is false: each part has its full size, no count is over its limit, and what is stored is sound. (A
+-- label's length is a byte, so none is over 255.)
+unfoldable pub undamagedOf : Store → Bool
+undamagedOf s =
+    eqb (length (s .labels)) 16384
+    && (eqb (length (s .entries)) 840
+    && (eqb (length (s .words)) 36
+    && (leb (getD (s .words) 0 0) labelLimit
+    && (leb (getD (s .words) 1 0) ruleLimit
+    && (leb (getD (s .words) 2 0) mappingLimit
+    && (leb (getD (s .words) 3 0) onlycapLimit
+    && soundTable (getD (s .words) 0 0) (tableOf s)))))))
+
+-- a label written into place k, and a rule: nothing else changes
+unfoldable pub withLabel : List ℕ → ℕ → List ℕ → List ℕ
+withLabel labels k l = written labels (k * 256) (length l ∷ l)
+
+unfoldable pub withRule : List ℕ → ℕ → Rule → List ℕ
+withRule e k r = set (set (set e k (r .subject)) (256 + k) (r .object)) (512 + k) (r .modes)
+
+-- ---- the same, as facts for the functions that work on a tested store
+
+pub record Sizes (l e w : List ℕ) : Type 0 where
+  pub labels : length l ≡ 16384
+  pub entries : length e ≡ 840
+  pub words : length w ≡ 36
+
+pub record Counts (w : List ℕ) : Type 0 where
+  pub labels : getD w 0 0 ≤ 64
+  pub rules : getD w 1 0 ≤ 256
+  pub mappings : getD w 2 0 ≤ 32
+  pub onlycap : getD w 3 0 ≤ 8

@@ -1,0 +1,77 @@
+-- 01: the tables as they are spoken of, with no word of how they lie in memory: labels, rules, mappings and the onlycap list (01: the
+-- override list), in order. Assumes nothing.
+use Prim.Native.Nat.{ℕ, _%_}
+use mathlib.Core.Bool.{Bool, true, false, cond, _&&_}
+use mathlib.Core.List.{List, [], _∷_, _++_}
+use lib.ListN.{length}
+use lib.Dec.{eqb, ltb, leb}
+use Rattle.search.specs.Search.{first, all, put, placeOf, countOf}
+use Rattle.search.specs.Bytes.{sameBytes}
+use Rattle.search.specs.declared.Found.{Found}
+use Rattle.search.specs.declared.Found.the-variants.{At, Nothing}
+use Rattle.store.specs.declared.Rule.{Rule}
+use Rattle.store.specs.declared.Mapping.{Mapping}
+
+-- labels by number; rules and mappings name labels by number; the onlycap list is of label numbers
+pub record Table : Type 0 where
+  pub labels : List (List ℕ)
+  pub rules : List Rule
+  pub mappings : List Mapping
+  pub onlycap : List ℕ
+
+-- numbers 0 to 4 are always _ ^ * ? @
+abbrev pub floor : List ℕ
+floor = 95 ∷ []
+
+abbrev pub hat : List ℕ
+hat = 94 ∷ []
+
+abbrev pub star : List ℕ
+star = 42 ∷ []
+
+-- a fresh table has the five labels alone
+abbrev pub fresh : Table
+fresh =
+    record {
+      labels = floor ∷ hat ∷ star ∷ (63 ∷ []) ∷ (64 ∷ []) ∷ [];
+      rules = [];
+      mappings = [];
+      onlycap = [];
+    }
+
+-- the limits: 64 labels, 256 rules, 32 mappings, 8 onlycap labels
+abbrev pub labelLimit : ℕ
+labelLimit = 64
+
+abbrev pub ruleLimit : ℕ
+ruleLimit = 256
+
+abbrev pub mappingLimit : ℕ
+mappingLimit = 32
+
+abbrev pub onlycapLimit : ℕ
+onlycapLimit = 8
+
+-- the number of a label: the first that has its bytes
+abbrev pub labelIn : Table → List ℕ → Found
+labelIn t l = first (sameBytes l) (t .labels)
+
+-- the rule of a pair of label numbers: the first that names both
+unfoldable pub isPair : ℕ → ℕ → Rule → Bool
+isPair s o r = eqb (r .subject) s && eqb (r .object) o
+
+abbrev pub pairIn : Table → ℕ → ℕ → Found
+pairIn t s o = first (isPair s o) (t .rules)
+
+-- ---- refusal 0, of what is stored: each number names a stored label (of which there are n), no unknown mode bit (64 and above), no
+-- unknown category bit (1: category k is the bit 2^(64-k))
+
+unfoldable pub soundRule : ℕ → Rule → Bool
+soundRule n r = (ltb (r .subject) n && ltb (r .object) n) && ltb (r .modes) 64
+
+unfoldable pub soundMapping : ℕ → Mapping → Bool
+soundMapping n m = ltb (m .label) n && eqb (m .set % 2) 0
+
+unfoldable pub soundTable : ℕ → Table → Bool
+unfolding soundRule soundMapping
+soundTable n t = (all (soundRule n) (t .rules) && all (soundMapping n) (t .mappings)) && all (λ (k : ℕ). ltb k n) (t .onlycap)
