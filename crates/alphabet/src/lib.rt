@@ -1,7 +1,9 @@
 // The bytes of labels and lines: the class of each byte, what a well-formed label is, and the fields of a line (01, Labels and Rule text).
 use search::Found;
 ghost use mathlib.Core.Path.{_≡_};
-ghost use Rattle.alphabet.specs.Alphabet.{classOf, faultOf, fieldAt};
+ghost use Prim.Native.Nat.{_+_};
+ghost use lib.ListN.{drop};
+ghost use Rattle.alphabet.specs.Alphabet.{classOf, faultOf, run, fieldAt};
 
 // The numbers of the four classes in the table below.
 pub const LABEL: u8 = 0;
@@ -11,6 +13,11 @@ pub const BLANK: u8 = 1;
 pub const NEWLINE: u8 = 2;
 
 pub const OTHER: u8 = 3;
+
+// The most bytes that a label has, and the dash, which it does not begin with.
+const LONGEST: usize = 255;
+
+const DASH: u8 = 45;
 
 // The class of each of the 256 byte values.
 const CLASSES: [u8; 256] = [
@@ -23,8 +30,8 @@ const CLASSES: [u8; 256] = [
     3,
     3,
     3,
-    1,
-    2,
+    1, // 9, tab
+    2, // 10, newline
     3,
     3,
     3,
@@ -46,22 +53,24 @@ const CLASSES: [u8; 256] = [
     3,
     3,
     3,
-    1,
+    1, // 32, space
+    0, // 33, !
+    3, // 34, "
     0,
-    3,
     0,
     0,
     0,
+    3, // 39, '
     0,
-    3,
     0,
     0,
     0,
     0,
+    0, // 45, -
     0,
+    3, // 47, /
     0,
     0,
-    3,
     0,
     0,
     0,
@@ -104,9 +113,9 @@ const CLASSES: [u8; 256] = [
     0,
     0,
     0,
+    3, // 92, \
     0,
     0,
-    3,
     0,
     0,
     0,
@@ -138,10 +147,8 @@ const CLASSES: [u8; 256] = [
     0,
     0,
     0,
-    0,
-    0,
-    0,
-    3,
+    0, // 126, ~
+    3, // 127, delete
     3,
     3,
     3,
@@ -287,13 +294,13 @@ pub fn label_fault(label: &[u8]) -> Found
     if label.len() == 0 {
         return Found::At(0);
     }
-    if label[0] == 45 {
+    if label[0] == DASH {
         return Found::At(0);
     }
     let mut i = 0;
     while i < label.len() {
-        if i == 255 {
-            return Found::At(255);
+        if i == LONGEST {
+            return Found::At(LONGEST);
         }
         if class(label[i]) != LABEL {
             return Found::At(i);
@@ -310,7 +317,9 @@ pub enum Field {
 }
 
 // The first index from `from` on whose byte is no blank (or, with `blanks` false, is one), or the end of the line.
-fn skip(line: &[u8], from: usize, blanks: bool) -> usize {
+fn skip(line: &[u8], from: usize, blanks: bool) -> usize
+    ensures { λ r. ⌜ r ≡ from + run blanks (drop from (now (line .entry))) ⌝ }
+{
     let mut i = from;
     while i < line.len() {
         if (class(line[i]) == BLANK) != blanks {

@@ -6,6 +6,14 @@ use search::Found;
 ghost use mathlib.Core.Path.{_≡_};
 ghost use Rattle.lines.specs.Lines.{ruleLineAt, ruleSaid, ruleOf, RuleInside, changeLineAt, changeSaid, changeOf, ChangeInside};
 
+// The most bytes of a line and of a single write.
+const LIMIT: usize = 600;
+
+// The letters that an access field may have: a rule's all six, a change's all but b.
+const RULE_LETTERS: u8 = 63;
+
+const CHANGE_LETTERS: u8 = 62;
+
 // Where a field stands: line[start..end].
 pub struct Span {
     pub start: usize,
@@ -37,7 +45,7 @@ pub fn rule_line(line: &[u8]) -> RuleLine
     ensures { λ r. ⌜ ruleSaid (now (line .entry)) r ≡ ruleOf (now (line .entry)) ⌝ }
     ensures { λ r. ⌜ RuleInside (now (line .entry)) r ⌝ }
 {
-    if 600 < line.len() {
+    if LIMIT < line.len() {
         return RuleLine::Refused(1);
     }
     let Field::Part { start: a, end: b } = alphabet::next_field(line, 0) else {
@@ -46,10 +54,10 @@ pub fn rule_line(line: &[u8]) -> RuleLine
     let Field::Part { start: c, end: d } = alphabet::next_field(line, b) else {
         return RuleLine::Refused(2);
     };
-    let Field::Part { start: e, end: f } = alphabet::next_field(line, d) else {
+    let Field::Part { start: x, end: y } = alphabet::next_field(line, d) else {
         return RuleLine::Refused(2);
     };
-    let Field::End = alphabet::next_field(line, f) else {
+    let Field::End = alphabet::next_field(line, y) else {
         return RuleLine::Refused(2);
     };
     let Found::Nothing = alphabet::label_fault(&line[a..b]) else {
@@ -58,7 +66,7 @@ pub fn rule_line(line: &[u8]) -> RuleLine
     let Found::Nothing = alphabet::label_fault(&line[c..d]) else {
         return RuleLine::Refused(3);
     };
-    let Access::Modes(m) = modes::read_modes(&line[e..f], 63, true) else {
+    let Access::Modes(m) = modes::read_modes(&line[x..y], RULE_LETTERS, true) else {
         return RuleLine::Refused(4);
     };
     if search::same_bytes(&line[a..b], &line[c..d]) {
@@ -79,7 +87,7 @@ pub fn change_line(line: &[u8]) -> ChangeLine
     ensures { λ r. ⌜ changeSaid (now (line .entry)) r ≡ changeOf (now (line .entry)) ⌝ }
     ensures { λ r. ⌜ ChangeInside (now (line .entry)) r ⌝ }
 {
-    if 600 < line.len() {
+    if LIMIT < line.len() {
         return ChangeLine::Refused(1);
     }
     let Field::Part { start: a, end: b } = alphabet::next_field(line, 0) else {
@@ -103,10 +111,10 @@ pub fn change_line(line: &[u8]) -> ChangeLine
     let Found::Nothing = alphabet::label_fault(&line[c..d]) else {
         return ChangeLine::Refused(3);
     };
-    let Access::Modes(allow) = modes::read_modes(&line[e..f], 62, true) else {
+    let Access::Modes(allow) = modes::read_modes(&line[e..f], CHANGE_LETTERS, true) else {
         return ChangeLine::Refused(4);
     };
-    let Access::Modes(deny) = modes::read_modes(&line[g..h], 62, true) else {
+    let Access::Modes(deny) = modes::read_modes(&line[g..h], CHANGE_LETTERS, true) else {
         return ChangeLine::Refused(4);
     };
     if search::same_bytes(&line[a..b], &line[c..d]) {

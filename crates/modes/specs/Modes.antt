@@ -1,26 +1,35 @@
 -- 01, Modes: a set of the letters r w x a t b, its bits, and how it is read and written. One table of letters and bits serves both. The
 -- letters are those of the kernel's Smack text; the four of the first version (source document 003) are overruled. Assumes nothing.
 use Prim.Native.Nat.{ℕ, _-_}
-use mathlib.Core.Bool.{Bool, true, false, cond, not, _&&_, _||_}
+use mathlib.Core.Bool.{Bool, true, cond, not, _&&_, _||_}
 use mathlib.Core.List.{List, [], _∷_, foldl}
-use lib.ListN.{length}
-use lib.Dec.{eqb}
+use lib.Dec.{eqb, leb, ltb}
 use lib.Bits.{bitAnd, bitOr}
 use Rattle.search.specs.Search.{all}
 use Rattle.modes.specs.declared.Letter.{Letter}
 use Rattle.modes.specs.declared.Access.{Access}
 use Rattle.modes.specs.declared.Access.the-variants.{Modes, Bad}
 
+abbrev entry : ℕ → ℕ → Letter
+entry l b = record { letter = l; bit = b }
+
 -- the letters and their bits, in the fixed order: read, write, execute, append, transmute, bring-up
 abbrev pub letters : List Letter
-letters =
-    record { letter = 114; bit = 32 }
-    ∷ record { letter = 119; bit = 16 }
-    ∷ record { letter = 120; bit = 8 }
-    ∷ record { letter = 97; bit = 4 }
-    ∷ record { letter = 116; bit = 2 }
-    ∷ record { letter = 98; bit = 1 }
-    ∷ []
+letters = entry 114 32 ∷ entry 119 16 ∷ entry 120 8 ∷ entry 97 4 ∷ entry 116 2 ∷ entry 98 1 ∷ []
+
+-- the rule of the table: each letter is a small one, each bit a power of two below 64, and no letter and no bit stands twice
+abbrev pub soundLetter : Letter → Bool
+soundLetter l = leb 97 (l .letter) && leb (l .letter) 122 && ltb 0 (l .bit) && ltb (l .bit) 64 && eqb (bitAnd (l .bit) (l .bit - 1)) 0
+
+abbrev pub apart : Letter → Letter → Bool
+apart l k = not (eqb (l .letter) (k .letter)) && not (eqb (l .bit) (k .bit))
+
+abbrev pub allApart : List Letter → Bool
+allApart [] = true
+allApart (l ∷ ls) = all (apart l) ls && allApart ls
+
+unfoldable pub soundLetters : List Letter → Bool
+soundLetters ls = all soundLetter ls && allApart ls
 
 -- the bit of a letter in either case (a capital letter is 32 below the small one), or 0 for any other byte
 abbrev pub bitAmong : List Letter → ℕ → ℕ
@@ -32,16 +41,13 @@ bitOf b = bitAmong letters b
 
 -- whether a byte may stand in an access field: a letter of `allowed`, or a dash where `dash` says so
 unfoldable pub allowedByte : ℕ → Bool → ℕ → Bool
-unfolding bitOf
 allowedByte allowed dash b = not (eqb (bitAnd (bitOf b) allowed) 0) || (dash && eqb b 45)
 
 -- the letters of a field; a dash is a placeholder
 unfoldable pub modesOf : List ℕ → ℕ
-unfolding bitOf
 modesOf field = foldl (λ (m b : ℕ). bitOr m (bitOf b)) 0 field
 
 unfoldable pub readModes : ℕ → Bool → List ℕ → Access
-unfolding allowedByte modesOf
 readModes allowed dash field = cond (all (allowedByte allowed dash) field) (Modes (modesOf field)) Bad
 
 -- whether modes hold a bit

@@ -1,8 +1,7 @@
 // Access modes: the letters r w x a t b and their bits, read from text and written to it (01, Modes).
 ghost use mathlib.Core.Path.{_≡_};
-ghost use mathlib.Core.List.{_++_};
-ghost use Prim.Native.Nat.{_+_, _<_, _≤_};
-ghost use lib.ListN.{length, take, drop};
+ghost use Prim.Native.Nat.{_+_, _≤_};
+ghost use lib.ListN.{length};
 ghost use Rattle.search.specs.Bytes.{written};
 ghost use Rattle.modes.specs.Modes.{bitOf, readModes, modesText};
 
@@ -87,7 +86,7 @@ pub fn read_modes(field: &[u8], allowed: u8, dash: bool) -> Access
 // Writes modes as text from index `at`, the letters in their order or a dash, and answers how many bytes that took. Who calls it has made
 // sure that there is room for six.
 pub fn write_modes(out: &mut [u8], at: usize, modes: u8) -> usize
-    requires { ⌜ (at + 6 ≤ length (now out)) × (modes < 64) ⌝ }
+    requires { ⌜ at + 6 ≤ length (now out) ⌝ }
     ensures { λ r. ⌜ r ≡ length (modesText modes) ⌝ }
     ensures { λ _. ⌜ now (out .exit) ≡ written (now (out .entry)) at (modesText modes) ⌝ }
 {

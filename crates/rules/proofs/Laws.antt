@@ -173,7 +173,7 @@ rule-kept e p k r hp hk apart =
     rw (
       rule-other e p k r apart (λ z. absurd (omega arith)) (λ z. absurd (omega arith)),
       rule-other e p (256 + k) r (λ z. absurd (omega arith)) (λ z. apart (omega arith)) (λ z. absurd (omega arith)),
-      rule-other e p (512 + k) r (λ z. absurd (omega arith)) (λ z. absurd (omega arith)) (λ z. apart (omega arith))
+      rule-other e p (512 + k) r (λ z. absurd (omega arith)) (λ z. absurd (omega arith)) (λ z. apart (omega arith)),
     )
 
 pub rules-put :
@@ -197,7 +197,7 @@ mappings-kept e w p a b n r hp hn =
       rule-other e p (768 + k) r (λ z. absurd (omega arith)) (λ z. absurd (omega arith)) (λ z. absurd (omega arith)),
       rule-other e p (800 + k) r (λ z. absurd (omega arith)) (λ z. absurd (omega arith)) (λ z. absurd (omega arith)),
       getD-set-other (set w 0 a) 1 (4 + k) b 0 (λ z. absurd (omega arith)),
-      getD-set-other w 0 (4 + k) a 0 (λ z. absurd (omega arith))
+      getD-set-other w 0 (4 + k) a 0 (λ z. absurd (omega arith)),
     ))
 
 onlycap-kept : (e : List ℕ) (p n : ℕ) (r : Rule) → p < 256 → entries (onlycapAt (withRule e p r)) n ≡ entries (onlycapAt e) n
@@ -240,15 +240,15 @@ pair-table st s o spot m q =
     let hn₁ : n₁ * 256 ≤ length l₁ = omega (arith, full₁, f .grows .1, f .labels) in
     same-table
     (ap (λ (c : ℕ). entries (labelAt (entered (spot .object) l₁ n₁ o)) c) (words-labels w wide _ _)
-        ∙ labels-entered (spot .object) l₁ n₁ o hn₁ (q .object)
-        ∙ ap (λ (ls : List (List ℕ)). grown (spot .object) ls o) (labels-entered (spot .subject) l n s hn (q .subject)))
+    ∙ labels-entered (spot .object) l₁ n₁ o hn₁ (q .object)
+    ∙ ap (λ (ls : List (List ℕ)). grown (spot .object) ls o) (labels-entered (spot .subject) l n s hn (q .subject)))
     (ap (λ (c : ℕ). entries (ruleAt (withRule e (placeOf (spot .rule) k) (ruleAtSpot n spot m))) c) (words-rules w wide _ _)
-        ∙ rules-put e k (spot .rule) (ruleAtSpot n spot m) (q .sizes .entries) (q .counts .rules) (f .rule) (f .rules)
-        ∙ ap (λ (c : ℕ). put (spot .rule) (entries (ruleAt e) k) (ruleAtSpot c spot m)) (sym (entries-length (labelAt l) n)))
+    ∙ rules-put e k (spot .rule) (ruleAtSpot n spot m) (q .sizes .entries) (q .counts .rules) (f .rule) (f .rules)
+    ∙ ap (λ (c : ℕ). put (spot .rule) (entries (ruleAt e) k) (ruleAtSpot c spot m)) (sym (entries-length (labelAt l) n)))
     (ap (λ (c : ℕ). entries (mappingAt (withRule e (placeOf (spot .rule) k) (ruleAtSpot n spot m)) (set (set w 0 (countOf (spot .object) n₁)) 1 (countOf (spot .rule) k))) c) (words-other w wide _ _ 2 (omega arith))
-        ∙ mappings-kept e w (placeOf (spot .rule) k) (countOf (spot .object) n₁) (countOf (spot .rule) k) (getD w 2 0) (ruleAtSpot n spot m) (omega (arith, f .rule, f .rules)) (q .counts .mappings))
+    ∙ mappings-kept e w (placeOf (spot .rule) k) (countOf (spot .object) n₁) (countOf (spot .rule) k) (getD w 2 0) (ruleAtSpot n spot m) (omega (arith, f .rule, f .rules)) (q .counts .mappings))
     (ap (λ (c : ℕ). entries (onlycapAt (withRule e (placeOf (spot .rule) k) (ruleAtSpot n spot m))) c) (words-other w wide _ _ 3 (omega arith))
-        ∙ onlycap-kept e (placeOf (spot .rule) k) (getD w 3 0) (ruleAtSpot n spot m) (omega (arith, f .rule, f .rules)))
+    ∙ onlycap-kept e (placeOf (spot .rule) k) (getD w 3 0) (ruleAtSpot n spot m) (omega (arith, f .rule, f .rules)))
 
 -- a sound rule set in sound tables leaves them sound
 pub pair-sound : (k : ℕ) (t : Table) (s o : List ℕ) (spot : Spot) (m : ℕ) → soundTable k t ≡ true → soundRule k (ruleFor t spot m) ≡ true → soundTable k (withPair t s o spot m) ≡ true
@@ -296,10 +296,10 @@ pair-undamaged st s o spot m q u small =
           };
       sound =
           ap (λ (c : ℕ). soundTable c (tableOf (ruleSet st s o spot m))) cl
-              ∙ ap (λ (t : Table). soundTable n₂ t) (pair-table st s o spot m q)
-              ∙ pair-sound n₂ (tableOf st) s o spot m
-              (sound-more n n₂ (omega (arith, f .grows .0, f .grows .1)) (tableOf st) (u .sound))
-              (ap (λ (c : ℕ). soundRule n₂ (ruleAtSpot c spot m)) (entries-length (labelAt (st .labels)) n) ∙ r);
+          ∙ ap (λ (t : Table). soundTable n₂ t) (pair-table st s o spot m q)
+          ∙ pair-sound n₂ (tableOf st) s o spot m
+          (sound-more n n₂ (omega (arith, f .grows .0, f .grows .1)) (tableOf st) (u .sound))
+          (ap (λ (c : ℕ). soundRule n₂ (ruleAtSpot c spot m)) (entries-length (labelAt (st .labels)) n) ∙ r);
     }
   where
     length-rule : (e : List ℕ) (p : ℕ) (r : Rule) → length (withRule e p r) ≡ length e

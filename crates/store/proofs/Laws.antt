@@ -43,7 +43,7 @@ all-run p q f l (suc n) h e =
     let hn : n < length l = omega arith in
     let ih = all-run p q f l n (omega arith) (λ k kh. e k (omega arith)) in
     all-snoc p (entries f n) (f n)
-        ∙ rw (ih, e n (omega arith), take-suc l n 0 hn) (sym (all-snoc q (take n l) (getD l n 0)))
+    ∙ rw (ih, e n (omega arith), take-suc l n 0 hn) (sym (all-snoc q (take n l) (getD l n 0)))
 
 -- a number of a part of a run
 pub part-at : (l : List ℕ) (a n k : ℕ) → k < n → getD (take n (drop a l)) k 0 ≡ getD l (a + k) 0
@@ -74,7 +74,7 @@ sound-runs n e w he hw c =
       all-run (λ (r : Rule). ltb (r .modes) 64) (λ (x : ℕ). ltb x 64) (ruleAt e) (take 256 (drop 512 e)) (getD w 1 0) (rw (part-length e 512 256 (omega arith)) (c .rules)) (λ k h. ap (λ (x : ℕ). ltb x 64) (sym (part-at e 512 256 k (omega (arith, c .rules))))),
       all-run (λ (m : Mapping). ltb (m .label) n) (λ (x : ℕ). ltb x n) (mappingAt e w) (take 32 (drop 768 e)) (getD w 2 0) (rw (part-length e 768 32 (omega arith)) (c .mappings)) (λ k h. ap (λ (x : ℕ). ltb x n) (sym (part-at e 768 32 k (omega (arith, c .mappings))))),
       all-run (λ (m : Mapping). eqb (m .set % 2) 0) (λ (x : ℕ). eqb (x % 2) 0) (mappingAt e w) (take 32 (drop 4 w)) (getD w 2 0) (rw (part-length w 4 32 (omega arith)) (c .mappings)) (λ k h. ap (λ (x : ℕ). eqb (x % 2) 0) (sym (part-at w 4 32 k (omega (arith, c .mappings))))),
-      all-run (λ (k : ℕ). ltb k n) (λ (x : ℕ). ltb x n) (onlycapAt e) (take 8 (drop 832 e)) (getD w 3 0) (rw (part-length e 832 8 (omega arith)) (c .onlycap)) (λ k h. ap (λ (x : ℕ). ltb x n) (sym (part-at e 832 8 k (omega (arith, c .onlycap)))))
+      all-run (λ (k : ℕ). ltb k n) (λ (x : ℕ). ltb x n) (onlycapAt e) (take 8 (drop 832 e)) (getD w 3 0) (rw (part-length e 832 8 (omega arith)) (c .onlycap)) (λ k h. ap (λ (x : ℕ). ltb x n) (sym (part-at e 832 8 k (omega (arith, c .onlycap))))),
     )
 
 -- ---- the label store
@@ -146,7 +146,7 @@ is-undamaged s u =
       le-leb _ _ (u .counts .rules),
       le-leb _ _ (u .counts .mappings),
       le-leb _ _ (u .counts .onlycap),
-      u .sound
+      u .sound,
     )
 
 -- what is sound among n labels is sound among more
@@ -173,5 +173,5 @@ module _ (n m : ℕ) (h : n ≤ m) where
       rw (
         all-weaker (soundRule n) (soundRule m) rule-more (t .rules) (b .0),
         all-weaker (soundMapping n) (soundMapping m) mapping-more (t .mappings) (b .1),
-        all-weaker (λ (k : ℕ). ltb k n) (λ (k : ℕ). ltb k m) below-more (t .onlycap) (a .1)
+        all-weaker (λ (k : ℕ). ltb k n) (λ (k : ℕ). ltb k m) below-more (t .onlycap) (a .1),
       )

@@ -1,62 +1,70 @@
+-- `alphabet::label_fault` meets its contract: after i turns the first i bytes are label bytes. Assumes nothing.
+use Prim.Native.Nat.{ℕ, _<_, _≤_, _-_}
+use mathlib.Core.Path.{_≡_, sym}
+use mathlib.Core.Bool.{true}
+use native.Mathlib.Omega.{arith}
+use borrow.Author.Needs.{needs}
+use borrow.Author.Count.{below-more}
+use lib.ListN.{length, getD}
+use Rattle.alphabet.specs.Alphabet.{labelByte}
+use Rattle.alphabet.proofs.Laws.{label-told, other-told, fault-empty, fault-dash, fault-at, fault-long, fault-none}
 use Rattle.alphabet.proofs.label_fault.Statement.{statement}
 use Rattle.alphabet.proofs.label_fault.Tie as tie
-use Rattle.alphabet.proofs.label_fault.Reads as reads
-use Rattle.alphabet.proofs.label_fault.Lts as lts
-use Rattle.alphabet.proofs.class.Reads as class-reads
 
 abbrev Inv-loop : tie.InvT-loop
-Inv-loop label i₀ i = ?
+Inv-loop label i₀ i = (i ≤ length label) × (i ≤ 255) × ((k : ℕ) → k < i → labelByte (getD label k 0) ≡ true)
 
 abbrev μ-loop : tie.MeasureT-loop
-μ-loop label i₀ i = ?
+μ-loop label i₀ i = length label - i
 
--- src/lib.rt:288:9
 returns : tie.Need-returns Inv-loop μ-loop
-returns c = ?
+returns c = sym (fault-empty _ (c .if1 .taken))
 
--- src/lib.rt:290:8
 shared-slice-read-if2 : tie.Need-shared-slice-read-if2 Inv-loop μ-loop
-shared-slice-read-if2 c = ?
+shared-slice-read-if2 c = omega arith
 
--- src/lib.rt:291:9
 returns-2 : tie.Need-returns-2 Inv-loop μ-loop
-returns-2 c = ?
+returns-2 c = sym (fault-dash _ (c .before .before .if1 .left) (c .if2 .taken))
 
--- src/lib.rt:294:5
 loop-holds : tie.Need-loop-holds Inv-loop μ-loop
-loop-holds c = ?
+loop-holds c = (omega arith, omega arith, λ k h. absurd (omega arith))
 
--- src/lib.rt:296:13
 returns-3 : tie.Need-returns-3 Inv-loop μ-loop
-returns-3 c = ?
+returns-3 c =
+    let l = c .before .before in
+    let z : l .loop .i ≡ 255 = c .if3 .taken in
+    sym (fault-long _ (l .before .before .before .if1 .left) (l .before .if2 .left) (omega arith) (rw z at (l .loop .inv .2)))
 
--- src/lib.rt:298:18
 shared-slice-read-class : tie.Need-shared-slice-read-class Inv-loop μ-loop
-shared-slice-read-class c = ?
+shared-slice-read-class c = search needs
 
--- src/lib.rt:298:12
 class-requires : tie.Need-class-requires Inv-loop μ-loop
-class-requires c κs = ?
+class-requires c κs = search needs
 
--- src/lib.rt:299:13
 returns-4 : tie.Need-returns-4 Inv-loop μ-loop
-returns-4 c = ?
+returns-4 c =
+    let l = c .before .before .before .before .before in
+    let i = l .loop .inv in
+    sym
+    (fault-at _ (l .before .before .before .if1 .left) (l .before .if2 .left) (l .loop .i) (omega arith) (omega arith) (i .2)
+    (other-told _ _ (c .before .class .ensures) (c .if4 .taken)))
 
--- src/lib.rt:301:9
 add-i : tie.Need-add-i Inv-loop μ-loop
-add-i c = ?
+add-i c = search needs
 
--- src/lib.rt:294:5
 loop-less : tie.Need-loop-less Inv-loop μ-loop
-loop-less c = ?
+loop-less c = omega arith
 
--- src/lib.rt:294:5
 loop-again : tie.Need-loop-again Inv-loop μ-loop
-loop-again c = ?
+loop-again c =
+    let i = c .before .before .before .before .before .loop .inv in
+    (omega arith, omega arith, below-more _ _ (i .2) (label-told _ _ (c .before .class .ensures) (c .if4 .left)))
 
--- src/lib.rt:284:1
 returns-5 : tie.Need-returns-5 Inv-loop μ-loop
-returns-5 c = ?
+returns-5 c =
+    let l = c .before in
+    let z : l .loop .i ≡ length (l .before .before .before .before .before .args .label .now) = omega arith in
+    sym (fault-none _ (l .before .before .before .if1 .left) (l .before .if2 .left) (omega arith) (rw z at (l .loop .inv .2)))
 
 pub label-fault-spec : {M : Type 1} → statement M
 label-fault-spec =

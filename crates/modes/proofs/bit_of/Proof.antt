@@ -1,53 +1,49 @@
+-- `modes::bit_of` meets its contract: with i letters passed, the letters from i on decide. Assumes nothing.
+use Prim.Native.Nat.{_≤_, _-_}
+use mathlib.Core.Path.{_≡_, refl, sym, _∙_}
+use native.Mathlib.Omega.{arith}
+use lib.ListN.{drop}
+use Rattle.modes.specs.Modes.{bitOf, bitAmong, letters}
+use Rattle.modes.proofs.Laws.{letterAt, letter-rule, sound-parts, bit-small, bit-capital, bit-later}
 use Rattle.modes.proofs.bit_of.Statement.{statement}
 use Rattle.modes.proofs.bit_of.Tie as tie
-use Rattle.modes.proofs.bit_of.Reads as reads
-use Rattle.modes.proofs.bit_of.Lts as lts
 
 abbrev Inv-loop : tie.InvT-loop
-Inv-loop b i₀ i = ?
+Inv-loop b i₀ i = (i ≤ 6) × (bitOf b ≡ bitAmong (drop i letters) b)
 
 abbrev μ-loop : tie.MeasureT-loop
-μ-loop b i₀ i = ?
+μ-loop b i₀ i = 6 - i
 
--- src/lib.rt:51:5
 loop-holds : tie.Need-loop-holds Inv-loop μ-loop
-loop-holds c = ?
+unfolding bitOf
+loop-holds c = (omega arith, refl)
 
--- src/lib.rt:52:21
 mul-entry : tie.Need-mul-entry Inv-loop μ-loop
-mul-entry c = ?
+mul-entry c = omega arith
 
--- src/lib.rt:52:21
 array-copy-out-entry : tie.Need-array-copy-out-entry Inv-loop μ-loop
-array-copy-out-entry c = ?
+array-copy-out-entry c = omega arith
 
--- src/lib.rt:54:13
 returns : tie.Need-returns Inv-loop μ-loop
-returns c = ?
+returns c = let l = c .before .before .before .before in sym (l .loop .inv .1 ∙ bit-small _ (l .loop .i) (omega arith) (c .if1 .taken))
 
--- src/lib.rt:56:12
-add-if2 : tie.Need-add-if2 Inv-loop μ-loop
-add-if2 c = ?
+sub-if2 : tie.Need-sub-if2 Inv-loop μ-loop
+sub-if2 c = let l = c .before .before .before .before .before in omega (arith, sound-parts (letterAt (l .loop .i)) (letter-rule (l .loop .i) (omega arith)))
 
--- src/lib.rt:57:13
 returns-2 : tie.Need-returns-2 Inv-loop μ-loop
-returns-2 c = ?
+returns-2 c = let l = c .before .before .before .before .before .before in sym (l .loop .inv .1 ∙ bit-capital _ (l .loop .i) (omega arith) (c .if2 .taken))
 
--- src/lib.rt:59:9
 add-i : tie.Need-add-i Inv-loop μ-loop
-add-i c = ?
+add-i c = omega arith
 
--- src/lib.rt:51:5
 loop-less : tie.Need-loop-less Inv-loop μ-loop
-loop-less c = ?
+loop-less c = omega arith
 
--- src/lib.rt:51:5
 loop-again : tie.Need-loop-again Inv-loop μ-loop
-loop-again c = ?
+loop-again c = let l = c .before .before .before .before .before .before in (omega arith, l .loop .inv .1 ∙ bit-later _ (l .loop .i) (omega arith) (c .before .before .if1 .left) (c .if2 .left))
 
--- src/lib.rt:47:1
 returns-3 : tie.Need-returns-3 Inv-loop μ-loop
-returns-3 c = ?
+returns-3 c = let l = c .before in let e : l .loop .i ≡ 6 = omega arith in sym (l .loop .inv .1 ∙ rw e)
 
 pub bit-of-spec : {M : Type 1} → statement M
 bit-of-spec =
@@ -59,7 +55,7 @@ bit-of-spec =
     mul-entry
     array-copy-out-entry
     returns
-    add-if2
+    sub-if2
     returns-2
     add-i
     loop-less

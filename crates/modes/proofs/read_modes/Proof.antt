@@ -1,50 +1,68 @@
+-- `modes::read_modes` meets its contract: what is left of the field is read with the modes so far. Assumes nothing.
+use Prim.Native.Nat.{_≤_, _-_}
+use mathlib.Core.Path.{_≡_, sym, _∙_}
+use mathlib.Core.Logic.{⊎-elim}
+use native.Mathlib.Omega.{arith}
+use borrow.Author.Tests.{not-true, not-false}
+use lib.ListN.{length, drop, drop-of-length-le}
+use Rattle.modes.specs.Modes.{readModes}
+use Rattle.modes.proofs.Laws.{readFrom, read-all, read-none, read-letter, read-dash, read-no-dash, read-other}
 use Rattle.modes.proofs.read_modes.Statement.{statement}
 use Rattle.modes.proofs.read_modes.Tie as tie
-use Rattle.modes.proofs.read_modes.Reads as reads
-use Rattle.modes.proofs.read_modes.Lts as lts
-use Rattle.modes.proofs.bit_of.Reads as bit-of-reads
 
 abbrev Inv-loop : tie.InvT-loop
-Inv-loop field allowed dash modes₀ i₀ modes i = ?
+Inv-loop field allowed dash modes₀ i₀ modes i = (i ≤ length field) × (readModes allowed dash field ≡ readFrom allowed dash modes (drop i field))
 
 abbrev μ-loop : tie.MeasureT-loop
-μ-loop field allowed dash modes₀ i₀ modes i = ?
+μ-loop field allowed dash modes₀ i₀ modes i = length field - i
 
--- src/lib.rt:70:5
 loop-holds : tie.Need-loop-holds Inv-loop μ-loop
-loop-holds c = ?
+loop-holds c = (omega arith, read-all _ _ _)
 
--- src/lib.rt:71:17
 shared-slice-read-b : tie.Need-shared-slice-read-b Inv-loop μ-loop
-shared-slice-read-b c = ?
+shared-slice-read-b c = omega arith
 
--- src/lib.rt:72:13
 bit-of-requires : tie.Need-bit-of-requires Inv-loop μ-loop
-bit-of-requires c κs = ?
+bit-of-requires c κs = tt
 
--- src/lib.rt:75:17
 returns : tie.Need-returns Inv-loop μ-loop
-returns c = ?
+returns c =
+    let b = c .before .before in
+    let l = b .before .before .before in
+    let a = l .before .before .args in
+    sym (l .loop .inv .1 ∙ read-no-dash (a .allowed) (a .dash) (l .loop .modes) (a .field .now) (l .loop .i) (omega arith) (b .bit-of .result) (b .bit-of .ensures) (c .before .if1 .taken) (not-true (a .dash) (c .if2 .taken)))
 
--- src/lib.rt:78:17
 returns-2 : tie.Need-returns-2 Inv-loop μ-loop
-returns-2 c = ?
+returns-2 c =
+    let b = c .before .before .before in
+    let l = b .before .before .before in
+    let a = l .before .before .args in
+    sym (l .loop .inv .1 ∙ read-other (a .allowed) (a .dash) (l .loop .modes) (a .field .now) (l .loop .i) (omega arith) (b .bit-of .result) (b .bit-of .ensures) (c .before .before .if1 .taken) (c .if3 .taken))
 
--- src/lib.rt:82:9
 add-i : tie.Need-add-i Inv-loop μ-loop
-add-i c = ?
+add-i c = omega arith
 
--- src/lib.rt:70:5
 loop-less : tie.Need-loop-less Inv-loop μ-loop
-loop-less c = ?
+loop-less c = omega arith
 
--- src/lib.rt:70:5
 loop-again : tie.Need-loop-again Inv-loop μ-loop
-loop-again c = ?
+loop-again c =
+    let b = c .before in
+    let l = b .before .before .before in
+    let a = l .before .before .args in (
+      omega arith,
+      l .loop .inv .1
+          ∙ ⊎-elim
+          (λ w. read-dash (a .allowed) (a .dash) (l .loop .modes) (a .field .now) (l .loop .i) (omega arith) (b .bit-of .result) (b .bit-of .ensures) (not-false (a .dash) (w .1 .left)) (w .2 .left))
+          (λ w. read-letter (a .allowed) (a .dash) (l .loop .modes) (a .field .now) (l .loop .i) (omega arith) (b .bit-of .result) (b .bit-of .ensures) (w .left))
+          (c .if1 .came),
+    )
 
--- src/lib.rt:65:1
 returns-3 : tie.Need-returns-3 Inv-loop μ-loop
-returns-3 c = ?
+returns-3 c =
+    let l = c .before in
+    let a = l .before .before .args in
+    sym (l .loop .inv .1 ∙ rw (drop-of-length-le (a .field .now) {i = l .loop .i} (omega arith)) (read-none (a .allowed) (a .dash) (l .loop .modes)))
 
 pub read-modes-spec : {M : Type 1} → statement M
 read-modes-spec =

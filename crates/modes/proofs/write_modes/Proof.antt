@@ -1,69 +1,67 @@
+-- `modes::write_modes` meets its contract: with i letters passed and n bytes written, what is left to write is the letters from i on. Assumes nothing.
+use Prim.Native.Nat.{_≤_, _-_}
+use mathlib.Core.Logic.{⊎-elim}
+use native.Mathlib.Omega.{arith}
+use borrow.Author.Needs.{needs}
+use Rattle.modes.proofs.Laws.{Wrote, wrote-none, wrote-letter, wrote-other, wrote-all, wrote-dash}
 use Rattle.modes.proofs.write_modes.Statement.{statement}
 use Rattle.modes.proofs.write_modes.Tie as tie
-use Rattle.modes.proofs.write_modes.Reads as reads
-use Rattle.modes.proofs.write_modes.Lts as lts
 
 abbrev Inv-loop : tie.InvT-loop
-Inv-loop out₀ at modes n₀ i₀ out n i = ?
+Inv-loop out₀ at modes n₀ i₀ out n i = (i ≤ 6) × Wrote out₀ at modes out n i
 
 abbrev μ-loop : tie.MeasureT-loop
-μ-loop out₀ at modes n₀ i₀ out n i = ?
+μ-loop out₀ at modes n₀ i₀ out n i = 6 - i
 
--- src/lib.rt:95:9
 slice-write-out : tie.Need-slice-write-out Inv-loop μ-loop
-slice-write-out c = ?
+slice-write-out c = omega arith
 
--- src/lib.rt:96:9
 same-length : tie.Need-same-length Inv-loop μ-loop
-same-length c = ?
+same-length c = search needs
 
--- src/lib.rt:96:9
 returns : tie.Need-returns Inv-loop μ-loop
-returns c = ?
+returns c = let a = c .before .args in wrote-dash (a .out .now) (a .at) (a .modes) (c .if1 .taken) (omega arith)
 
--- src/lib.rt:100:5
 loop-holds : tie.Need-loop-holds Inv-loop μ-loop
-loop-holds c = ?
+loop-holds c = let a = c .before .args in (omega arith, wrote-none (a .out .now) (a .at) (a .modes) (c .if1 .left))
 
--- src/lib.rt:101:21
 mul-entry : tie.Need-mul-entry Inv-loop μ-loop
-mul-entry c = ?
+mul-entry c = omega arith
 
--- src/lib.rt:101:21
 array-copy-out-entry : tie.Need-array-copy-out-entry Inv-loop μ-loop
-array-copy-out-entry c = ?
+array-copy-out-entry c = omega arith
 
--- src/lib.rt:103:17
 add-out : tie.Need-add-out Inv-loop μ-loop
-add-out c = ?
+add-out c = omega arith
 
--- src/lib.rt:103:13
 slice-write-out-2 : tie.Need-slice-write-out-2 Inv-loop μ-loop
-slice-write-out-2 c = ?
+slice-write-out-2 c = omega arith
 
--- src/lib.rt:104:13
 add-n : tie.Need-add-n Inv-loop μ-loop
-add-n c = ?
+add-n c = omega arith
 
--- src/lib.rt:106:9
 add-i : tie.Need-add-i Inv-loop μ-loop
-add-i c = ?
+add-i c = omega arith
 
--- src/lib.rt:100:5
 loop-less : tie.Need-loop-less Inv-loop μ-loop
-loop-less c = ?
+loop-less c = omega arith
 
--- src/lib.rt:100:5
 loop-again : tie.Need-loop-again Inv-loop μ-loop
-loop-again c = ?
+loop-again c =
+    let l = c .before .before .before .before in
+    let a = l .before .before .args in (
+      omega arith,
+      ⊎-elim
+          (λ w. wrote-letter (a .out .now) (a .at) (a .modes) (omega arith) (l .loop .out) (l .loop .n) (l .loop .i) (l .loop .inv .1) (omega arith) (c .if2 .out) (c .if2 .n) (w .0 .taken) (w .1) (w .2))
+          (λ w. wrote-other (a .out .now) (a .at) (a .modes) (omega arith) (l .loop .out) (l .loop .n) (l .loop .i) (l .loop .inv .1) (omega arith) (c .if2 .out) (c .if2 .n) (w .0 .left) (w .1) (w .2))
+          (c .if2 .came),
+    )
 
--- src/lib.rt:89:1
 same-length-2 : tie.Need-same-length-2 Inv-loop μ-loop
-same-length-2 c = ?
+same-length-2 c = c .before .loop .inv .1 .kept
 
--- src/lib.rt:89:1
 returns-2 : tie.Need-returns-2 Inv-loop μ-loop
-returns-2 c = ?
+returns-2 c = let l = c .before in let a = l .before .before .args in wrote-all (a .out .now) (a .at) (a .modes) (l .loop .out) (l .loop .n) (l .loop .i) (omega arith) (l .loop .inv .1)
 
 pub write-modes-spec : {M : Type 1} → statement M
 write-modes-spec =

@@ -1,0 +1,341 @@
+-- Laws of the definitions of specs/. Assumes nothing.
+use mathlib.Core.Path.{_≡_, refl, sym, ap, _∙_}
+use mathlib.Core.Bool.{Bool, true, false, cond, not, _&&_, _||_, Bool·beq, and-false}
+use mathlib.Core.List.{List, [], _∷_}
+use Prim.Native.Nat.{ℕ, zero, suc, _+_, _-_, _<_, _≤_, suc-le-suc}
+use native.Mathlib.Numerals.{add-one}
+use native.Mathlib.Omega.{arith}
+use lib.Dec.{eqb, leb, ltb}
+use lib.ListN.{length, take, drop, getD, length-take, length-drop, drop-of-length-le}
+use lib.Seq.{drop-cons, drop-drop, take-all, getD-take}
+use borrow.Author.Tests.{eqb-false, eq-eqb, ne-eqb, leb-true, le-leb, lt-leb, lt-ltb, le-ltb, ltb-true, ltb-false, not-true, not-false}
+use Rattle.search.specs.Search.{first, all, later}
+use Rattle.search.specs.declared.Found.{Found}
+use Rattle.search.specs.declared.Found.the-variants.{At, Nothing}
+use Rattle.search.proofs.Laws.{no, and-both, all-at, first-at, first-none}
+use Rattle.alphabet.specs.Alphabet.{isBlank, labelByte, classOf, wellFormed, orTooLong, faultOf, run, startOf, endOf, fieldAt, part, opens, onto, fields}
+use Rattle.alphabet.specs.declared.Field.{Field}
+use Rattle.alphabet.specs.declared.Field.the-variants.{Part, End}
+
+-- ---- the classes
+
+-- a label byte is no blank
+pub label-unblank : (b : ℕ) → labelByte b ≡ true → isBlank b ≡ false
+unfolding labelByte isBlank
+label-unblank b e =
+    let h = leb-true 33 b (and-both (leb 33 b) (leb b 126 && not (eqb b 47 || (eqb b 92 || (eqb b 39 || eqb b 34)))) e .0) in
+    rw (ne-eqb b 32 (λ q. omega arith), ne-eqb b 9 (λ q. omega arith))
+
+-- a byte's class tells whether it is a label byte, and whether it is a blank
+pub class-label : (b : ℕ) → eqb (classOf b) 0 ≡ labelByte b
+unfolding classOf
+class-label b = by-test (labelByte b) (isBlank b) (eqb b 10)
+  where
+    by-test : (l k n : Bool) → eqb (cond l 0 (cond k 1 (cond n 2 3))) 0 ≡ l
+    by-test true k n = refl
+    by-test false true n = refl
+    by-test false false true = refl
+    by-test false false false = refl
+
+pub class-blank : (b : ℕ) → eqb (classOf b) 1 ≡ isBlank b
+unfolding classOf
+class-blank b = by-test (labelByte b) (isBlank b) (eqb b 10) (label-unblank b)
+  where
+    by-test : (l k n : Bool) → (l ≡ true → k ≡ false) → eqb (cond l 0 (cond k 1 (cond n 2 3))) 1 ≡ k
+    by-test true k n h = sym (h refl)
+    by-test false true n h = refl
+    by-test false false true h = refl
+    by-test false false false h = refl
+
+-- the same of a class r that was read from the table
+pub blank-told : (b r : ℕ) → r ≡ classOf b → eqb r 1 ≡ isBlank b
+blank-told b r e = rw e (class-blank b)
+
+pub label-told : (b r : ℕ) → r ≡ classOf b → r ≡ 0 → labelByte b ≡ true
+label-told b r e z = sym (class-label b) ∙ eq-eqb (classOf b) 0 (sym e ∙ z)
+
+pub other-told : (b r : ℕ) → r ≡ classOf b → (r ≡ 0 → ⊥) → labelByte b ≡ false
+other-told b r e z = sym (class-label b) ∙ ne-eqb (classOf b) 0 (λ q. z (e ∙ q))
+
+-- ---- a label and its first fault
+
+pub fault-empty : (l : List ℕ) → length l ≡ 0 → faultOf l ≡ At 0
+unfolding faultOf
+fault-empty l e = rw (eq-eqb (length l) 0 e)
+
+pub fault-dash : (l : List ℕ) → (length l ≡ 0 → ⊥) → getD l 0 0 ≡ 45 → faultOf l ≡ At 0
+unfolding faultOf
+fault-dash l some e = rw (ne-eqb (length l) 0 some, eq-eqb (getD l 0 0) 45 e)
+
+-- a label that has a byte and does not begin with a dash
+module _ (l : List ℕ) (some : length l ≡ 0 → ⊥) (plain : getD l 0 0 ≡ 45 → ⊥) where
+  fault-by : (f : Found) → first (λ (b : ℕ). not (labelByte b)) (take 255 l) ≡ f → faultOf l ≡ orTooLong f (length l)
+  unfolding faultOf
+  fault-by f e = rw (ne-eqb (length l) 0 some, ne-eqb (getD l 0 0) 45 plain, e)
+
+  passed : (n : ℕ) → ((k : ℕ) → k < n → labelByte (getD l k 0) ≡ true) → n ≤ 255 → (k : ℕ) → k < n → not (labelByte (getD (take 255 l) k 0)) ≡ false
+  passed n fine h k i =
+      let j : k < 255 = omega arith in
+      rw (getD-take 255 l k 0 j, fine k i)
+
+  pub fault-at :
+      (i : ℕ) →
+      i < length l →
+      i < 255 →
+      ((k : ℕ) → k < i → labelByte (getD l k 0) ≡ true) →
+      labelByte (getD l i 0) ≡ false →
+      faultOf l ≡ At i
+  fault-at i h j fine here =
+      fault-by (At i)
+      (first-at (λ (b : ℕ). not (labelByte b)) 0 (take 255 l) i (rw length-take (omega arith)) (passed i fine (omega arith)) (rw (getD-take 255 l i 0 j, here)))
+
+  pub fault-long : 255 < length l → ((k : ℕ) → k < 255 → labelByte (getD l k 0) ≡ true) → faultOf l ≡ At 255
+  fault-long h fine =
+      fault-by Nothing
+      (first-none (λ (b : ℕ). not (labelByte b)) 0 (take 255 l) (λ k i. passed 255 fine (omega arith) k (omega (arith, rw length-take at i))))
+      ∙ rw (lt-leb (length l) 255 h)
+
+  pub fault-none : length l ≤ 255 → ((k : ℕ) → k < length l → labelByte (getD l k 0) ≡ true) → faultOf l ≡ Nothing
+  fault-none h fine =
+      fault-by Nothing
+      (first-none (λ (b : ℕ). not (labelByte b)) 0 (take 255 l) (λ k i. passed (length l) fine h k (omega (arith, rw length-take at i))))
+      ∙ rw (le-leb (length l) 255 h)
+
+-- whether a search found nothing
+abbrev pub missing : Found → Bool
+missing (At k) = false
+missing Nothing = true
+
+missing-later : (f : Found) → missing (later f) ≡ missing f
+missing-later (At k) = refl
+missing-later Nothing = refl
+
+-- every entry passes a test exactly where a search finds none that fails it
+pub all-missing : {A : Type 0} (p : A → Bool) (l : List A) → all p l ≡ missing (first (λ (x : A). not (p x)) l)
+unfolding all first
+all-missing p [] = refl
+all-missing {A} p (x ∷ xs) = by-test (p x) (first (λ (y : A). not (p y)) xs) (all-missing p xs)
+  where
+    by-test : (b : Bool) (f : Found) → all p xs ≡ missing f → (b && all p xs) ≡ missing (cond (not b) (At zero) (later f))
+    by-test true f ih = ih ∙ sym (missing-later f)
+    by-test false f ih = refl
+
+some-leb : (n : ℕ) → leb 1 n ≡ not (eqb n 0)
+some-leb zero = refl
+some-leb (suc n) = rw (le-leb 1 (suc n) (omega arith), ne-eqb (suc n) 0 (λ q. omega arith))
+
+-- a label is well formed exactly where it has no fault
+pub formed-missing : (l : List ℕ) → wellFormed l ≡ missing (faultOf l)
+unfolding wellFormed faultOf
+formed-missing l =
+    rw (some-leb (length l)) (by-test (eqb (length l) 0) (eqb (getD l 0 0) 45) (leb (length l) 255) refl (first (λ (b : ℕ). not (labelByte b)) (take 255 l)) (all labelByte l) searched)
+  where
+    searched : leb (length l) 255 ≡ true → all labelByte l ≡ missing (first (λ (b : ℕ). not (labelByte b)) (take 255 l))
+    searched e = rw (take-all 255 l (leb-true (length l) 255 e)) (all-missing labelByte l)
+
+    by-test :
+        (empty dash short : Bool) →
+        leb (length l) 255 ≡ short →
+        (f : Found) (w : Bool) →
+        (short ≡ true → w ≡ missing f) →
+        (not empty && (short && (w && not dash))) ≡ missing (cond empty (At 0) (cond dash (At 0) (orTooLong f (length l))))
+    by-test true dash short e f w h = refl
+    by-test false true true e f w h = and-false w
+    by-test false true false e f w h = refl
+    by-test false false true e (At k) w h = rw (h refl)
+    by-test false false true e Nothing w h = rw (h refl, e)
+    by-test false false false e (At k) w h = refl
+    by-test false false false e Nothing w h = rw e
+
+pub fault-formed : (l : List ℕ) → faultOf l ≡ Nothing → wellFormed l ≡ true
+fault-formed l e = formed-missing l ∙ ap missing e
+
+pub fault-unformed : (l : List ℕ) (k : ℕ) → faultOf l ≡ At k → wellFormed l ≡ false
+fault-unformed l k e = formed-missing l ∙ ap missing e
+
+-- what a well-formed label is: it has a byte, it has at most 255, each is a label byte, and the first is no dash
+pub formed-is :
+    (l : List ℕ) →
+    wellFormed l ≡ true →
+    (1 ≤ length l) × (length l ≤ 255) × ((k : ℕ) → k < length l → labelByte (getD l k 0) ≡ true) × (getD l 0 0 ≡ 45 → ⊥)
+unfolding wellFormed
+formed-is l e =
+    let h = and-both (leb 1 (length l)) (leb (length l) 255 && (all labelByte l && not (eqb (getD l 0 0) 45))) e in
+    let i = and-both (leb (length l) 255) (all labelByte l && not (eqb (getD l 0 0) 45)) (h .1) in
+    let j = and-both (all labelByte l) (not (eqb (getD l 0 0) 45)) (i .1) in (
+      leb-true 1 (length l) (h .0),
+      leb-true (length l) 255 (i .0),
+      all-at labelByte 0 l (j .0),
+      eqb-false (getD l 0 0) 45 (not-true (eqb (getD l 0 0) 45) (j .1)),
+    )
+
+-- ---- runs of blanks and of other bytes
+
+pub bools-differ : (a b : Bool) → not (Bool·beq a b) ≡ true → a ≡ not b
+bools-differ true true e = absurd (no e)
+bools-differ true false e = refl
+bools-differ false true e = refl
+bools-differ false false e = absurd (no e)
+
+pub bools-agree : (a b : Bool) → not (Bool·beq a b) ≡ false → a ≡ b
+bools-agree true true e = refl
+bools-agree true false e = absurd (no (sym e))
+bools-agree false true e = absurd (no (sym e))
+bools-agree false false e = refl
+
+pub run-stop : (blanks : Bool) (line : List ℕ) (i : ℕ) → i < length line → isBlank (getD line i 0) ≡ not blanks → run blanks (drop i line) ≡ 0
+unfolding run
+run-stop true line i h e = rw (drop-cons line i 0 h, e)
+run-stop false line i h e = rw (drop-cons line i 0 h, e)
+
+pub run-more : (blanks : Bool) (line : List ℕ) (i : ℕ) → i < length line → isBlank (getD line i 0) ≡ blanks → run blanks (drop i line) ≡ suc (run blanks (drop (i + 1) line))
+unfolding run
+run-more true line i h e = rw (add-one, drop-cons line i 0 h, e)
+run-more false line i h e = rw (add-one, drop-cons line i 0 h, e)
+
+pub run-past : (blanks : Bool) (line : List ℕ) (i : ℕ) → length line ≤ i → run blanks (drop i line) ≡ 0
+unfolding run
+run-past blanks line i h = rw (drop-of-length-le line {i = i} h)
+
+pub run-le : (blanks : Bool) (l : List ℕ) → run blanks l ≤ length l
+unfolding run
+run-le blanks [] = omega arith
+run-le true (b ∷ bs) = by-test (isBlank b) (run-le true bs)
+  where
+    by-test : (t : Bool) → run true bs ≤ length bs → cond t (suc (run true bs)) zero ≤ suc (length bs)
+    by-test true ih = suc-le-suc ih
+    by-test false ih = omega arith
+run-le false (b ∷ bs) = by-test (isBlank b) (run-le false bs)
+  where
+    by-test : (t : Bool) → run false bs ≤ length bs → cond t zero (suc (run false bs)) ≤ suc (length bs)
+    by-test true ih = omega arith
+    by-test false ih = suc-le-suc ih
+
+-- ---- the fields of a line
+
+pub no-fields : fields [] ≡ []
+unfolding fields
+no-fields = refl
+
+-- blanks in front do not matter
+fields-skip : (l : List ℕ) → fields l ≡ fields (drop (run true l) l)
+unfolding fields run
+fields-skip [] = refl
+fields-skip (b ∷ bs) = by-test (isBlank b) refl (fields-skip bs)
+  where
+    by-test : (t : Bool) → isBlank b ≡ t → fields bs ≡ fields (drop (run true bs) bs) → cond t (fields bs) (cond (opens bs) (onto b (fields bs)) ((b ∷ []) ∷ fields bs)) ≡ fields (drop (cond t (suc (run true bs)) zero) (b ∷ bs))
+    by-test true e ih = ih
+    by-test false e ih = rw e
+
+-- past the blanks, what is left begins with another byte
+opens-skip : (l : List ℕ) → run true l < length l → opens (drop (run true l) l) ≡ true
+unfolding run
+opens-skip [] h = absurd (omega arith)
+opens-skip (b ∷ bs) h = by-test (isBlank b) refl h (opens-skip bs)
+  where
+    by-test : (t : Bool) → isBlank b ≡ t → cond t (suc (run true bs)) zero < suc (length bs) → (run true bs < length bs → opens (drop (run true bs) bs) ≡ true) → opens (drop (cond t (suc (run true bs)) zero) (b ∷ bs)) ≡ true
+    by-test true e h ih = ih (omega arith)
+    by-test false e h ih = rw e
+
+-- a line that begins with a field: the field is the run up to the next blank
+fields-cut : (l : List ℕ) → opens l ≡ true → (0 < run false l) × (fields l ≡ take (run false l) l ∷ fields (drop (run false l) l))
+unfolding fields run
+fields-cut [] o = absurd (no o)
+fields-cut (b ∷ bs) o = rw (not-true (isBlank b) o) (omega arith, rest bs (opens bs) refl (fields-cut bs))
+  where
+    rest :
+        (bs : List ℕ) (t : Bool) →
+        opens bs ≡ t →
+        (opens bs ≡ true → (0 < run false bs) × (fields bs ≡ take (run false bs) bs ∷ fields (drop (run false bs) bs))) →
+        cond t (onto b (fields bs)) ((b ∷ []) ∷ fields bs) ≡ (b ∷ take (run false bs) bs) ∷ fields (drop (run false bs) bs)
+    rest bs true e ih = ap (onto b) (ih e .1)
+    rest [] false e ih = refl
+    rest (x ∷ xs) false e ih = let z = not-false (isBlank x) e in rw (z, z)
+
+-- where the reader starts: no earlier than it was told to, and past blanks alone
+start-after : (line : List ℕ) (from : ℕ) → from ≤ startOf line from
+unfolding startOf
+start-after line from = omega arith
+
+start-drop : (line : List ℕ) (from : ℕ) → drop (run true (drop from line)) (drop from line) ≡ drop (startOf line from) line
+unfolding startOf
+start-drop line from = drop-drop (run true (drop from line)) from line
+
+start-skip : (line : List ℕ) (from : ℕ) → fields (drop from line) ≡ fields (drop (startOf line from) line)
+start-skip line from = fields-skip (drop from line) ∙ ap fields (start-drop line from)
+
+start-opens : (line : List ℕ) (from : ℕ) → startOf line from < length line → opens (drop (startOf line from) line) ≡ true
+unfolding startOf
+start-opens line from h =
+    let i : run true (drop from line) < length (drop from line) = rw length-drop (omega arith) in
+    ap opens (sym (start-drop line from)) ∙ opens-skip (drop from line) i
+
+-- a field from start to end is the first of those from an index on, and the others are those from its end on
+pub record FieldFrom (line : List ℕ) (from start end : ℕ) : Type 0 where
+  pub after : from ≤ start
+  pub starts : start < end
+  pub ends : end ≤ length line
+  pub first-of : fields (drop from line) ≡ part line start end ∷ fields (drop end line)
+
+from-at : (line : List ℕ) (from start : ℕ) → from ≤ start → opens (drop start line) ≡ true → fields (drop from line) ≡ fields (drop start line) → start < length line → FieldFrom line from start (endOf line start)
+unfolding endOf
+from-at line from start after o skips h =
+    let r = run false (drop start line) in
+    let cut = fields-cut (drop start line) o in
+    let le = run-le false (drop start line) in
+    let long = length-drop start line in
+    let size : start + r - start ≡ r = omega arith in
+    record {
+      after = after;
+      starts = omega (arith, cut .0);
+      ends = omega arith;
+      first-of = skips ∙ cut .1 ∙ rw (size, drop-drop r start line);
+    }
+
+-- the reader's answers, of any line and from any index on
+pub field-some : (line : List ℕ) (from start end : ℕ) → fieldAt line from ≡ Part start end → FieldFrom line from start end
+unfolding fieldAt
+field-some line from start end e = by-test (ltb (startOf line from) (length line)) refl e
+  where
+    by-test : (t : Bool) → ltb (startOf line from) (length line) ≡ t → cond t (Part (startOf line from) (endOf line (startOf line from))) End ≡ Part start end → FieldFrom line from start end
+    by-test true h q =
+        let s : startOf line from ≡ start = cc in
+        let z : endOf line (startOf line from) ≡ end = cc in
+        let i = ltb-true (startOf line from) (length line) h in
+        rw (← z, ← s) (from-at line from (startOf line from) (start-after line from) (start-opens line from i) (start-skip line from) i)
+    by-test false h q = let z : _≡_ {A = ℕ} 0 1 = cc in absurd (omega arith)
+
+pub field-none : (line : List ℕ) (from : ℕ) → fieldAt line from ≡ End → fields (drop from line) ≡ []
+unfolding fieldAt
+field-none line from e = by-test (ltb (startOf line from) (length line)) refl e
+  where
+    by-test : (t : Bool) → ltb (startOf line from) (length line) ≡ t → cond t (Part (startOf line from) (endOf line (startOf line from))) End ≡ End → fields (drop from line) ≡ []
+    by-test true h q = let z : _≡_ {A = ℕ} 0 1 = cc in absurd (omega arith)
+    by-test false h q = start-skip line from ∙ ap fields (drop-of-length-le line {i = startOf line from} (ltb-false (startOf line from) (length line) h)) ∙ no-fields
+
+-- what the reader answers, by where the two runs end
+pub reader-ends : (line : List ℕ) (from start : ℕ) → start ≡ from + run true (drop from line) → length line ≤ start → fieldAt line from ≡ End
+unfolding fieldAt startOf
+reader-ends line from start e h = rw (← e, le-ltb start (length line) h)
+
+pub reader-finds :
+    (line : List ℕ) (from start end : ℕ) →
+    start ≡ from + run true (drop from line) →
+    end ≡ start + run false (drop start line) →
+    start < length line →
+    fieldAt line from ≡ Part start end
+unfolding fieldAt startOf endOf
+reader-finds line from start end e z h = rw (← e, lt-ltb start (length line) h, ← z)
+
+-- Fields in a row, of any number: `answer` goes by what the reader answers and `said` by the fields that are left. They fit together
+-- where they do so at the line's end, and behind each field.
+pub in-a-row :
+    {R S : Type 0} (Fits : R → S → Type 0) (line : List ℕ) (from : ℕ) (answer : Field → R) (said : List (List ℕ) → S) →
+    Fits (answer End) (said []) →
+    ((start end : ℕ) → FieldFrom line from start end → Fits (answer (Part start end)) (said (part line start end ∷ fields (drop end line)))) →
+    Fits (answer (fieldAt line from)) (said (fields (drop from line)))
+in-a-row Fits line from answer said none some = by-answer (fieldAt line from) refl
+  where
+    by-answer : (f : Field) → fieldAt line from ≡ f → Fits (answer f) (said (fields (drop from line)))
+    by-answer (Part start end) e = let w = field-some line from start end e in rw (w .first-of) (some start end w)
+    by-answer End e = rw (field-none line from e) none

@@ -1,0 +1,293 @@
+-- Laws of the definitions of specs/Modes.antt: the table of letters, a field read from some byte on, and modes as text. Assumes nothing.
+use mathlib.Core.Path.{_≡_, refl, sym, ap, _∙_}
+use mathlib.Core.Bool.{Bool, true, false, cond, not, _&&_, _||_, or-true, and-false}
+use mathlib.Core.List.{List, [], _∷_, foldl, append-assoc}
+use Prim.Native.Nat.{ℕ, zero, suc, _+_, _-_, _<_, _≤_}
+use native.Mathlib.Numerals.{add-one}
+use native.Mathlib.Omega.{arith}
+use lib.Dec.{eqb, ltb}
+use lib.Bits.{bitAnd, bitOr, or-lt}
+use borrow.Author.Tests.{eqb-true, eq-eqb, ne-eqb, ltb-true, lt-ltb, leb-true}
+use lib.ListN.{length, take, drop, getD, set, length-set, drop-of-length-le}
+use lib.Seq.{drop-cons, drop-nil, take-length, set-split, paste, paste-zero, paste-suc}
+use Rattle.search.specs.Search.{all, entries}
+use Rattle.search.specs.Bytes.{written}
+use Rattle.search.proofs.Laws.{no, and-both, all-at, entries-at, entries-length}
+use Rattle.modes.specs.Modes.{letters, bitAmong, bitOf, allowedByte, modesOf, readModes, has, lettersIn, modesText, ruleLetters, changeLetters, requestLetters, soundLetters, soundLetter}
+use Rattle.modes.specs.declared.Letter.{Letter}
+use Rattle.modes.specs.declared.Access.{Access}
+use Rattle.modes.specs.declared.Access.the-variants.{Modes, Bad}
+
+-- ---- the table of letters
+
+-- the rule of the table, computed once over all of it
+pub letters-rule : soundLetters letters ≡ true
+unfolding all soundLetters
+letters-rule = refl
+
+-- the letters that each place allows
+pub rule-letters : lettersIn letters ruleLetters ≡ 114 ∷ 119 ∷ 120 ∷ 97 ∷ 116 ∷ 98 ∷ []
+rule-letters = refl
+
+pub change-letters : lettersIn letters changeLetters ≡ 114 ∷ 119 ∷ 120 ∷ 97 ∷ 116 ∷ []
+change-letters = refl
+
+pub request-letters : lettersIn letters requestLetters ≡ 114 ∷ 119 ∷ 120 ∷ 97 ∷ []
+request-letters = refl
+
+-- what stands past the table's end
+abbrev pub noLetter : Letter
+noLetter = record { letter = 0; bit = 0 }
+
+abbrev pub letterAt : ℕ → Letter
+letterAt i = getD letters i noLetter
+
+pub letter-rule : (i : ℕ) → i < 6 → soundLetter (letterAt i) ≡ true
+unfolding soundLetters
+letter-rule i h = all-at soundLetter noLetter letters (and-both _ _ letters-rule .0) i h
+
+-- what the rule says of one letter, as facts
+pub sound-parts : (l : Letter) → soundLetter l ≡ true → (97 ≤ l .letter) × (l .letter ≤ 122) × (0 < l .bit) × (l .bit < 64)
+sound-parts l e =
+    let h₁ = and-both _ _ e in
+    let h₂ = and-both _ _ (h₁ .0) in
+    let h₃ = and-both _ _ (h₂ .0) in
+    let h₄ = and-both _ _ (h₃ .0) in
+    (leb-true _ _ (h₄ .0), leb-true _ _ (h₄ .1), ltb-true _ _ (h₃ .1), ltb-true _ _ (h₂ .1))
+
+-- ---- the bit of a byte, searched from the letter i on
+
+module _ (b i : ℕ) (h : i < 6) where
+  pub bit-small : b ≡ letterAt i .letter → bitAmong (drop i letters) b ≡ letterAt i .bit
+  bit-small e = rw (drop-cons letters i noLetter h, eq-eqb b (letterAt i .letter) e)
+
+  pub bit-capital : b ≡ letterAt i .letter - 32 → bitAmong (drop i letters) b ≡ letterAt i .bit
+  bit-capital e = rw (drop-cons letters i noLetter h, eq-eqb b (letterAt i .letter - 32) e, or-true (eqb b (letterAt i .letter)))
+
+  pub bit-later : (b ≡ letterAt i .letter → ⊥) → (b ≡ letterAt i .letter - 32 → ⊥) → bitAmong (drop i letters) b ≡ bitAmong (drop (i + 1) letters) b
+  bit-later n₁ n₂ = rw (add-one i, drop-cons letters i noLetter h, ne-eqb b (letterAt i .letter) n₁, ne-eqb b (letterAt i .letter - 32) n₂)
+
+bit-or : (t : Bool) (l : Letter) (n : ℕ) → soundLetter l ≡ true → n < 64 → cond t (l .bit) n < 64
+bit-or true l n e h = sound-parts l e .3
+bit-or false l n e h = h
+
+among-lt : (ls : List Letter) (b : ℕ) → all soundLetter ls ≡ true → bitAmong ls b < 64
+unfolding all
+among-lt [] b e = omega arith
+among-lt (l ∷ ls) b e =
+    let h = and-both (soundLetter l) (all soundLetter ls) e in
+    bit-or (eqb b (l .letter) || eqb b (l .letter - 32)) l (bitAmong ls b) (h .0) (among-lt ls b (h .1))
+
+pub bit-lt : (b : ℕ) → bitOf b < 64
+unfolding bitOf soundLetters
+bit-lt b = among-lt letters b (and-both _ _ letters-rule .0)
+
+-- ---- a field read from some byte on, with the modes m of the bytes before
+
+abbrev pub joined : ℕ → ℕ → ℕ
+joined m b = bitOr m (bitOf b)
+
+unfoldable pub readFrom : ℕ → Bool → ℕ → List ℕ → Access
+readFrom allowed dash m rest = cond (all (allowedByte allowed dash) rest) (Modes (foldl joined m rest)) Bad
+
+pub read-all : (allowed : ℕ) (dash : Bool) (field : List ℕ) → readModes allowed dash field ≡ readFrom allowed dash 0 field
+unfolding readModes modesOf readFrom
+read-all allowed dash field = refl
+
+pub read-none : (allowed : ℕ) (dash : Bool) (m : ℕ) → readFrom allowed dash m [] ≡ Modes m
+unfolding readFrom all
+read-none allowed dash m = refl
+
+-- one byte of it, whose bit is `bit`, by the tests in their order
+module _ (allowed : ℕ) (dash : Bool) (m : ℕ) (field : List ℕ) (i : ℕ) (h : i < length field) (bit : ℕ) (is : bit ≡ bitOf (getD field i 0)) where
+  read-stop : allowedByte allowed dash (getD field i 0) ≡ false → readFrom allowed dash m (drop i field) ≡ Bad
+  unfolding readFrom all
+  read-stop e = rw (drop-cons field i 0 h, e)
+
+  read-more : allowedByte allowed dash (getD field i 0) ≡ true → readFrom allowed dash m (drop i field) ≡ readFrom allowed dash (bitOr m bit) (drop (i + 1) field)
+  unfolding readFrom all
+  read-more e = rw (add-one i, drop-cons field i 0 h, e, is)
+
+  pub read-letter : (bitAnd bit allowed ≡ 0 → ⊥) → readFrom allowed dash m (drop i field) ≡ readFrom allowed dash (bitOr m bit) (drop (i + 1) field)
+  unfolding allowedByte
+  read-letter n = read-more (rw (← is, ne-eqb (bitAnd bit allowed) 0 n))
+
+  pub read-dash : dash ≡ true → getD field i 0 ≡ 45 → readFrom allowed dash m (drop i field) ≡ readFrom allowed dash (bitOr m bit) (drop (i + 1) field)
+  unfolding allowedByte
+  read-dash d e = read-more (rw (d, eq-eqb (getD field i 0) 45 e) (or-true (not (eqb (bitAnd (bitOf (getD field i 0)) allowed) 0))))
+
+  pub read-no-dash : bitAnd bit allowed ≡ 0 → dash ≡ false → readFrom allowed dash m (drop i field) ≡ Bad
+  unfolding allowedByte
+  read-no-dash z d = read-stop (rw (← is, eq-eqb (bitAnd bit allowed) 0 z, d))
+
+  pub read-other : bitAnd bit allowed ≡ 0 → (getD field i 0 ≡ 45 → ⊥) → readFrom allowed dash m (drop i field) ≡ Bad
+  unfolding allowedByte
+  read-other z n = read-stop (rw (← is, eq-eqb (bitAnd bit allowed) 0 z, ne-eqb (getD field i 0) 45 n) (and-false dash))
+
+-- modes that were read are below 64
+modes-lt : (field : List ℕ) (m : ℕ) → m < 64 → foldl joined m field < 64
+modes-lt [] m h = h
+modes-lt (b ∷ bs) m h = modes-lt bs (joined m b) (or-lt 6 m (bitOf b) h (bit-lt b))
+
+pub modes-small : (allowed : ℕ) (dash : Bool) (field : List ℕ) (m : ℕ) → readModes allowed dash field ≡ Modes m → m < 64
+unfolding readModes modesOf
+modes-small allowed dash field m e = by-test (all (allowedByte allowed dash) field) e
+  where
+    by-test : (t : Bool) → cond t (Modes (foldl joined 0 field)) Bad ≡ Modes m → m < 64
+    by-test true q =
+        let h = modes-lt field 0 (omega arith) in
+        let z : m ≡ foldl joined 0 field = cc in
+        omega arith
+    by-test false q = let z : _≡_ {A = ℕ} 0 1 = cc in absurd (omega arith)
+
+-- ---- modes as text
+
+-- what is true of each number below n by one test, computed at all of them
+pub below : (p : ℕ → Bool) (n : ℕ) → all p (entries (λ (k : ℕ). k) n) ≡ true → (k : ℕ) → k < n → p k ≡ true
+below p n e k h = rw (← entries-at (λ (j : ℕ). j) 0 n k h) (all-at p 0 (entries (λ (j : ℕ). j) n) e k (rw (entries-length (λ (j : ℕ). j) n) h))
+
+-- whether a field was read as m
+abbrev isModes : ℕ → Access → Bool
+isModes m (Modes n) = eqb n m
+isModes m Bad = false
+
+readsBack : ℕ → Bool
+readsBack m = isModes m (readModes ruleLetters true (modesText m)) && ltb 0 (length (modesText m))
+
+all-read-back : all readsBack (entries (λ (k : ℕ). k) 64) ≡ true
+unfolding all entries readsBack readModes allowedByte modesOf bitOf modesText
+all-read-back = refl
+
+is-modes : (m : ℕ) (a : Access) → isModes m a ≡ true → a ≡ Modes m
+is-modes m (Modes n) e = ap Modes (eqb-true n m e)
+is-modes m Bad e = absurd (no e)
+
+-- modes written out are read back
+pub text-read : (m : ℕ) → m < 64 → readModes ruleLetters true (modesText m) ≡ Modes m
+unfolding readsBack
+text-read m h = is-modes m (readModes ruleLetters true (modesText m)) (and-both _ _ (below readsBack 64 all-read-back m h) .0)
+
+pub text-some : (m : ℕ) → m < 64 → 1 ≤ length (modesText m)
+unfolding readsBack
+text-some m h = ltb-true _ _ (and-both (isModes m (readModes ruleLetters true (modesText m))) (ltb 0 (length (modesText m))) (below readsBack 64 all-read-back m h) .1)
+
+among-long : (ls : List Letter) (m : ℕ) → length (lettersIn ls m) ≤ length ls
+among-long [] m = omega arith
+among-long (l ∷ ls) m = by-test (has m (l .bit)) (among-long ls m)
+  where
+    by-test : (t : Bool) → length (lettersIn ls m) ≤ length ls → length (cond t (l .letter ∷ lettersIn ls m) (lettersIn ls m)) ≤ suc (length ls)
+    by-test true h = omega arith
+    by-test false h = omega arith
+
+pub text-long : (m : ℕ) → length (modesText m) ≤ 6
+unfolding modesText
+text-long m = by-test (eqb m 0)
+  where
+    by-test : (t : Bool) → length (cond t (45 ∷ []) (lettersIn letters m)) ≤ 6
+    by-test true = omega arith
+    by-test false = among-long letters m
+
+-- a byte of modes as text: neither a blank nor a newline, and printable
+abbrev pub textByte : ℕ → Bool
+textByte b = ltb 32 b && ltb b 127
+
+among-bytes : (ls : List Letter) (m : ℕ) → all soundLetter ls ≡ true → all textByte (lettersIn ls m) ≡ true
+unfolding all
+among-bytes [] m e = refl
+among-bytes (l ∷ ls) m e = let h = and-both (soundLetter l) (all soundLetter ls) e in by-test (has m (l .bit)) (sound-parts l (h .0)) (among-bytes ls m (h .1))
+  where
+    by-test : (t : Bool) → (97 ≤ l .letter) × (l .letter ≤ 122) × (0 < l .bit) × (l .bit < 64) → all textByte (lettersIn ls m) ≡ true → all textByte (cond t (l .letter ∷ lettersIn ls m) (lettersIn ls m)) ≡ true
+    by-test true p h = rw (lt-ltb 32 (l .letter) (omega arith), lt-ltb (l .letter) 127 (omega arith)) h
+    by-test false p h = h
+
+pub text-bytes : (m : ℕ) → all textByte (modesText m) ≡ true
+unfolding modesText soundLetters all
+text-bytes m = by-test (eqb m 0)
+  where
+    by-test : (t : Bool) → all textByte (cond t (45 ∷ []) (lettersIn letters m)) ≡ true
+    by-test true = refl
+    by-test false = among-bytes letters m (and-both _ _ letters-rule .0)
+
+pub text-byte : (m k : ℕ) → k < length (modesText m) → (32 < getD (modesText m) k 0) × (getD (modesText m) k 0 < 127)
+text-byte m k h =
+    let e = and-both _ _ (all-at textByte 0 (modesText m) (text-bytes m) k h) in
+    (ltb-true _ _ (e .0), ltb-true _ _ (e .1))
+
+-- ---- the letters written from the letter i on
+
+-- a list whose rest from n on begins with x
+pub rest-some : (l : List ℕ) (n x : ℕ) (xs : List ℕ) → drop n l ≡ x ∷ xs → (n < length l) × (getD l n 0 ≡ x) × (drop (n + 1) l ≡ xs)
+rest-some l n x xs e = rw (add-one n) (by-length l n e)
+  where
+    by-length : (l : List ℕ) (n : ℕ) → drop n l ≡ x ∷ xs → (n < length l) × (getD l n 0 ≡ x) × (drop (suc n) l ≡ xs)
+    by-length [] n e = let q : [] ≡ x ∷ xs = sym (drop-nil n) ∙ e in let z : _≡_ {A = ℕ} 0 1 = cc in absurd (omega arith)
+    by-length (y ∷ ys) zero e = (omega arith, (cc), (cc))
+    by-length (y ∷ ys) (suc n) e = let h = by-length ys n e in (omega arith, h .1, h .2)
+
+pub rest-none : (l : List ℕ) (n : ℕ) → drop n l ≡ [] → length l ≤ n
+rest-none [] n e = omega arith
+rest-none (y ∷ ys) zero e = let z : _≡_ {A = ℕ} 0 1 = cc in absurd (omega arith)
+rest-none (y ∷ ys) (suc n) e = let h = rest-none ys n e in omega arith
+
+pub text-none : modesText 0 ≡ 45 ∷ []
+unfolding modesText
+text-none = refl
+
+pub text-letters : (m : ℕ) → (m ≡ 0 → ⊥) → modesText m ≡ lettersIn (drop 0 letters) m
+unfolding modesText
+text-letters m n = rw (ne-eqb m 0 n)
+
+module _ (m i : ℕ) (h : i < 6) where
+  pub letter-in : (bitAnd m (letterAt i .bit) ≡ 0 → ⊥) → lettersIn (drop i letters) m ≡ letterAt i .letter ∷ lettersIn (drop (i + 1) letters) m
+  letter-in n = rw (add-one i, drop-cons letters i noLetter h, ne-eqb (bitAnd m (letterAt i .bit)) 0 n)
+
+  pub letter-out : bitAnd m (letterAt i .bit) ≡ 0 → lettersIn (drop i letters) m ≡ lettersIn (drop (i + 1) letters) m
+  letter-out e = rw (add-one i, drop-cons letters i noLetter h, eq-eqb (bitAnd m (letterAt i .bit)) 0 e)
+
+-- with i letters passed and n bytes written from `at` on, out is out₀ with the first n bytes of the text, and the letters from i on are left
+pub record Wrote (out₀ : List ℕ) (at m : ℕ) (out : List ℕ) (n i : ℕ) : Type 0 where
+  pub passed : n ≤ i
+  pub within : n ≤ length (modesText m)
+  pub kept : length out ≡ length out₀
+  pub left : drop n (modesText m) ≡ lettersIn (drop i letters) m
+  pub written-so-far : out ≡ paste out₀ at (modesText m) n
+
+module _ (out₀ : List ℕ) (at m : ℕ) where
+  pub wrote-none : (m ≡ 0 → ⊥) → Wrote out₀ at m out₀ 0 0
+  wrote-none h = record { passed = omega arith; within = omega arith; kept = refl; left = text-letters m h; written-so-far = paste-zero out₀ at (modesText m) }
+
+  module _ (room : at + 6 ≤ length out₀) (out : List ℕ) (n i : ℕ) (so-far : Wrote out₀ at m out n i) (h : i < 6) (out′ : List ℕ) (n′ : ℕ) where
+    pub wrote-letter : (bitAnd m (letterAt i .bit) ≡ 0 → ⊥) → out′ ≡ set out (at + n) (letterAt i .letter) → n′ ≡ n + 1 → Wrote out₀ at m out′ n′ (i + 1)
+    wrote-letter has-it p q =
+        let r = rest-some (modesText m) n (letterAt i .letter) (lettersIn (drop (i + 1) letters) m) (so-far .left ∙ letter-in m i h has-it) in
+        let fits : at + n < length out₀ = omega (arith, so-far .passed) in
+        rw (p, q)
+        record {
+          passed = omega (arith, so-far .passed);
+          within = omega (arith, r .0);
+          kept = simp length-set (so-far .kept);
+          left = r .2;
+          written-so-far = rw (so-far .written-so-far, ← r .1, add-one n) (paste-suc out₀ at (modesText m) n 0 fits (r .0));
+        }
+
+    pub wrote-other : bitAnd m (letterAt i .bit) ≡ 0 → out′ ≡ out → n′ ≡ n → Wrote out₀ at m out′ n′ (i + 1)
+    wrote-other not-it p q =
+        rw (p, q)
+        record {
+          passed = omega (arith, so-far .passed);
+          within = so-far .within;
+          kept = so-far .kept;
+          left = so-far .left ∙ letter-out m i h not-it;
+          written-so-far = so-far .written-so-far;
+        }
+
+  pub wrote-all : (out : List ℕ) (n i : ℕ) → 6 ≤ i → Wrote out₀ at m out n i → (n ≡ length (modesText m)) × (out ≡ written out₀ at (modesText m))
+  unfolding written
+  wrote-all out n i h w =
+      let none-left = rest-none (modesText m) n (w .left ∙ rw (drop-of-length-le letters {i = i} h)) in
+      let e : n ≡ length (modesText m) = omega (arith, w .within) in
+      (e, rw (w .written-so-far, e, take-length) (append-assoc (take at out₀) (modesText m) (drop (at + length (modesText m)) out₀)))
+
+  pub wrote-dash : m ≡ 0 → at < length out₀ → (1 ≡ length (modesText m)) × (set out₀ at 45 ≡ written out₀ at (modesText m))
+  unfolding written
+  wrote-dash e h = rw (e, text-none) (refl, rw (add-one at) (set-split out₀ at 45 h))

@@ -1,0 +1,255 @@
+-- Laws of the definitions of specs/: decimal numbers, and sets of categories as bits. Assumes nothing.
+use mathlib.Core.Path.{_≡_, refl, sym, ap, _∙_}
+use mathlib.Core.Bool.{Bool, true, false, cond, _&&_, _||_, and-false}
+use mathlib.Core.List.{List, [], _∷_, _++_, foldl}
+use Prim.Native.Nat.{ℕ, zero, suc, _+_, _-_, _*_, _/_, _%_, _^_, _<_, _≤_, max}
+use native.Mathlib.Nat.{add-zero, zero-add, pow-suc, pow-le-pow-right, mod-lt, mul-mod-left, mod-eq-of-lt, one-mul, mul-div-cancel, div-self, div-eq-of-lt}
+use native.Mathlib.Numerals.{add-one}
+use native.Mathlib.Omega.{arith}
+use lib.Dec.{eqb, leb, ltb}
+use lib.Bits.{bitOr, or-step, or-shr, or-lt}
+use lib.Pow.{pow-pos, pow-lt, pow-add, shr-shr}
+use lib.Count.{ones, ones-step}
+use borrow.Author.Tests.{eqb-true, eqb-false, ltb-true, ltb-false, leb-true, le-leb, lt-leb}
+use lib.ListN.{length, drop, getD, length-append}
+use lib.Seq.{drop-cons}
+use Rattle.search.specs.Search.{all, entries}
+use Rattle.search.proofs.Laws.{no, and-both}
+use Rattle.numbers.specs.Numbers.{isDigit, oneMore, numberOf}
+use Rattle.numbers.specs.Categories.{Category, categoryBit, hasCategory, chosen, categories, withCategory}
+use Rattle.numbers.specs.declared.Number.{Number}
+use Rattle.numbers.specs.declared.Number.the-variants.{Value, Bad}
+
+-- ---- a number read from some digit on, with the value v of the digits before
+
+unfoldable pub numberFrom : ℕ → List ℕ → Number
+numberFrom v rest = cond (all isDigit rest) (Value (foldl oneMore v rest)) Bad
+
+pub number-empty : (field : List ℕ) → length field < 1 → numberOf field ≡ Bad
+unfolding numberOf
+number-empty field h = rw (lt-leb 1 (length field) h)
+
+pub number-long : (field : List ℕ) → 3 < length field → numberOf field ≡ Bad
+unfolding numberOf
+number-long field h = rw (lt-leb (length field) 3 h, and-false (leb 1 (length field)))
+
+pub number-all : (field : List ℕ) → 1 ≤ length field → length field ≤ 3 → numberOf field ≡ numberFrom 0 field
+unfolding numberOf numberFrom
+number-all field h₁ h₃ = rw (le-leb 1 (length field) h₁, le-leb (length field) 3 h₃)
+
+pub number-none : (v : ℕ) → numberFrom v [] ≡ Value v
+unfolding numberFrom all
+number-none v = refl
+
+module _ (v : ℕ) (field : List ℕ) (i : ℕ) (h : i < length field) where
+  pub number-below : getD field i 0 < 48 → numberFrom v (drop i field) ≡ Bad
+  unfolding numberFrom all
+  number-below b = rw (drop-cons field i 0 h, lt-leb 48 (getD field i 0) b)
+
+  pub number-above : 57 < getD field i 0 → numberFrom v (drop i field) ≡ Bad
+  unfolding numberFrom all
+  number-above b = rw (drop-cons field i 0 h, lt-leb (getD field i 0) 57 b, and-false (leb 48 (getD field i 0)))
+
+  pub number-more : 48 ≤ getD field i 0 → getD field i 0 ≤ 57 → numberFrom v (drop i field) ≡ numberFrom (oneMore v (getD field i 0)) (drop (i + 1) field)
+  unfolding numberFrom all
+  number-more b₁ b₂ = rw (add-one i, drop-cons field i 0 h, le-leb 48 (getD field i 0) b₁, le-leb (getD field i 0) 57 b₂)
+
+-- one digit more is one place more
+pub one-more-lt : (v b i : ℕ) → v < 10 ^ i → b ≤ 57 → (w : ℕ) → w ≡ oneMore v b → w < 10 ^ (i + 1)
+one-more-lt v b i h k w e = rw (e, add-one i, pow-suc 10 i) (omega arith)
+
+pub three-digits : (v i : ℕ) → i ≤ 3 → v < 10 ^ i → v ≤ 999
+three-digits v i h k = let p : 10 ^ i ≤ 10 ^ 3 = pow-le-pow-right (omega arith) h in omega arith
+
+digits-lt : (field : List ℕ) (v i : ℕ) → all isDigit field ≡ true → v < 10 ^ i → foldl oneMore v field < 10 ^ (i + length field)
+unfolding all
+digits-lt [] v i e h = rw (add-zero i) h
+digits-lt (b ∷ bs) v i e h =
+    let p = and-both (isDigit b) (all isDigit bs) e in
+    let d : b ≤ 57 = leb-true b 57 (and-both (leb 48 b) (leb b 57) (p .0) .1) in
+    let ih = digits-lt bs (oneMore v b) (i + 1) (p .1) (one-more-lt v b i h d (oneMore v b) refl) in
+    let z : i + 1 + length bs ≡ i + suc (length bs) = omega arith in
+    rw z at ih
+
+pub value-small : (field : List ℕ) (v : ℕ) → numberOf field ≡ Value v → v ≤ 999
+unfolding numberOf
+value-small field v e = by-test (leb 1 (length field) && leb (length field) 3 && all isDigit field) refl e
+  where
+    by-test : (t : Bool) → (leb 1 (length field) && leb (length field) 3 && all isDigit field) ≡ t → cond t (Value (foldl oneMore 0 field)) Bad ≡ Value v → v ≤ 999
+    by-test true p q =
+        let h₁ = and-both (leb 1 (length field) && leb (length field) 3) (all isDigit field) p in
+        let h₂ = leb-true (length field) 3 (and-both (leb 1 (length field)) (leb (length field) 3) (h₁ .0) .1) in
+        let z : v ≡ foldl oneMore 0 field = cc in
+        rw z (three-digits (foldl oneMore 0 field) (length field) h₂ (rw (zero-add (length field)) at (digits-lt field 0 0 (h₁ .1) (omega arith))))
+    by-test false p q = let z : _≡_ {A = ℕ} 0 1 = cc in absurd (omega arith)
+
+-- leading zeros are allowed; a fourth digit and a sign are not
+pub leading-zeros : numberOf (48 ∷ 48 ∷ 55 ∷ []) ≡ Value 7
+unfolding numberOf all
+leading-zeros = refl
+
+pub fourth-digit : numberOf (48 ∷ 48 ∷ 48 ∷ 49 ∷ []) ≡ Bad
+unfolding numberOf all
+fourth-digit = refl
+
+pub signed : numberOf (43 ∷ 49 ∷ []) ≡ Bad
+unfolding numberOf all
+signed = refl
+
+-- ---- the bit of a category
+
+-- the digit j of 2 ^ i is set where j is i
+pub bit-same : (i : ℕ) → 2 ^ i / 2 ^ i % 2 ≡ 1
+bit-same i = rw (div-self (pow-pos i))
+
+pub bit-under : (i j : ℕ) → j < i → 2 ^ i / 2 ^ j % 2 ≡ 0
+bit-under i j h =
+    let d : i ≡ suc (i - j - 1) + j = omega arith in
+    let e : 2 ^ i / 2 ^ j ≡ 2 ^ (i - j - 1) * 2 = ap (λ (x : ℕ). 2 ^ x / 2 ^ j) d ∙ rw (pow-add 2 (suc (i - j - 1)) j, mul-div-cancel (2 ^ suc (i - j - 1)) (pow-pos j)) (pow-suc 2 (i - j - 1)) in
+    rw e (mul-mod-left (2 ^ (i - j - 1)) 2)
+
+pub bit-over : (i j : ℕ) → i < j → 2 ^ i / 2 ^ j % 2 ≡ 0
+bit-over i j h = rw (div-eq-of-lt (pow-lt h))
+
+-- a category's bit, made by a shift: below 2 ^ 64, and never bit 0
+module _ (n : ℕ) (h : Category n) where
+  pub category-lt : categoryBit n < 2 ^ 64
+  category-lt = pow-lt {j = 64} (omega arith)
+
+  pub category-even : categoryBit n % 2 ≡ 0
+  category-even = let e : 64 - n ≡ suc (63 - n) = omega arith in rw (e, pow-suc 2 (63 - n)) (mul-mod-left (2 ^ (63 - n)) 2)
+
+  pub category-shift : 1 * 2 ^ (64 - n) % 2 ^ 64 ≡ categoryBit n
+  category-shift = rw (one-mul (2 ^ (64 - n))) (mod-eq-of-lt category-lt)
+
+-- ---- a set with one category more
+
+-- a digit of a union is set where it is set in one of the two
+or-low : (a b : ℕ) → bitOr a b % 2 ≡ max (a % 2) (b % 2)
+or-low a b =
+    let e = or-step a b in
+    omega arith
+
+or-digit : (a b j : ℕ) → bitOr a b / 2 ^ j % 2 ≡ max (a / 2 ^ j % 2) (b / 2 ^ j % 2)
+or-digit a b j = rw (or-shr a b j) (or-low (a / 2 ^ j) (b / 2 ^ j))
+
+either : (x y : ℕ) → x < 2 → y < 2 → eqb (max x y) 1 ≡ (eqb x 1 || eqb y 1)
+either zero zero hx hy = refl
+either zero (suc zero) hx hy = refl
+either (suc zero) zero hx hy = refl
+either (suc zero) (suc zero) hx hy = refl
+either zero (suc (suc y)) hx hy = absurd (omega arith)
+either (suc zero) (suc (suc y)) hx hy = absurd (omega arith)
+either (suc (suc x)) y hx hy = absurd (omega arith)
+
+-- the one category of a category's bit
+pub has-bit : (n k : ℕ) → Category n → Category k → hasCategory (categoryBit n) k ≡ eqb k n
+has-bit n k hn hk = by-test (eqb k n) refl
+  where
+    by-order : (t : Bool) → ltb n k ≡ t → (k ≡ n → ⊥) → categoryBit n / categoryBit k % 2 ≡ 0
+    by-order true e ne = let h = ltb-true n k e in bit-under (64 - n) (64 - k) (omega arith)
+    by-order false e ne = let h = ltb-false n k e in bit-over (64 - n) (64 - k) (omega arith)
+
+    by-test : (t : Bool) → eqb k n ≡ t → hasCategory (categoryBit n) k ≡ t
+    by-test true e = rw (eqb-true k n e, bit-same (64 - n))
+    by-test false e = rw (by-order (ltb n k) refl (eqb-false k n e))
+
+-- the set has the categories that it had, and the one
+pub has-with : (set n k : ℕ) → Category n → Category k → hasCategory (withCategory set n) k ≡ (hasCategory set k || eqb k n)
+unfolding withCategory
+has-with set n k hn hk =
+    ap (λ (x : ℕ). eqb x 1) (or-digit set (categoryBit n) (64 - k))
+    ∙ either (set / categoryBit k % 2) (categoryBit n / categoryBit k % 2) (mod-lt _ (omega arith)) (mod-lt _ (omega arith))
+    ∙ ap (λ (t : Bool). hasCategory set k || t) (has-bit n k hn hk)
+
+pub with-is : (set n : ℕ) → bitOr set (categoryBit n) ≡ withCategory set n
+unfolding withCategory
+with-is set n = refl
+
+pub with-low : (set n : ℕ) → Category n → withCategory set n % 2 ≡ set % 2
+unfolding withCategory
+with-low set n hn =
+    let e = or-low set (categoryBit n) in
+    let z = category-even n hn in
+    omega arith
+
+pub with-lt : (set n : ℕ) → set < 2 ^ 64 → Category n → withCategory set n < 2 ^ 64
+unfolding withCategory
+with-lt set n h hn = or-lt 64 set (categoryBit n) h (category-lt n hn)
+
+-- ---- how many categories a set has
+
+chosen-append : (p : ℕ → Bool) (ns ms : List ℕ) → chosen p (ns ++ ms) ≡ chosen p ns ++ chosen p ms
+chosen-append p [] ms = refl
+chosen-append p (n ∷ ns) ms = by-test (p n) (chosen-append p ns ms)
+  where
+    by-test : (t : Bool) → chosen p (ns ++ ms) ≡ chosen p ns ++ chosen p ms → cond t (n ∷ chosen p (ns ++ ms)) (chosen p (ns ++ ms)) ≡ cond t (n ∷ chosen p ns) (chosen p ns) ++ chosen p ms
+    by-test true e = rw e
+    by-test false e = e
+
+one-digit : (n d : ℕ) → d < 2 → length (cond (eqb d 1) (n ∷ []) []) ≡ d
+one-digit n zero h = refl
+one-digit n (suc zero) h = refl
+one-digit n (suc (suc d)) h = absurd (omega arith)
+
+-- the digits of a set from category m on hold those before
+above : (set m : ℕ) → m < 64 → set / 2 ^ (64 - (m + 1)) / 2 ≡ set / 2 ^ (64 - m)
+above set m h = let e : 64 - (m + 1) + 1 ≡ 64 - m = omega arith in shr-shr set (64 - (m + 1)) 1 ∙ ap (λ (x : ℕ). set / 2 ^ x) e
+
+-- the first m categories are the top m digits
+count-top : (set m : ℕ) → set < 2 ^ 64 → m ≤ 64 → length (chosen (hasCategory set) (entries (λ (k : ℕ). k + 1) m)) ≡ ones (set / 2 ^ (64 - m))
+unfolding entries ones
+count-top set zero h l = rw (div-eq-of-lt h)
+count-top set (suc m) h l =
+    let f : ℕ → ℕ = λ (k : ℕ). k + 1 in
+    let p : ℕ → Bool = hasCategory set in
+    let top : ℕ = set / 2 ^ (64 - (m + 1)) in
+    let ih = count-top set m h (omega arith) in
+    let split : length (chosen p (entries f (suc m))) ≡ length (chosen p (entries f m)) + length (chosen p ((m + 1) ∷ [])) = ap length (chosen-append p (entries f m) ((m + 1) ∷ [])) ∙ length-append (chosen p (entries f m)) (chosen p ((m + 1) ∷ [])) in
+    let last : length (chosen p ((m + 1) ∷ [])) ≡ top % 2 = one-digit (m + 1) (top % 2) (omega arith) in
+    let rest : ones (top / 2) ≡ ones (set / 2 ^ (64 - m)) = ap ones (above set m (omega arith)) in
+    let all-of-it : length (chosen p (entries f (suc m))) ≡ ones top = omega (arith, ones-step top) in
+    all-of-it ∙ ap (λ (x : ℕ). ones (set / 2 ^ (64 - x))) (add-one m)
+
+pub count-ones : (set : ℕ) → set < 2 ^ 64 → ones set ≡ length (categories set) + set % 2
+unfolding categories
+count-ones set h = let e = count-top set 63 h (omega arith) in let s = ones-step set in omega arith
+
+-- a set that has no bit 0 has as many ones as categories
+pub count-exact : (set : ℕ) → set < 2 ^ 64 → set % 2 ≡ 0 → ones set ≡ length (categories set)
+count-exact set h e = let c = count-ones set h in omega arith
+
+-- ---- a set below 2 ^ 64 is its categories and bit 0
+
+same-digit : (x y : ℕ) → x < 2 → y < 2 → eqb x 1 ≡ eqb y 1 → x ≡ y
+same-digit zero zero hx hy e = refl
+same-digit zero (suc zero) hx hy e = absurd (no e)
+same-digit (suc zero) zero hx hy e = absurd (no (sym e))
+same-digit (suc zero) (suc zero) hx hy e = refl
+same-digit zero (suc (suc y)) hx hy e = absurd (omega arith)
+same-digit (suc zero) (suc (suc y)) hx hy e = absurd (omega arith)
+same-digit (suc (suc x)) y hx hy e = absurd (omega arith)
+
+module _ (a b : ℕ) (ha : a < 2 ^ 64) (hb : b < 2 ^ 64) (same : (k : ℕ) → Category k → hasCategory a k ≡ hasCategory b k) where
+  same-top : (m : ℕ) → m ≤ 63 → a / 2 ^ (64 - m) ≡ b / 2 ^ (64 - m)
+  same-top zero l = rw (div-eq-of-lt ha, div-eq-of-lt hb)
+  same-top (suc m) l =
+      let x : ℕ = a / 2 ^ (64 - (m + 1)) in
+      let y : ℕ = b / 2 ^ (64 - (m + 1)) in
+      let ih = same-top m (omega arith) in
+      let halves : x / 2 ≡ y / 2 = above a m (omega arith) ∙ ih ∙ sym (above b m (omega arith)) in
+      let digits : x % 2 ≡ y % 2 = same-digit (x % 2) (y % 2) (omega arith) (omega arith) (same (m + 1) (omega arith, omega arith)) in
+      let e : x ≡ y = omega arith in
+      rw (← add-one m) e
+
+  pub same-set : a % 2 ≡ b % 2 → a ≡ b
+  same-set low = let top = same-top 63 (omega arith) in omega arith
+
+pub no-categories : categories 0 ≡ []
+unfolding categories entries
+no-categories = refl
+
+-- 01, P12: the categories 1 and 63
+pub first-and-last : categories (withCategory (withCategory 0 1) 63) ≡ 1 ∷ 63 ∷ []
+unfolding categories withCategory entries
+first-and-last = refl

@@ -1,0 +1,21 @@
+-- 01, Single writes, Mapping: the decimal numbers of levels and categories. Assumes nothing.
+use Prim.Native.Nat.{ℕ, _+_, _-_, _*_}
+use mathlib.Core.Bool.{Bool, cond, _&&_}
+use mathlib.Core.List.{List, foldl}
+use lib.ListN.{length}
+use lib.Dec.{leb}
+use Rattle.search.specs.Search.{all}
+use Rattle.numbers.specs.declared.Number.{Number}
+use Rattle.numbers.specs.declared.Number.the-variants.{Value, Bad}
+
+-- an ASCII digit
+abbrev pub isDigit : ℕ → Bool
+isDigit b = leb 48 b && leb b 57
+
+-- a number read so far and one more digit
+abbrev pub oneMore : ℕ → ℕ → ℕ
+oneMore v b = v * 10 + (b - 48)
+
+-- 1 to 3 digits, leading zeros allowed; any other field is no number
+unfoldable pub numberOf : List ℕ → Number
+numberOf field = cond (leb 1 (length field) && leb (length field) 3 && all isDigit field) (Value (foldl oneMore 0 field)) Bad

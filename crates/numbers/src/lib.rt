@@ -1,0 +1,71 @@
+// The decimal numbers of levels and categories, and a set of categories as bits of a u64 (01, Mapping).
+ghost use mathlib.Core.Path.{_≡_};
+ghost use Prim.Native.Nat.{_+_, _%_};
+ghost use lib.ListN.{length};
+ghost use Rattle.numbers.specs.Numbers.{numberOf};
+ghost use Rattle.numbers.specs.Categories.{Category, categoryBit, categories, withCategory};
+
+// What reading a number answers: its value, or that the field is none.
+pub enum Number {
+    Value(u64),
+    Bad,
+}
+
+// A digit's value as wide as the number's.
+fn wide(digit: u8) -> u64
+    ensures { λ r. ⌜ r ≡ digit ⌝ }
+{
+    digit as u64
+}
+
+// The value of a field of 1 to 3 digits.
+pub fn read_number(field: &[u8]) -> Number
+    ensures { λ r. ⌜ r ≡ numberOf (now (field .entry)) ⌝ }
+{
+    if field.len() < 1 {
+        return Number::Bad;
+    }
+    if field.len() > 3 {
+        return Number::Bad;
+    }
+    let mut value = 0;
+    let mut i = 0;
+    while i < field.len() {
+        let b = field[i];
+        if b < 48 {
+            return Number::Bad;
+        }
+        if b > 57 {
+            return Number::Bad;
+        }
+        value = value * 10 + wide(b - 48);
+        i += 1;
+    }
+    Number::Value(value)
+}
+
+// The bit of a category, never bit 0. Who calls it has made sure that it is one of the 63: a mapping's categories are checked as they are read.
+pub fn category_bit(n: u64) -> u64
+    requires { ⌜ Category n ⌝ }
+    ensures { λ r. ⌜ r ≡ categoryBit n ⌝ }
+    ensures { λ r. ⌜ r % 2 ≡ 0 ⌝ }
+{
+    1 << (64 - n)
+}
+
+// A set with one category more, and bit 0 as it was. Who calls it has made sure that it is one of the 63, as for `category_bit`.
+pub fn with_category(set: u64, n: u64) -> u64
+    requires { ⌜ Category n ⌝ }
+    ensures { λ r. ⌜ r ≡ withCategory set n ⌝ }
+    ensures { λ r. ⌜ r % 2 ≡ set % 2 ⌝ }
+{
+    set | category_bit(n)
+}
+
+// How many categories are in a set: its ones, of which bit 0, where it is set, is none.
+pub fn category_count(set: u64) -> u32
+    ensures { λ r. ⌜ r ≡ length (categories set) + set % 2 ⌝ }
+    ensures { λ r. ⌜ (set % 2 ≡ 0 → r ≡ length (categories set)) ⌝ }
+{
+    u64::count_ones(set)
+}

@@ -1,0 +1,163 @@
+-- `writes::change` meets its contract, by what the write says. Assumes nothing.
+use mathlib.Core.Path.{_≡_, sym, _∙_, ap}
+use mathlib.Core.Bool.{true}
+use borrow.Author.Tests.{not-true, not-false}
+use mathlib.Core.List.{List}
+use Prim.Native.Nat.{ℕ}
+use Rattle.store.specs.Layout.{store, undamagedOf}
+use Rattle.lines.specs.Lines.{change, changeOf, at, changeSaid, ChangeInside}
+use Rattle.lines.specs.declared.ChangeLine.{ChangeLine}
+use Rattle.lines.specs.declared.ChangeLine.the-variants as x
+use Rattle.lines.proofs.Formed.{Formed, change-formed, formed-as}
+use Rattle.writes.specs.Writes.{changeAnswer, changeStore}
+use borrow.Author.Needs.{needs}
+use native.Mathlib.Omega.{arith}
+use Rattle.writes.proofs.Laws.{said-change, inside-change, formed-short}
+use Rattle.writes.proofs.change.Statement.{statement}
+use Rattle.writes.proofs.change.Tie as tie
+
+-- the state is undamaged
+tested : (c : tie.Else1) → undamagedOf (store (c .before .before .before .before .before .before .before .before .before .args .labels .now) (c .before .before .before .before .before .before .before .before .before .args .entries .now) (c .before .before .before .before .before .before .before .before .before .args .words .now)) ≡ true
+tested c = sym (c .before .undamaged .ensures) ∙ not-false _ (c .if1 .left)
+
+-- where the write is a change: what it says, that its labels stand in it, and that they are well formed
+module _ (c : tie.After-known-told2) where
+  abbrev S : tie.Start
+  S = c .before .before .before .before .before .before .before .before .before .before .before .before .before
+
+  abbrev subject : List ℕ
+  subject = at (S .args .text .now) (c .before .said2 .given .0 .0 .subject)
+
+  abbrev object : List ℕ
+  object = at (S .args .text .now) (c .before .said2 .given .0 .0 .object)
+
+  says : changeOf (S .args .text .now) ≡ change subject object (c .before .said2 .given .0 .1 .0) (c .before .said2 .given .0 .1 .1 .0)
+  says = said-change (S .args .text .now) (c .before .before .before .change-line .ensures .1 .0) (c .before .said2 .given .1)
+
+  inside : ChangeInside (S .args .text .now) (x.Change (c .before .said2 .given .0 .0) (c .before .said2 .given .0 .1 .0) (c .before .said2 .given .0 .1 .1 .0))
+  inside = inside-change (S .args .text .now) (c .before .before .before .change-line .ensures .1 .1) (c .before .said2 .given .1)
+
+  formed : Formed subject object
+  formed = formed-as (change-formed (S .args .text .now)) says .0
+
+undamaged-requires : tie.Need-undamaged-requires
+undamaged-requires c κs = search needs
+
+same-length : tie.Need-same-length
+same-length c = search needs
+
+same-length-2 : tie.Need-same-length-2
+same-length-2 c = search needs
+
+same-length-3 : tie.Need-same-length-3
+same-length-3 c = search needs
+
+returns : tie.Need-returns
+unfolding changeAnswer changeStore
+returns c =
+    let e = sym (c .before .undamaged .ensures) ∙ not-true _ (c .if1 .taken) in
+    (rw e, rw e)
+
+change-line-requires : tie.Need-change-line-requires
+change-line-requires c κs = search needs
+
+enum-known-said : tie.Need-enum-known-said
+enum-known-said c = search needs
+
+enum-known-said-2 : tie.Need-enum-known-said-2
+enum-known-said-2 c = search needs
+
+sub-place-change : tie.Need-sub-place-change
+sub-place-change c =
+    let i = inside (c .before .before .before) in
+    omega (arith, i .0 .starts)
+
+part-place-change-start : tie.Need-part-place-change-start
+part-place-change-start c =
+    let i = inside (c .before .before .before) in
+    omega (arith, i .0 .starts)
+
+part-place-change-end : tie.Need-part-place-change-end
+part-place-change-end c =
+    let i = inside (c .before .before .before) in
+    omega (arith, i .0 .ends)
+
+sub-place-change-2 : tie.Need-sub-place-change-2
+sub-place-change-2 c =
+    let i = inside (c .before .before .before .before) in
+    omega (arith, i .1 .starts)
+
+part-place-change-start-2 : tie.Need-part-place-change-start-2
+part-place-change-start-2 c =
+    let i = inside (c .before .before .before .before) in
+    omega (arith, i .1 .starts)
+
+part-place-change-end-2 : tie.Need-part-place-change-end-2
+part-place-change-end-2 c =
+    let i = inside (c .before .before .before .before) in
+    omega (arith, i .1 .ends)
+
+place-change-requires : tie.Need-place-change-requires
+place-change-requires c κs =
+    let f = formed (c .before .before .before .before .before) in
+    (tested (c .before .before .before .before .before .before .before .before .before), formed-short _ (f .subject), formed-short _ (f .object))
+
+same-length-4 : tie.Need-same-length-4
+same-length-4 c = search needs
+
+same-length-5 : tie.Need-same-length-5
+same-length-5 c = search needs
+
+same-length-6 : tie.Need-same-length-6
+same-length-6 c = search needs
+
+returns-2 : tie.Need-returns-2
+unfolding changeAnswer changeStore
+returns-2 c =
+    let u = tested (c .before .before .before .before) in
+    let e = sym (c .before .before .before .change-line .ensures .1 .0) ∙ ap (λ (y : ChangeLine). changeSaid (c .before .before .before .before .before .before .before .before .before .before .before .before .before .args .text .now) y) (c .before .said .given .1) in
+    (rw (u, e), rw (u, e))
+
+same-length-7 : tie.Need-same-length-7
+same-length-7 c = search needs
+
+same-length-8 : tie.Need-same-length-8
+same-length-8 c = search needs
+
+same-length-9 : tie.Need-same-length-9
+same-length-9 c = search needs
+
+returns-3 : tie.Need-returns-3
+unfolding changeAnswer changeStore
+returns-3 c =
+    let u = tested (c .before .before .before .before .before .before .before .before .before .before .before .before .before .before .before .before) in
+    let e = says (c .before .before .before .before .before .before .before .before .before .before .before .before) in
+    (rw (u, e) (c .before .before .before .before .before .before .place-change .ensures .0), rw (u, e) (c .before .before .before .before .before .before .place-change .ensures .1))
+
+pub change-spec : {M : Type 1} → statement M
+change-spec =
+    tie.close
+    (tie.spec
+    undamaged-requires
+    same-length
+    same-length-2
+    same-length-3
+    returns
+    change-line-requires
+    enum-known-said
+    enum-known-said-2
+    sub-place-change
+    part-place-change-start
+    part-place-change-end
+    sub-place-change-2
+    part-place-change-start-2
+    part-place-change-end-2
+    place-change-requires
+    same-length-4
+    same-length-5
+    same-length-6
+    returns-2
+    same-length-7
+    same-length-8
+    same-length-9
+    returns-3)
