@@ -1,24 +1,18 @@
--- What a line's answer says is what its fields say, for rule lines and change-rule writes; and the answer by the tests in their order.
--- Assumes nothing.
-use mathlib.Core.Path.{_≡_, refl, sym, ap, _∙_}
-use mathlib.Core.Bool.{Bool, true, false, cond, _&&_, and-false}
+-- What an answer says is what the line's fields say, and what is said is sound, for rule lines and change-rule writes. Assumes nothing.
+use mathlib.Core.Path.{_≡_, refl}
+use mathlib.Core.Bool.{Bool, true, false, cond, _&&_}
 use mathlib.Core.List.{List, [], _∷_}
-use Prim.Native.Nat.{ℕ, _<_, _≤_}
-use native.Mathlib.Omega.{arith}
+use Prim.Native.Nat.{ℕ, _<_}
 use lib.Dec.{ltb}
-use lib.ListN.{length, drop}
-use borrow.Author.Tests.{lt-ltb, le-ltb}
+use lib.ListN.{length}
 use Rattle.search.specs.Bytes.{sameBytes}
-use Rattle.search.specs.declared.Found.the-variants.{At, Nothing}
-use Rattle.alphabet.specs.Alphabet.{wellFormed, faultOf, fields, fieldAt, part}
-use Rattle.alphabet.specs.declared.Field.{Field}
-use Rattle.alphabet.specs.declared.Field.the-variants.{Part, End}
-use Rattle.alphabet.proofs.Laws.{FieldFrom, field-some, in-a-row, fault-formed, fault-unformed}
+use Rattle.alphabet.specs.Alphabet.{wellFormed, fields, fieldAt, part}
+use Rattle.alphabet.proofs.Laws.{FieldFrom, in-a-row}
 use Rattle.modes.specs.Modes.{readModes, ruleLetters, changeLetters}
 use Rattle.modes.specs.declared.Access.{Access}
 use Rattle.modes.specs.declared.Access.the-variants.{Modes, Bad}
 use Rattle.modes.proofs.Laws.{modes-small}
-use Rattle.lines.specs.Lines.{Said, skipped, refused, rule, change, ruleWith, ruleBy, ruleFields, ruleOf, changeWith, changeBy, changeFields, changeOf, at, span, pair, ruleSaid, changeSaid, SpanInside, RuleInside, ChangeInside, ruleAtAccess, ruleAtLabels, ruleAtFourth, ruleAtThird, ruleAtSecond, ruleAtFirst, ruleLineAt, changeAtAccess, changeAtLabels, changeAtFifth, changeAtFourth, changeAtThird, changeAtSecond, changeAtFirst, changeLineAt}
+use Rattle.lines.specs.Lines.{lineLimit, Said, skipped, refused, rule, change, ruleWith, ruleBy, ruleFields, ruleOf, changeWith, changeBy, changeFields, changeOf, span, pair, ruleSaid, changeSaid, SpanInside, RuleInside, ChangeInside, ruleAtAccess, ruleAtLabels, ruleAtFourth, ruleAtThird, ruleAtSecond, ruleAtFirst, ruleLineAt, changeAtAccess, changeAtLabels, changeAtFifth, changeAtFourth, changeAtThird, changeAtSecond, changeAtFirst, changeLineAt}
 use Rattle.lines.specs.declared.RuleLine.{RuleLine}
 use Rattle.lines.specs.declared.RuleLine.the-variants as ruled
 use Rattle.lines.specs.declared.ChangeLine.{ChangeLine}
@@ -27,6 +21,89 @@ use Rattle.lines.specs.declared.ChangeLine.the-variants as changed
 -- a field that was read stands inside the line
 pub inside : {line : List ℕ} {from start end : ℕ} → FieldFrom line from start end → SpanInside line (span start end)
 inside w = record { starts = w .starts; ends = w .ends }
+
+-- ---- what is said
+
+-- labels that were taken: both well formed, and not the same
+pub record Taken (s o : List ℕ) : Type 0 where
+  pub subject : wellFormed s ≡ true
+  pub object : wellFormed o ≡ true
+  pub apart : sameBytes s o ≡ false
+
+-- what is said names such labels alone, and modes below 64
+abbrev pub Sound : Said → Type 0
+Sound skipped = Unit {0}
+Sound (refused n) = Unit {0}
+Sound (rule s o m) = Taken s o × (m < 64)
+Sound (change s o a d) = Taken s o × (a < 64) × (d < 64)
+
+-- said of two labels: refused, or taken with what holds of the modes
+module _ (s o : List ℕ) (said : Said) where
+  taken-or : (Taken s o → Sound said) → wellFormed s ≡ true → wellFormed o ≡ true → Sound (cond (sameBytes s o) (refused 5) said)
+  taken-or h e i = by-test (sameBytes s o) refl
+    where
+      by-test : (t : Bool) → sameBytes s o ≡ t → Sound (cond t (refused 5) said)
+      by-test true z = tt
+      by-test false z = h (record { subject = e; object = i; apart = z })
+
+  formed-or : (wellFormed s ≡ true → wellFormed o ≡ true → Sound said) → Sound (cond (wellFormed s && wellFormed o) said (refused 3))
+  formed-or h = by-test (wellFormed s) refl (wellFormed o) refl
+    where
+      by-test : (p : Bool) → wellFormed s ≡ p → (q : Bool) → wellFormed o ≡ q → Sound (cond (p && q) said (refused 3))
+      by-test true e true i = h e i
+      by-test true e false i = tt
+      by-test false e q i = tt
+
+limit-or : (n : ℕ) (said : Said) → Sound said → Sound (cond (ltb lineLimit n) (refused 1) said)
+limit-or n said h = by-test (ltb lineLimit n)
+  where
+    by-test : (t : Bool) → Sound (cond t (refused 1) said)
+    by-test true = tt
+    by-test false = h
+
+rule-fields-sound : (fs : List (List ℕ)) → Sound (ruleFields fs)
+unfolding ruleBy
+rule-fields-sound [] = tt
+rule-fields-sound (s ∷ []) = tt
+rule-fields-sound (s ∷ o ∷ []) = tt
+rule-fields-sound (s ∷ o ∷ a ∷ []) =
+    formed-or s o (ruleWith s o (readModes ruleLetters true a)) (by-access (readModes ruleLetters true a) (modes-small ruleLetters true a))
+  where
+    by-access : (x : Access) → ((m : ℕ) → x ≡ Modes m → m < 64) → wellFormed s ≡ true → wellFormed o ≡ true → Sound (ruleWith s o x)
+    by-access (Modes m) h e i = taken-or s o (rule s o m) (λ t. (t, h m refl)) e i
+    by-access Bad h e i = tt
+rule-fields-sound (s ∷ o ∷ a ∷ x ∷ more) = tt
+
+pub rule-sound : (line : List ℕ) → Sound (ruleOf line)
+unfolding ruleOf
+rule-sound line = limit-or (length line) (ruleFields (fields line)) (rule-fields-sound (fields line))
+
+change-fields-sound : (fs : List (List ℕ)) → Sound (changeFields fs)
+unfolding changeBy
+change-fields-sound [] = tt
+change-fields-sound (s ∷ []) = tt
+change-fields-sound (s ∷ o ∷ []) = tt
+change-fields-sound (s ∷ o ∷ a ∷ []) = tt
+change-fields-sound (s ∷ o ∷ a ∷ d ∷ []) =
+    formed-or s o (changeWith s o (readModes changeLetters true a) (readModes changeLetters true d))
+    (by-access (readModes changeLetters true a) (modes-small changeLetters true a) (readModes changeLetters true d) (modes-small changeLetters true d))
+  where
+    by-access :
+        (x : Access) →
+        ((m : ℕ) → x ≡ Modes m → m < 64) →
+        (y : Access) →
+        ((n : ℕ) → y ≡ Modes n → n < 64) →
+        wellFormed s ≡ true →
+        wellFormed o ≡ true →
+        Sound (changeWith s o x y)
+    by-access (Modes m) h (Modes n) k e i = taken-or s o (change s o m n) (λ t. (t, h m refl, k n refl)) e i
+    by-access (Modes m) h Bad k e i = tt
+    by-access Bad h y k e i = tt
+change-fields-sound (s ∷ o ∷ a ∷ d ∷ x ∷ more) = tt
+
+pub change-sound : (line : List ℕ) → Sound (changeOf line)
+unfolding changeOf
+change-sound line = limit-or (length line) (changeFields (fields line)) (change-fields-sound (fields line))
 
 -- ---- a rule line
 
@@ -67,11 +144,15 @@ module _ (line : List ℕ) where
 
   pub rule-right : RightRule line (ruleLineAt line) (ruleOf line)
   unfolding ruleLineAt ruleOf
-  rule-right = by-test (ltb 600 (length line))
+  rule-right = by-test (ltb lineLimit (length line))
     where
       by-test : (t : Bool) → RightRule line (cond t (ruled.Refused 1) (ruleAtFirst line (fieldAt line 0))) (cond t (refused 1) (ruleFields (fields line)))
       by-test true = (refl, tt)
       by-test false = rule-first
+
+  -- an answer that names labels names such as are taken
+  pub rule-told : (x : RuleLine) → x ≡ ruleLineAt line → Sound (ruleSaid line x)
+  rule-told x e = rw (e, rule-right .0) (rule-sound line)
 
   -- the answer meets its contract
   pub rule-meets : (x : RuleLine) → ruleLineAt line ≡ x → (x ≡ ruleLineAt line) × RightRule line x (ruleOf line)
@@ -121,184 +202,15 @@ module _ (line : List ℕ) where
 
   pub change-right : RightChange line (changeLineAt line) (changeOf line)
   unfolding changeLineAt changeOf
-  change-right = by-test (ltb 600 (length line))
+  change-right = by-test (ltb lineLimit (length line))
     where
       by-test : (t : Bool) → RightChange line (cond t (changed.Refused 1) (changeAtFirst line (fieldAt line 0))) (cond t (refused 1) (changeFields (fields line)))
       by-test true = (refl, tt)
       by-test false = change-first
 
+  pub change-told : (x : ChangeLine) → x ≡ changeLineAt line → Sound (changeSaid line x)
+  change-told x e = rw (e, change-right .0) (change-sound line)
+
   -- the answer meets its contract
   pub change-meets : (x : ChangeLine) → changeLineAt line ≡ x → (x ≡ changeLineAt line) × RightChange line x (changeOf line)
   change-meets x e = rw (← e) (refl, change-right)
-
--- ---- the answers, by the tests in their order
-
--- a test of two labels, by the faults that were found
-unformed-first : {A : Type 0} (x y : A) (s o : List ℕ) (k : ℕ) → faultOf s ≡ At k → cond (wellFormed s && wellFormed o) x y ≡ y
-unformed-first x y s o k e = rw (fault-unformed s k e)
-
-unformed-second : {A : Type 0} (x y : A) (s o : List ℕ) (k : ℕ) → faultOf o ≡ At k → cond (wellFormed s && wellFormed o) x y ≡ y
-unformed-second x y s o k e = rw (fault-unformed o k e, and-false (wellFormed s))
-
-formed-both : {A : Type 0} (x y : A) (s o : List ℕ) → faultOf s ≡ Nothing → faultOf o ≡ Nothing → cond (wellFormed s && wellFormed o) x y ≡ x
-formed-both x y s o e i = rw (fault-formed s e, fault-formed o i)
-
--- the first fields of a line that is not too long, as the reader gives them
-pub record One (line : List ℕ) (a b : ℕ) : Type 0 where
-  pub short : length line ≤ 600
-  pub field : fieldAt line 0 ≡ Part a b
-
-pub record Two (line : List ℕ) (a b c d : ℕ) : Type 0 where
-  pub first : One line a b
-  pub field : fieldAt line b ≡ Part c d
-
-pub record Three (line : List ℕ) (a b c d e f : ℕ) : Type 0 where
-  pub first : Two line a b c d
-  pub field : fieldAt line d ≡ Part e f
-
-pub in-one : {line : List ℕ} {a b : ℕ} → One line a b → SpanInside line (span a b)
-in-one {line} {a} {b} w = inside (field-some line 0 a b (w .field))
-
-pub in-two : {line : List ℕ} {a b c d : ℕ} → Two line a b c d → SpanInside line (span c d)
-in-two {line} {a} {b} {c} {d} w = inside (field-some line b c d (w .field))
-
-pub in-three : {line : List ℕ} {a b c d e f : ℕ} → Three line a b c d e f → SpanInside line (span e f)
-in-three {line} {a} {b} {c} {d} {e} {f} w = inside (field-some line d e f (w .field))
-
--- a rule line
-pub rule-long : (line : List ℕ) → 600 < length line → ruleLineAt line ≡ ruled.Refused 1
-unfolding ruleLineAt
-rule-long line h = rw (lt-ltb 600 (length line) h)
-
-module _ (line : List ℕ) (short : length line ≤ 600) where
-  rule-short : ruleLineAt line ≡ ruleAtFirst line (fieldAt line 0)
-  unfolding ruleLineAt
-  rule-short = rw (le-ltb 600 (length line) short)
-
-  pub rule-none : fieldAt line 0 ≡ End → ruleLineAt line ≡ ruled.Skipped
-  rule-none e = rule-short ∙ ap (ruleAtFirst line) e
-
-module _ {line : List ℕ} {a b : ℕ} (w : One line a b) where
-  rule-second : ruleLineAt line ≡ ruleAtSecond line a b (fieldAt line b)
-  rule-second = rule-short line (w .short) ∙ ap (ruleAtFirst line) (w .field)
-
-  pub rule-one : fieldAt line b ≡ End → ruleLineAt line ≡ ruled.Refused 2
-  rule-one e = rule-second ∙ ap (ruleAtSecond line a b) e
-
-module _ {line : List ℕ} {a b c d : ℕ} (w : Two line a b c d) where
-  rule-third : ruleLineAt line ≡ ruleAtThird line (pair a b c d) (fieldAt line d)
-  rule-third = rule-second (w .first) ∙ ap (ruleAtSecond line a b) (w .field)
-
-  pub rule-two : fieldAt line d ≡ End → ruleLineAt line ≡ ruled.Refused 2
-  rule-two e = rule-third ∙ ap (ruleAtThird line (pair a b c d)) e
-
-module _ {line : List ℕ} {a b c d e f : ℕ} (w : Three line a b c d e f) where
-  rule-fourth : ruleLineAt line ≡ ruleAtFourth line (pair a b c d) (span e f) (fieldAt line f)
-  rule-fourth = rule-third (w .first) ∙ ap (ruleAtThird line (pair a b c d)) (w .field)
-
-  pub rule-four : {g h : ℕ} → fieldAt line f ≡ Part g h → ruleLineAt line ≡ ruled.Refused 2
-  rule-four x = rule-fourth ∙ ap (ruleAtFourth line (pair a b c d) (span e f)) x
-
-  module _ (ends : fieldAt line f ≡ End) where
-    abbrev access : Access
-    access = readModes ruleLetters true (part line e f)
-
-    rule-three : ruleLineAt line ≡ ruleAtLabels line (pair a b c d) (span e f)
-    rule-three = rule-fourth ∙ ap (ruleAtFourth line (pair a b c d) (span e f)) ends
-
-    pub rule-subject : {k : ℕ} → faultOf (part line a b) ≡ At k → ruleLineAt line ≡ ruled.Refused 3
-    rule-subject {k} x = rule-three ∙ unformed-first (ruleAtAccess line (pair a b c d) access) (ruled.Refused 3) (part line a b) (part line c d) k x
-
-    pub rule-object : {k : ℕ} → faultOf (part line c d) ≡ At k → ruleLineAt line ≡ ruled.Refused 3
-    rule-object {k} x = rule-three ∙ unformed-second (ruleAtAccess line (pair a b c d) access) (ruled.Refused 3) (part line a b) (part line c d) k x
-
-    module _ (s : faultOf (part line a b) ≡ Nothing) (o : faultOf (part line c d) ≡ Nothing) where
-      rule-formed : ruleLineAt line ≡ ruleAtAccess line (pair a b c d) access
-      rule-formed = rule-three ∙ formed-both (ruleAtAccess line (pair a b c d) access) (ruled.Refused 3) (part line a b) (part line c d) s o
-
-      pub rule-bad : access ≡ Bad → ruleLineAt line ≡ ruled.Refused 4
-      rule-bad x = rule-formed ∙ ap (ruleAtAccess line (pair a b c d)) x
-
-      pub rule-judged : {m : ℕ} {t : Bool} → access ≡ Modes m → sameBytes (part line a b) (part line c d) ≡ t → ruleLineAt line ≡ cond t (ruled.Refused 5) (ruled.Rule (pair a b c d) m)
-      rule-judged {m} x z = rule-formed ∙ ap (ruleAtAccess line (pair a b c d)) x ∙ ap (λ (u : Bool). cond u (ruled.Refused 5) (ruled.Rule (pair a b c d) m)) z
-
--- a change-rule write
-pub record Four (line : List ℕ) (a b c d e f g h : ℕ) : Type 0 where
-  pub first : Three line a b c d e f
-  pub field : fieldAt line f ≡ Part g h
-
-pub in-four : {line : List ℕ} {a b c d e f g h : ℕ} → Four line a b c d e f g h → SpanInside line (span g h)
-in-four {line} {a} {b} {c} {d} {e} {f} {g} {h} w = inside (field-some line f g h (w .field))
-
-pub change-long : (line : List ℕ) → 600 < length line → changeLineAt line ≡ changed.Refused 1
-unfolding changeLineAt
-change-long line h = rw (lt-ltb 600 (length line) h)
-
-module _ (line : List ℕ) (short : length line ≤ 600) where
-  change-short : changeLineAt line ≡ changeAtFirst line (fieldAt line 0)
-  unfolding changeLineAt
-  change-short = rw (le-ltb 600 (length line) short)
-
-  pub change-none : fieldAt line 0 ≡ End → changeLineAt line ≡ changed.Refused 2
-  change-none e = change-short ∙ ap (changeAtFirst line) e
-
-module _ {line : List ℕ} {a b : ℕ} (w : One line a b) where
-  change-second : changeLineAt line ≡ changeAtSecond line a b (fieldAt line b)
-  change-second = change-short line (w .short) ∙ ap (changeAtFirst line) (w .field)
-
-  pub change-one : fieldAt line b ≡ End → changeLineAt line ≡ changed.Refused 2
-  change-one x = change-second ∙ ap (changeAtSecond line a b) x
-
-module _ {line : List ℕ} {a b c d : ℕ} (w : Two line a b c d) where
-  change-third : changeLineAt line ≡ changeAtThird line (pair a b c d) (fieldAt line d)
-  change-third = change-second (w .first) ∙ ap (changeAtSecond line a b) (w .field)
-
-  pub change-two : fieldAt line d ≡ End → changeLineAt line ≡ changed.Refused 2
-  change-two x = change-third ∙ ap (changeAtThird line (pair a b c d)) x
-
-module _ {line : List ℕ} {a b c d e f : ℕ} (w : Three line a b c d e f) where
-  change-fourth : changeLineAt line ≡ changeAtFourth line (pair a b c d) (span e f) (fieldAt line f)
-  change-fourth = change-third (w .first) ∙ ap (changeAtThird line (pair a b c d)) (w .field)
-
-  pub change-three : fieldAt line f ≡ End → changeLineAt line ≡ changed.Refused 2
-  change-three x = change-fourth ∙ ap (changeAtFourth line (pair a b c d) (span e f)) x
-
-module _ {line : List ℕ} {a b c d e f g h : ℕ} (w : Four line a b c d e f g h) where
-  change-fifth : changeLineAt line ≡ changeAtFifth line (pair a b c d) (span e f) (span g h) (fieldAt line h)
-  change-fifth = change-fourth (w .first) ∙ ap (changeAtFourth line (pair a b c d) (span e f)) (w .field)
-
-  pub change-five : {i j : ℕ} → fieldAt line h ≡ Part i j → changeLineAt line ≡ changed.Refused 2
-  change-five x = change-fifth ∙ ap (changeAtFifth line (pair a b c d) (span e f) (span g h)) x
-
-  module _ (ends : fieldAt line h ≡ End) where
-    abbrev allow : Access
-    allow = readModes changeLetters true (part line e f)
-
-    abbrev deny : Access
-    deny = readModes changeLetters true (part line g h)
-
-    change-four : changeLineAt line ≡ changeAtLabels line (pair a b c d) (span e f) (span g h)
-    change-four = change-fifth ∙ ap (changeAtFifth line (pair a b c d) (span e f) (span g h)) ends
-
-    pub change-subject : {k : ℕ} → faultOf (part line a b) ≡ At k → changeLineAt line ≡ changed.Refused 3
-    change-subject {k} x = change-four ∙ unformed-first (changeAtAccess line (pair a b c d) allow deny) (changed.Refused 3) (part line a b) (part line c d) k x
-
-    pub change-object : {k : ℕ} → faultOf (part line c d) ≡ At k → changeLineAt line ≡ changed.Refused 3
-    change-object {k} x = change-four ∙ unformed-second (changeAtAccess line (pair a b c d) allow deny) (changed.Refused 3) (part line a b) (part line c d) k x
-
-    module _ (s : faultOf (part line a b) ≡ Nothing) (o : faultOf (part line c d) ≡ Nothing) where
-      change-formed : changeLineAt line ≡ changeAtAccess line (pair a b c d) allow deny
-      change-formed = change-four ∙ formed-both (changeAtAccess line (pair a b c d) allow deny) (changed.Refused 3) (part line a b) (part line c d) s o
-
-      pub change-bad-allow : allow ≡ Bad → changeLineAt line ≡ changed.Refused 4
-      change-bad-allow x = change-formed ∙ ap (λ (u : Access). changeAtAccess line (pair a b c d) u deny) x
-
-      module _ {m : ℕ} (allows : allow ≡ Modes m) where
-        change-allowed : changeLineAt line ≡ changeAtAccess line (pair a b c d) (Modes m) deny
-        change-allowed = change-formed ∙ ap (λ (u : Access). changeAtAccess line (pair a b c d) u deny) allows
-
-        pub change-bad-deny : deny ≡ Bad → changeLineAt line ≡ changed.Refused 4
-        change-bad-deny x = change-allowed ∙ ap (changeAtAccess line (pair a b c d) (Modes m)) x
-
-        pub change-judged : {n : ℕ} {t : Bool} → deny ≡ Modes n → sameBytes (part line a b) (part line c d) ≡ t → changeLineAt line ≡ cond t (changed.Refused 5) (changed.Change (pair a b c d) m n)
-        change-judged {n} x z = change-allowed ∙ ap (changeAtAccess line (pair a b c d) (Modes m)) x ∙ ap (λ (u : Bool). cond u (changed.Refused 5) (changed.Change (pair a b c d) m n)) z

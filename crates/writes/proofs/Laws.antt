@@ -29,7 +29,7 @@ use Rattle.lines.specs.declared.RuleLine.{RuleLine}
 use Rattle.lines.specs.declared.RuleLine.the-variants as r
 use Rattle.lines.specs.declared.ChangeLine.{ChangeLine}
 use Rattle.lines.specs.declared.ChangeLine.the-variants as c
-use Rattle.lines.proofs.Formed.{Formed, SaidFormed, rule-formed, change-formed}
+use Rattle.lines.proofs.Laws.{Taken, Sound, rule-sound}
 use Rattle.writes.specs.Writes.{changed, Judged, is-skipped, is-refused, is-accepted, ruleJudged, changeJudged, judged, tableAfter, ruleStored, changeStored, saidStored, lineStored, lineVerdict, verdictOf, doneOf}
 use Rattle.writes.specs.declared.Verdict.{Verdict}
 use Rattle.writes.specs.declared.Verdict.the-variants as v
@@ -49,6 +49,10 @@ said-change line e f = sym e ∙ ap (λ (y : ChangeLine). changeSaid line y) f
 
 pub inside-change : (line : List ℕ) {x : ChangeLine} {q : Pair} {a d : ℕ} → ChangeInside line x → x ≡ c.Change q a d → ChangeInside line (c.Change q a d)
 inside-change line i f = subst (λ (y : ChangeLine). ChangeInside line y) f i
+
+-- what is known of whatever a line says, of a line that is known to say a rule or a change
+pub sound-as : {said known : Said} → Sound said → said ≡ known → Sound known
+sound-as f e = subst Sound e f
 
 -- a well-formed label has at most 255 bytes
 pub formed-short : (l : List ℕ) → wellFormed l ≡ true → length l ≤ 255
@@ -86,7 +90,7 @@ unfolding ruleAt
 modes-same e r (At i) h = ap (λ (x : Rule). x .modes) (sym (entries-at (ruleAt e) (record { subject = 0; object = 0; modes = 0 }) r i h))
 modes-same e r Nothing h = refl
 
-module _ (st : Store) (u : undamagedOf st ≡ true) (s o : List ℕ) (f : Formed s o) where
+module _ (st : Store) (u : undamagedOf st ≡ true) (s o : List ℕ) (f : Taken s o) where
   place-of : (spot : Spot) → placing (tableOf st) s o ≡ p.At spot → Placed st s o spot
   place-of spot e = placed-is st s o spot u (formed-short s (f .subject)) (formed-short o (f .object)) e
 
@@ -129,7 +133,7 @@ modes-known st u (At i) h =
 modes-known st u Nothing h = omega arith
 
 -- a line or a change leaves an undamaged store undamaged
-pub said-undamaged : (st : Store) (said : Said) → undamagedOf st ≡ true → SaidFormed said → undamagedOf (saidStored st said) ≡ true
+pub said-undamaged : (st : Store) (said : Said) → undamagedOf st ≡ true → Sound said → undamagedOf (saidStored st said) ≡ true
 said-undamaged st skipped u f = u
 said-undamaged st (refused n) u f = u
 said-undamaged st (rule s o m) u f = rule-undamaged st u s o (f .0) m (f .1) (placing (tableOf st) s o) refl
@@ -144,10 +148,10 @@ said-undamaged st (change s o a d) u f = by-place (placing (tableOf st) s o) ref
 
 pub line-undamaged : (st : Store) (line : List ℕ) → undamagedOf st ≡ true → undamagedOf (lineStored st line) ≡ true
 unfolding lineStored
-line-undamaged st line u = said-undamaged st (ruleOf line) u (rule-formed line)
+line-undamaged st line u = said-undamaged st (ruleOf line) u (rule-sound line)
 
 -- THE TABLES: what was written is what 01 says of a line
-pub said-table : (st : Store) (said : Said) → undamagedOf st ≡ true → SaidFormed said → tableOf (saidStored st said) ≡ tableAfter (tableOf st) (judged (tableOf st) said)
+pub said-table : (st : Store) (said : Said) → undamagedOf st ≡ true → Sound said → tableOf (saidStored st said) ≡ tableAfter (tableOf st) (judged (tableOf st) said)
 said-table st skipped u f = refl
 said-table st (refused n) u f = refl
 said-table st (rule s o m) u f = rule-table st u s o (f .0) m (placing (tableOf st) s o) refl
@@ -155,4 +159,4 @@ said-table st (change s o a d) u f = change-table st u s o (f .0) a d (placing (
 
 pub line-table : (st : Store) (line : List ℕ) → undamagedOf st ≡ true → tableOf (lineStored st line) ≡ tableAfter (tableOf st) (judged (tableOf st) (ruleOf line))
 unfolding lineStored
-line-table st line u = said-table st (ruleOf line) u (rule-formed line)
+line-table st line u = said-table st (ruleOf line) u (rule-sound line)

@@ -8,7 +8,8 @@ use Rattle.alphabet.specs.declared.Field.the-variants.{End}
 use Rattle.modes.specs.Modes.{readModes, changeLetters}
 use Rattle.modes.specs.declared.Access.the-variants.{Modes}
 use mathlib.Core.Bool.{true}
-use Rattle.lines.proofs.Laws.{One, Two, Three, Four, in-one, in-two, in-three, in-four, change-meets, change-long, change-none, change-one, change-two, change-three, change-five, change-subject, change-object, change-bad-allow, change-bad-deny, change-judged}
+use Rattle.lines.proofs.Laws.{change-meets}
+use Rattle.lines.proofs.Answers.{One, Two, Three, Four, in-one, in-two, in-three, in-four, change-long, change-none, change-one, change-two, change-three, change-five, change-subject, change-object, change-bad-allow, change-bad-deny, change-judged}
 use Rattle.lines.proofs.change_line.Statement.{statement}
 use Rattle.lines.proofs.change_line.Tie as tie
 

@@ -8,11 +8,11 @@ use Rattle.store.specs.Layout.{store, undamagedOf}
 use Rattle.lines.specs.Lines.{change, changeOf, at, changeSaid, ChangeInside}
 use Rattle.lines.specs.declared.ChangeLine.{ChangeLine}
 use Rattle.lines.specs.declared.ChangeLine.the-variants as x
-use Rattle.lines.proofs.Formed.{Formed, change-formed, formed-as}
+use Rattle.lines.proofs.Laws.{Taken, change-sound}
 use Rattle.writes.specs.Writes.{changeAnswer, changeStore}
 use borrow.Author.Needs.{needs}
 use native.Mathlib.Omega.{arith}
-use Rattle.writes.proofs.Laws.{said-change, inside-change, formed-short}
+use Rattle.writes.proofs.Laws.{said-change, inside-change, formed-short, sound-as}
 use Rattle.writes.proofs.change.Statement.{statement}
 use Rattle.writes.proofs.change.Tie as tie
 
@@ -37,8 +37,8 @@ module _ (c : tie.After-known-told2) where
   inside : ChangeInside (S .args .text .now) (x.Change (c .before .said2 .given .0 .0) (c .before .said2 .given .0 .1 .0) (c .before .said2 .given .0 .1 .1 .0))
   inside = inside-change (S .args .text .now) (c .before .before .before .change-line .ensures .1 .1) (c .before .said2 .given .1)
 
-  formed : Formed subject object
-  formed = formed-as (change-formed (S .args .text .now)) says .0
+  formed : Taken subject object
+  formed = sound-as (change-sound (S .args .text .now)) says .0
 
 undamaged-requires : tie.Need-undamaged-requires
 undamaged-requires c κs = search needs

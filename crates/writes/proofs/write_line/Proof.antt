@@ -8,11 +8,11 @@ use Rattle.rules.specs.Rules.{placing}
 use Rattle.lines.specs.Lines.{rule, ruleOf, at, ruleSaid, RuleInside}
 use Rattle.lines.specs.declared.RuleLine.{RuleLine}
 use Rattle.lines.specs.declared.RuleLine.the-variants as r
-use Rattle.lines.proofs.Formed.{Formed, rule-formed, formed-as}
+use Rattle.lines.proofs.Laws.{Taken, rule-sound}
 use Rattle.writes.specs.Writes.{lineVerdict, lineStored}
 use borrow.Author.Needs.{needs}
 use native.Mathlib.Omega.{arith}
-use Rattle.writes.proofs.Laws.{said-rule, inside-rule, formed-short, done-accepted, done-refused}
+use Rattle.writes.proofs.Laws.{said-rule, inside-rule, formed-short, sound-as, done-accepted, done-refused}
 use Rattle.writes.proofs.write_line.Statement.{statement}
 use Rattle.writes.proofs.write_line.Tie as tie
 
@@ -39,8 +39,8 @@ module _ (c : tie.After-known-told2) where
   inside : RuleInside (S .args .line .now) (r.Rule (c .before .said2 .given .0 .0) (c .before .said2 .given .0 .1 .0))
   inside = inside-rule (S .args .line .now) (c .before .before .before .rule-line .ensures .1 .1) (c .before .said2 .given .1)
 
-  formed : Formed subject object
-  formed = formed-as (rule-formed (S .args .line .now)) says .0
+  formed : Taken subject object
+  formed = sound-as (rule-sound (S .args .line .now)) says .0
 
 rule-line-requires : tie.Need-rule-line-requires
 rule-line-requires c κs = search needs
