@@ -1,0 +1,81 @@
+-- `access::decide` meets its contract: what rules 1 to 5 leave open rules 6 and 7 decide. Assumes nothing.
+use mathlib.Core.Path.{_≡_, sym, _∙_}
+use Rattle.store.specs.Table.{Table, labelIn}
+use Rattle.store.specs.Layout.{store, tableOf}
+use Rattle.access.specs.Rules.{firstOf, tableRules}
+use Rattle.access.specs.Access.{answered, effective, byTable, decide}
+use Rattle.access.specs.declared.Verdict.{Verdict}
+use Rattle.access.proofs.Laws.{after, denied-same, decide-is}
+use borrow.Author.Needs.{needs}
+use Rattle.access.proofs.decide.Statement.{statement}
+use Rattle.access.proofs.decide.Tie as tie
+
+-- the definition, by what rules 1 to 5 say
+module _ (c : tie.After-by-labels) where
+  abbrev S : tie.Start
+  S = c .before .before .before .before .before .before
+
+  abbrev T : Table
+  T = tableOf (store (S .args .labels .now) (S .args .entries .now) (S .args .words .now))
+
+  decides :
+      (v : Verdict) →
+      c .by-labels .result ≡ v →
+      decide T (S .args .subject .now) (S .args .object .now) (S .args .wanted) (S .args .capable)
+      ≡ answered (effective T (labelIn T (S .args .subject .now)) (S .args .capable)) (after v (firstOf (tableRules T (labelIn T (S .args .subject .now)) (labelIn T (S .args .object .now)) (S .args .wanted))))
+  decides v e = decide-is T (S .args .subject .now) (S .args .object .now) (S .args .wanted) (S .args .capable) v (sym (c .by-labels .ensures) ∙ e)
+
+by-labels-requires : tie.Need-by-labels-requires
+by-labels-requires c κs = search needs
+
+enum-known-rule : tie.Need-enum-known-rule
+enum-known-rule c = search needs
+
+enum-known-by : tie.Need-enum-known-by
+enum-known-by c = search needs
+
+shared-slice-read-find-label : tie.Need-shared-slice-read-find-label
+shared-slice-read-find-label c = search needs
+
+find-label-requires : tie.Need-find-label-requires
+find-label-requires c κs = search needs
+
+denied-requires : tie.Need-denied-requires
+denied-requires c κs = search needs
+
+enum-told : tie.Need-enum-told
+enum-told c = search needs
+
+by-table-requires : tie.Need-by-table-requires
+by-table-requires c κs = search needs
+
+returns : tie.Need-returns
+returns c = sym (decides (c .before .before .before) _ (c .before .rule .given .1))
+
+returns-2 : tie.Need-returns-2
+returns-2 c =
+    let d = c .before .before .before .before .before .before in
+    let a = S d .args in
+    c .denied .ensures
+    ∙ denied-same (a .labels .now) (a .entries .now) (a .words .now) _ _ _ _ (c .before .find-label .ensures)
+    ∙ sym (decides d _ (c .before .before .before .before .by .given .1))
+
+returns-3 : tie.Need-returns-3
+unfolding byTable
+returns-3 c = c .by-table .ensures ∙ sym (decides (c .before .before .before) _ (c .before .enum-told .given .1))
+
+pub decide-spec : {M : Type 1} → statement M
+decide-spec =
+    tie.close
+    (tie.spec
+    by-labels-requires
+    enum-known-rule
+    enum-known-by
+    shared-slice-read-find-label
+    find-label-requires
+    denied-requires
+    enum-told
+    by-table-requires
+    returns
+    returns-2
+    returns-3)

@@ -1,0 +1,268 @@
+// The access check (01: a question): the seven published rules in their order, and the override capability (CAP_MAC_OVERRIDE with onlycap).
+// A question changes nothing.
+use modes::Access;
+use search::Found;
+ghost use mathlib.Core.Path.{_≡_};
+ghost use mathlib.Core.List.{[], _∷_};
+ghost use Prim.Native.Nat.{_<_};
+ghost use lib.ListN.{length};
+ghost use Rattle.search.specs.Search.{placeOf};
+ghost use Rattle.search.specs.Bytes.{sameBytes};
+ghost use Rattle.store.specs.Layout.{store, tableOf, Sizes, Counts};
+ghost use Rattle.access.specs.Rules.{firstOf, labelRules, ruleBetween};
+ghost use Rattle.access.specs.Access as access;
+
+// The rule that denies: 1, the subject is *; or 7, nothing grants.
+pub enum Denial {
+    StarSubject,
+    NoRule,
+}
+
+// What a run of the rules says: granted, with the rule's number and whether rule 6 found the bring-up mode; denied, with the rule that
+// denies; or nothing, where none applies.
+pub enum Verdict {
+    Grants(u8, bool),
+    Denies(Denial),
+    Undecided,
+}
+
+// The answer to a question: granted, with the rule's number and whether rule 6 found the bring-up mode; denied, with the rule that denies;
+// granted by override, with the rule that would have denied; refused, with its number.
+pub enum Answer {
+    Granted(u8, bool),
+    Denied(Denial),
+    Override(Denial),
+    Refused(u8),
+}
+
+// An answer in 01's numbers. Kind 0 is granted, 1 denied, 2 granted by override, 3 refused; the number is the rule's, or the refusal's.
+#[repr(C)]
+pub struct Shown {
+    pub kind: u8,
+    pub number: u8,
+    pub bringup: bool,
+}
+
+// The labels that have a rule of their own: _ ^ *.
+const FLOOR: u8 = 95;
+
+const HAT: u8 = 94;
+
+const STAR: u8 = 42;
+
+// The bits of r and x, of b, and of the letters that a request may have, r w x a.
+const READ_EXECUTE: u8 = 40;
+
+const BRING_UP: u8 = 1;
+
+const REQUEST: u8 = 60;
+
+// Whether a label is one byte, that one. Labels with a rule of their own are known by their bytes: a lent table may hold others in places
+// 0 to 2.
+fn is_mark(label: &[u8], mark: u8) -> bool
+    ensures { λ r. ⌜ r ≡ sameBytes (now (label .entry)) (mark ∷ []) ⌝ }
+{
+    if label.len() != 1 {
+        return false;
+    }
+    label[0] == mark
+}
+
+// Rules 1 to 5, the first that applies.
+fn by_labels(subject: &[u8], object: &[u8], wanted: u8) -> Verdict
+    ensures { λ r. ⌜ r ≡ firstOf (labelRules (now (subject .entry)) (now (object .entry)) wanted) ⌝ }
+{
+    if is_mark(subject, STAR) {
+        return Verdict::Denies(Denial::StarSubject);
+    }
+    if is_mark(subject, HAT) & (wanted & READ_EXECUTE == wanted) {
+        return Verdict::Grants(2, false);
+    }
+    if is_mark(object, FLOOR) & (wanted & READ_EXECUTE == wanted) {
+        return Verdict::Grants(3, false);
+    }
+    if is_mark(object, STAR) {
+        return Verdict::Grants(4, false);
+    }
+    if search::same_bytes(subject, object) {
+        return Verdict::Grants(5, false);
+    }
+    Verdict::Undecided
+}
+
+// Where the rule of two labels that were sought stands: only numbers are compared, and nothing where a label has none. Who calls it has
+// tested the store.
+fn find_rule(entries: &[u8], words: &[u64], subject: Found, object: Found) -> Found
+    requires { ⌜ (length (now entries) ≡ 840) × (length (now words) ≡ 36) × Counts (now words) × (placeOf subject 0 < 64) × (placeOf object 0 < 64) ⌝ }
+    ensures { λ r. ⌜ r ≡ ruleBetween (tableOf (store [] (now (entries .entry)) (now (words .entry)))) subject object ⌝ }
+{
+    let Found::At(s) = subject else {
+        return Found::Nothing;
+    };
+    let Found::At(o) = object else {
+        return Found::Nothing;
+    };
+    store::find_pair(entries, words[1] as usize, s as u8, o as u8)
+}
+
+// Whether the onlycap list holds a label, by its number. Who calls it has tested the store.
+fn listed(entries: &[u8], words: &[u64], subject: Found) -> bool
+    requires { ⌜ (length (now entries) ≡ 840) × (length (now words) ≡ 36) × Counts (now words) ⌝ }
+    ensures { λ r. ⌜ r ≡ access.listed (tableOf (store [] (now (entries .entry)) (now (words .entry))) .onlycap) subject ⌝ }
+{
+    let Found::At(s) = subject else {
+        return false;
+    };
+    let count = words[3] as usize;
+    let mut i = 0;
+    while i < count {
+        if s == entries[832 + i] as usize {
+            return true;
+        }
+        i += 1;
+    }
+    false
+}
+
+// Whether override counts after a denial: the asker has it, and the onlycap list is empty or holds the subject. Who calls it has tested the
+// store.
+fn effective(entries: &[u8], words: &[u64], subject: Found, capable: bool) -> bool
+    requires { ⌜ (length (now entries) ≡ 840) × (length (now words) ≡ 36) × Counts (now words) ⌝ }
+    ensures { λ r. ⌜ r ≡ access.effective (tableOf (store [] (now (entries .entry)) (now (words .entry)))) subject capable ⌝ }
+{
+    if !capable {
+        return false;
+    }
+    if words[3] == 0 {
+        return true;
+    }
+    listed(entries, words, subject)
+}
+
+// The answer after a denial. Who calls it has tested the store.
+fn denied(entries: &[u8], words: &[u64], subject: Found, by: Denial, capable: bool) -> Answer
+    requires { ⌜ (length (now entries) ≡ 840) × (length (now words) ≡ 36) × Counts (now words) ⌝ }
+    ensures { λ r. ⌜ r ≡ access.denied (access.effective (tableOf (store [] (now (entries .entry)) (now (words .entry)))) subject capable) by ⌝ }
+{
+    if effective(entries, words, subject, capable) {
+        return Answer::Override(by);
+    }
+    Answer::Denied(by)
+}
+
+// Rules 6 and 7, and override: each label is looked up once. Who calls it has tested the store.
+fn by_table(
+    labels: &[u8],
+    entries: &[u8],
+    words: &[u64],
+    subject: &[u8],
+    object: &[u8],
+    wanted: u8,
+    capable: bool,
+) -> Answer
+    requires { ⌜ Sizes (now labels) (now entries) (now words) × Counts (now words) ⌝ }
+    ensures { λ r. ⌜ r ≡ access.byTable (tableOf (store (now (labels .entry)) (now (entries .entry)) (now (words .entry)))) (now (subject .entry)) (now (object .entry)) wanted capable ⌝ }
+{
+    let count = words[0] as usize;
+    let s = store::find_label(labels, count, subject);
+    let o = store::find_label(labels, count, object);
+    let Found::At(k) = find_rule(entries, words, s, o) else {
+        return denied(entries, words, s, Denial::NoRule, capable);
+    };
+    let modes = entries[512 + k];
+    if wanted & modes == wanted {
+        return Answer::Granted(6, BRING_UP & modes == BRING_UP);
+    }
+    denied(entries, words, s, Denial::NoRule, capable)
+}
+
+// The first of the seven rules that applies decides. Who calls it has tested the store.
+fn decide(
+    labels: &[u8],
+    entries: &[u8],
+    words: &[u64],
+    subject: &[u8],
+    object: &[u8],
+    wanted: u8,
+    capable: bool,
+) -> Answer
+    requires { ⌜ Sizes (now labels) (now entries) (now words) × Counts (now words) ⌝ }
+    ensures { λ r. ⌜ r ≡ access.decide (tableOf (store (now (labels .entry)) (now (entries .entry)) (now (words .entry)))) (now (subject .entry)) (now (object .entry)) wanted capable ⌝ }
+{
+    match by_labels(subject, object, wanted) {
+        Verdict::Grants(rule, b) => Answer::Granted(rule, b),
+        Verdict::Denies(by) => {
+            let s = store::find_label(labels, words[0] as usize, subject);
+            denied(entries, words, s, by, capable)
+        }
+        Verdict::Undecided => by_table(labels, entries, words, subject, object, wanted, capable),
+    }
+}
+
+// May a subject have the wanted access to an object? `capable` says whether the asker has the override capability.
+pub fn question(
+    labels: &[u8],
+    entries: &[u8],
+    words: &[u64],
+    subject: &[u8],
+    object: &[u8],
+    request: &[u8],
+    capable: bool,
+) -> Answer
+    ensures { λ r. ⌜ r ≡ access.questionOf (store (now (labels .entry)) (now (entries .entry)) (now (words .entry))) (now (subject .entry)) (now (object .entry)) (now (request .entry)) capable ⌝ }
+{
+    if !store::undamaged(labels, entries, words) {
+        return Answer::Refused(0);
+    }
+    let Found::Nothing = alphabet::label_fault(subject) else {
+        return Answer::Refused(3);
+    };
+    let Found::Nothing = alphabet::label_fault(object) else {
+        return Answer::Refused(3);
+    };
+    if request.len() == 0 {
+        return Answer::Refused(8);
+    }
+    let Access::Modes(wanted) = modes::read_modes(request, REQUEST, false) else {
+        return Answer::Refused(8);
+    };
+    decide(labels, entries, words, subject, object, wanted, capable)
+}
+
+// The number of the rule that denies.
+fn denial_number(by: Denial) -> u8
+    ensures { λ r. ⌜ r ≡ access.denialNumber by ⌝ }
+{
+    match by {
+        Denial::StarSubject => 1,
+        Denial::NoRule => 7,
+    }
+}
+
+// An answer in 01's numbers, for a host or a program to show.
+pub fn show(answer: Answer) -> Shown
+    ensures { λ r. ⌜ r ≡ access.shown answer ⌝ }
+{
+    match answer {
+        Answer::Granted(rule, b) => Shown {
+            kind: 0,
+            number: rule,
+            bringup: b,
+        },
+        Answer::Denied(by) => Shown {
+            kind: 1,
+            number: denial_number(by),
+            bringup: false,
+        },
+        Answer::Override(by) => Shown {
+            kind: 2,
+            number: denial_number(by),
+            bringup: false,
+        },
+        Answer::Refused(number) => Shown {
+            kind: 3,
+            number,
+            bringup: false,
+        },
+    }
+}
