@@ -185,6 +185,10 @@ unfolding entries
 entries-length f zero = refl
 entries-length f (suc n) = simp (length-append, entries-length f n) (omega arith)
 
+pub entries-none : {A : Type 0} (f : ℕ → A) → entries f 0 ≡ []
+unfolding entries
+entries-none f = refl
+
 pub entries-at : {A : Type 0} (f : ℕ → A) (d : A) (n k : ℕ) → k < n → getD (entries f n) k d ≡ f k
 unfolding entries
 entries-at f d zero k h = absurd (omega arith)

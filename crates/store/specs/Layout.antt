@@ -14,7 +14,9 @@ use Rattle.search.specs.Search.{entries}
 use Rattle.search.specs.Bytes.{written}
 use Rattle.store.specs.declared.Rule.{Rule}
 use Rattle.store.specs.declared.Mapping.{Mapping}
-use Rattle.store.specs.Table.{Table, soundTable, labelLimit, ruleLimit, mappingLimit, onlycapLimit}
+use Rattle.store.specs.declared.Done.{Done}
+use Rattle.store.specs.declared.Done.the-variants as d
+use Rattle.store.specs.Table.{Table, floor, hat, star, question-mark, at-sign, soundTable, labelLimit, ruleLimit, mappingLimit, onlycapLimit}
 
 -- the three lent slices
 pub record Store : Type 0 where
@@ -71,6 +73,23 @@ withLabel labels k l = written labels (k * 256) (length l ∷ l)
 
 unfoldable pub withRule : List ℕ → ℕ → Rule → List ℕ
 withRule e k r = set (set (set e k (r .subject)) (256 + k) (r .object)) (512 + k) (r .modes)
+
+-- ---- a fresh table made of lent memory: the five labels are written and the counts set, and nothing else changes
+
+abbrev pub fullSizes : Store → Bool
+fullSizes s = eqb (length (s .labels)) 16384 && (eqb (length (s .entries)) 840 && eqb (length (s .words)) 36)
+
+unfoldable pub freshLabels : List ℕ → List ℕ
+freshLabels l = withLabel (withLabel (withLabel (withLabel (withLabel l 0 floor) 1 hat) 2 star) 3 question-mark) 4 at-sign
+
+unfoldable pub freshWords : List ℕ → List ℕ
+freshWords w = set (set (set (set w 0 5) 1 0) 2 0) 3 0
+
+unfoldable pub freshStore : Store → Store
+freshStore s = cond (fullSizes s) (store (freshLabels (s .labels)) (s .entries) (freshWords (s .words))) s
+
+unfoldable pub freshAnswer : Store → Done
+freshAnswer s = cond (fullSizes s) d.Done (d.Refused 0)
 
 -- ---- the same, as facts for the functions that work on a tested store
 

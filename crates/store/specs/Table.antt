@@ -29,11 +29,17 @@ hat = 94 ∷ []
 abbrev pub star : List ℕ
 star = 42 ∷ []
 
+abbrev pub question-mark : List ℕ
+question-mark = 63 ∷ []
+
+abbrev pub at-sign : List ℕ
+at-sign = 64 ∷ []
+
 -- a fresh table has the five labels alone
 abbrev pub fresh : Table
 fresh =
     record {
-      labels = floor ∷ hat ∷ star ∷ (63 ∷ []) ∷ (64 ∷ []) ∷ [];
+      labels = floor ∷ hat ∷ star ∷ question-mark ∷ at-sign ∷ [];
       rules = [];
       mappings = [];
       onlycap = [];

@@ -9,13 +9,19 @@ ghost use mathlib.Core.List.{[]};
 ghost use Rattle.search.specs.Search.{first, all, entries};
 ghost use Rattle.search.specs.Bytes.{sameBytes};
 ghost use Rattle.store.specs.Table.{isPair, soundTable};
-ghost use Rattle.store.specs.Layout.{store, tableOf, labelAt, ruleAt, undamagedOf, withLabel, withRule, Counts};
+ghost use Rattle.store.specs.Layout.{store, tableOf, labelAt, ruleAt, undamagedOf, withLabel, withRule, Counts, freshAnswer, freshStore};
 
 // A rule: the numbers of its subject and its object, and its modes.
 pub struct Rule {
     pub subject: u8,
     pub object: u8,
     pub modes: u8,
+}
+
+// What a write answers: done, or a refusal's number.
+pub enum Done {
+    Done,
+    Refused(u8),
 }
 
 // A CIPSO mapping: the label's number, its level and its category set.
@@ -147,4 +153,36 @@ pub fn write_rule(rules: &mut [u8], k: usize, rule: Rule)
     rules[k] = rule.subject;
     rules[256 + k] = rule.object;
     rules[512 + k] = rule.modes;
+}
+
+// Makes a fresh table of lent memory, whatever it holds: the five labels alone. Refused with 0 where a part has not its full size. What no
+// entry holds stays as it was.
+pub fn fresh_table(labels: &mut [u8], entries: &[u8], words: &mut [u64]) -> Done
+    ensures { λ r. ⌜ r ≡ freshAnswer (store (now (labels .entry)) (now (entries .entry)) (now (words .entry))) ⌝ }
+    ensures { λ _. ⌜ store (now (labels .exit)) (now (entries .entry)) (now (words .exit)) ≡ freshStore (store (now (labels .entry)) (now (entries .entry)) (now (words .entry))) ⌝ }
+{
+    if labels.len() != 16384 {
+        return Done::Refused(0);
+    }
+    if entries.len() != 840 {
+        return Done::Refused(0);
+    }
+    if words.len() != 36 {
+        return Done::Refused(0);
+    }
+    let floor = [95u8];
+    let hat = [94u8];
+    let star = [42u8];
+    let web = [63u8];
+    let internet = [64u8];
+    write_label(labels, 0, &floor);
+    write_label(labels, 1, &hat);
+    write_label(labels, 2, &star);
+    write_label(labels, 3, &web);
+    write_label(labels, 4, &internet);
+    words[0] = 5;
+    words[1] = 0;
+    words[2] = 0;
+    words[3] = 0;
+    Done::Done
 }

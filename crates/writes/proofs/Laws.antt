@@ -33,8 +33,8 @@ use Rattle.lines.proofs.Laws.{Taken, Sound, rule-sound}
 use Rattle.writes.specs.Writes.{changed, Judged, is-skipped, is-refused, is-accepted, ruleJudged, changeJudged, judged, tableAfter, ruleStored, changeStored, saidStored, lineStored, lineVerdict, verdictOf, doneOf}
 use Rattle.writes.specs.declared.Verdict.{Verdict}
 use Rattle.writes.specs.declared.Verdict.the-variants as v
-use Rattle.writes.specs.declared.Done.{Done}
-use Rattle.writes.specs.declared.Done.the-variants as d
+use Rattle.store.specs.declared.Done.{Done}
+use Rattle.store.specs.declared.Done.the-variants as d
 
 -- ---- what a line's answer says
 

@@ -18,8 +18,8 @@ use Rattle.rules.specs.declared.Place.the-variants as p
 use Rattle.lines.specs.Lines.{Said, skipped, refused, rule, change, ruleOf, changeOf}
 use Rattle.writes.specs.declared.Verdict.{Verdict}
 use Rattle.writes.specs.declared.Verdict.the-variants as v
-use Rattle.writes.specs.declared.Done.{Done}
-use Rattle.writes.specs.declared.Done.the-variants as d
+use Rattle.store.specs.declared.Done.{Done}
+use Rattle.store.specs.declared.Done.the-variants as d
 
 -- (old modes or allow) without deny: 63 is all six letters
 abbrev pub changed : ℕ → ℕ → ℕ → ℕ

@@ -2,6 +2,7 @@
 use lines::ChangeLine;
 use lines::RuleLine;
 use rules::Place;
+use store::Done;
 ghost use mathlib.Core.Path.{_≡_};
 ghost use mathlib.Core.Bool.{true};
 ghost use Prim.Native.Nat.{_≤_};
@@ -14,12 +15,6 @@ ghost use Rattle.writes.specs.Writes.{changed, ruleJudged, ruleStored, c
 pub enum Verdict {
     Skipped,
     Accepted,
-    Refused(u8),
-}
-
-// What a single write answers: done, or a refusal's number.
-pub enum Done {
-    Done,
     Refused(u8),
 }
 
