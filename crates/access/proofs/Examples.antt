@@ -2,13 +2,12 @@
 use Prim.Native.Nat.{ℕ}
 use mathlib.Core.Path.{_≡_, refl}
 use mathlib.Core.Bool.{Bool, true, false, _&&_, Bool·beq}
-use mathlib.Core.List.{List, [], _∷_, _++_, foldl}
+use mathlib.Core.List.{List, [], _∷_, _++_}
 use lib.Dec.{eqb}
 use Rattle.search.specs.Search.{first, all}
 use Rattle.search.specs.Bytes.{sameBytes}
 use Rattle.alphabet.specs.Alphabet.{labelByte, wellFormed}
 use Rattle.modes.specs.Modes.{bitOf, allowedByte, modesOf, readModes}
-use Rattle.store.specs.declared.Rule.{Rule}
 use Rattle.store.specs.Table.{Table, fresh, floor, hat, star, isPair}
 use Rattle.access.specs.declared.Denial.the-variants.{StarSubject, NoRule}
 use Rattle.access.specs.declared.Answer.{Answer}

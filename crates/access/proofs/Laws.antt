@@ -21,13 +21,12 @@ use Rattle.store.specs.declared.Rule.{Rule}
 use Rattle.store.specs.declared.Mapping.{Mapping}
 use Rattle.store.specs.Table.{Table, labelIn, isPair, pairIn, soundRule, soundMapping, soundTable}
 use Rattle.store.specs.Layout.{store, tableOf, ruleAt}
-use Rattle.access.specs.Rules.{holds, bringUp, ruleBetween, pairHas, Line, line, firstOf, labelRules, tableRules, sevenRules}
+use Rattle.access.specs.Rules.{holds, bringUp, ruleBetween, modesAt, pairHas, Line, line, firstOf, labelRules, tableRules, sevenRules}
 use Rattle.access.specs.Access.{listed, effective, denied, answered, byTable, decide, byRequest, answer, denialNumber}
 use Rattle.access.specs.declared.Denial.{Denial}
 use Rattle.access.specs.declared.Denial.the-variants.{NoRule}
 use Rattle.access.specs.declared.Verdict.{Verdict}
 use Rattle.access.specs.declared.Verdict.the-variants.{Grants, Denies, Undecided}
-use Rattle.access.specs.declared.Answer.{Answer}
 use Rattle.access.specs.declared.Answer.the-variants.{Granted}
 use Rattle.access.specs.declared.Shown.{Shown}
 
@@ -48,7 +47,7 @@ and-with b v p q = sym (ap (λ (x : Bool). x && b) p) ∙ q
 -- ---- what a store holds
 
 -- the modes of a stored rule
-pub stored-modes : (e : List ℕ) (n k : ℕ) → k < n → getD (entries (ruleAt e) n) k (record { subject = 0; object = 0; modes = 0 }) .modes ≡ getD e (512 + k) 0
+pub stored-modes : (e : List ℕ) (n k : ℕ) → k < n → modesAt (entries (ruleAt e) n) k ≡ getD e (512 + k) 0
 unfolding ruleAt
 stored-modes e n k h = ap (λ (r : Rule). r .modes) (entries-at (ruleAt e) (record { subject = 0; object = 0; modes = 0 }) n k h)
 
@@ -128,7 +127,7 @@ module _ (t : Table) (s o : List ℕ) (wanted : ℕ) (capable : Bool) where
   unfolding byTable
   table-none e = rw e
 
-  module _ (k : ℕ) (there : ruleBetween t (labelIn t s) (labelIn t o) ≡ At k) (m : ℕ) (is : getD (t .rules) k (record { subject = 0; object = 0; modes = 0 }) .modes ≡ m) where
+  module _ (k : ℕ) (there : ruleBetween t (labelIn t s) (labelIn t o) ≡ At k) (m : ℕ) (is : modesAt (t .rules) k ≡ m) where
     pub table-grants : holds wanted m ≡ true → byTable t s o wanted capable ≡ Granted 6 (bringUp m)
     unfolding byTable
     table-grants e = rw (there, is, e)

@@ -11,7 +11,6 @@ use Rattle.search.specs.declared.Found.{Found}
 use Rattle.search.specs.declared.Found.the-variants.{At, Nothing}
 use Rattle.store.specs.declared.Rule.{Rule}
 use Rattle.store.specs.Table.{Table, floor, hat, star, labelIn, pairIn}
-use Rattle.access.specs.declared.Denial.{Denial}
 use Rattle.access.specs.declared.Denial.the-variants.{StarSubject, NoRule}
 use Rattle.access.specs.declared.Verdict.{Verdict}
 use Rattle.access.specs.declared.Verdict.the-variants.{Grants, Denies, Undecided}
@@ -34,9 +33,13 @@ ruleBetween t (At i) (At j) = pairIn t i j
 ruleBetween t (At i) Nothing = Nothing
 ruleBetween t Nothing o = Nothing
 
+-- the modes of rule k
+abbrev pub modesAt : List Rule → ℕ → ℕ
+modesAt rules k = getD rules k (record { subject = 0; object = 0; modes = 0 }) .modes
+
 -- whether there is a rule and its modes pass a test
 abbrev pub ruleHas : List Rule → Found → (ℕ → Bool) → Bool
-ruleHas rules (At k) test = test (getD rules k (record { subject = 0; object = 0; modes = 0 }) .modes)
+ruleHas rules (At k) test = test (modesAt rules k)
 ruleHas rules Nothing test = false
 
 abbrev pub pairHas : Table → Found → Found → (ℕ → Bool) → Bool

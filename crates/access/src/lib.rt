@@ -249,14 +249,14 @@ pub fn show(answer: Answer) -> Shown
             number: rule,
             bringup: b,
         },
-        Answer::Denied(by) => Shown {
+        Answer::Denied(rule) => Shown {
             kind: 1,
-            number: denial_number(by),
+            number: denial_number(rule),
             bringup: false,
         },
-        Answer::Override(by) => Shown {
+        Answer::Override(rule) => Shown {
             kind: 2,
-            number: denial_number(by),
+            number: denial_number(rule),
             bringup: false,
         },
         Answer::Refused(number) => Shown {

@@ -1,6 +1,6 @@
 -- `access::by_labels` meets its contract: it makes the tests of rules 1 to 5 in their order. Assumes nothing.
 use mathlib.Core.Path.{_≡_, sym, _∙_}
-use mathlib.Core.Bool.{true, false, _&&_}
+use mathlib.Core.Bool.{false, _&&_}
 use borrow.Author.Needs.{needs}
 use Rattle.search.specs.Bytes.{sameBytes}
 use Rattle.store.specs.Table.{floor, hat, star}

@@ -1,6 +1,5 @@
 -- `access::is_mark` meets its contract: byte strings of other lengths differ, and one byte is compared. Assumes nothing.
 use mathlib.Core.Path.{sym}
-use mathlib.Core.List.{[], _∷_}
 use borrow.Author.Needs.{needs}
 use Rattle.search.proofs.Laws.{same-lengths}
 use Rattle.access.proofs.Laws.{mark-one}
