@@ -76,10 +76,10 @@ placed n r s o f spot e = by-labels (ltb 64 (countOf o (countOf s n))) refl e
     by-labels true q e = let z : _≡_ {A = ℕ} 0 1 = cc in absurd (omega arith)
     by-labels false q e = by-rules (noPlace f r 256) refl (ltb-false _ _ q) e
 
--- there is room for the rule's count
-pub place-count : (f : Found) (r : ℕ) → r ≤ 256 → noPlace f r 256 ≡ false → countOf f r ≤ 256
-place-count (At i) r h e = h
-place-count Nothing r h e = let z : r < 256 = leb-false 256 r e in omega arith
+-- there is room for one entry more, where it is new
+pub place-count : (f : Found) (r limit : ℕ) → r ≤ limit → noPlace f r limit ≡ false → countOf f r ≤ limit
+place-count (At i) r limit h e = h
+place-count Nothing r limit h e = let z : r < limit = leb-false limit r e in omega arith
 
 -- what setting the pair needs to know
 pub record Facts (n r : ℕ) (spot : Spot) : Type 0 where
@@ -107,7 +107,7 @@ facts st s o spot q =
       grows = (count-le fs n .0, count-le fo (countOf fs n) .0);
       labels = room .labels;
       rule = found-place (isPair (placeOf fs n) (placeOf fo (countOf fs n))) (ruleAt e) r r (omega arith);
-      rules = place-count (ruleFound l e w s o) r (q .counts .rules) (room .rules);
+      rules = place-count (ruleFound l e w s o) r 256 (q .counts .rules) (room .rules);
     })
 
 -- ---- parts of a store
@@ -121,8 +121,8 @@ same-entered f l a b = rw (a, b)
 pub same-rule : (e : List ℕ) {k k′ a a′ b b′ : ℕ} (m : ℕ) → k ≡ k′ → a ≡ a′ → b ≡ b′ → withRule e k (record { subject = a; object = b; modes = m }) ≡ withRule e k′ (record { subject = a′; object = b′; modes = m })
 same-rule e m p q r = rw (p, q, r)
 
-pub same-words : (w : List ℕ) {a a′ b b′ : ℕ} → a ≡ a′ → b ≡ b′ → set (set w 0 a) 1 b ≡ set (set w 0 a′) 1 b′
-same-words w p q = rw (p, q)
+pub same-words : (w : List ℕ) (i : ℕ) {a a′ b b′ : ℕ} → a ≡ a′ → b ≡ b′ → set (set w 0 a) i b ≡ set (set w 0 a′) i b′
+same-words w i p q = rw (p, q)
 
 -- ---- the tables once a pair is set
 
@@ -206,20 +206,23 @@ onlycap-kept e p n r hp =
     entries-same (onlycapAt (withRule e p r)) (onlycapAt e) n
     (λ k hk. rule-other e p (832 + k) r (λ z. absurd (omega arith)) (λ z. absurd (omega arith)) (λ z. absurd (omega arith)))
 
-same-table : {a a′ : List (List ℕ)} {b b′ : List Rule} {c c′ : List Mapping} {d d′ : List ℕ} → a ≡ a′ → b ≡ b′ → c ≡ c′ → d ≡ d′
+pub same-table : {a a′ : List (List ℕ)} {b b′ : List Rule} {c c′ : List Mapping} {d d′ : List ℕ} → a ≡ a′ → b ≡ b′ → c ≡ c′ → d ≡ d′
     → _≡_ {A = Table} (record { labels = a; rules = b; mappings = c; onlycap = d }) (record { labels = a′; rules = b′; mappings = c′; onlycap = d′ })
 same-table p q r s = rw (p, q, r, s)
 
--- the counts after a pair is set
-module _ (w : List ℕ) (full : length w ≡ 36) (a b : ℕ) where
-  pub words-labels : getD (set (set w 0 a) 1 b) 0 0 ≡ a
-  words-labels = getD-set-other (set w 0 a) 1 0 b 0 (λ z. absurd (omega arith)) ∙ getD-set-same w 0 a 0 (omega arith)
+-- the counts after an entry is set, and perhaps a label entered: that of the labels and that of the table of entries, at i
+module _ (w : List ℕ) (full : length w ≡ 36) (i : ℕ) (counts : (0 < i) × (i < 36)) (a b : ℕ) where
+  pub words-labels : getD (set (set w 0 a) i b) 0 0 ≡ a
+  words-labels = getD-set-other (set w 0 a) i 0 b 0 (λ z. absurd (omega arith)) ∙ getD-set-same w 0 a 0 (omega arith)
 
-  pub words-rules : getD (set (set w 0 a) 1 b) 1 0 ≡ b
-  words-rules = getD-set-same (set w 0 a) 1 b 0 (rw (length-set w 0 a) (omega arith))
+  pub words-entries : getD (set (set w 0 a) i b) i 0 ≡ b
+  words-entries = getD-set-same (set w 0 a) i b 0 (rw (length-set w 0 a) (omega arith))
 
-  pub words-other : (k : ℕ) → 2 ≤ k → getD (set (set w 0 a) 1 b) k 0 ≡ getD w k 0
-  words-other k h = getD-set-other (set w 0 a) 1 k b 0 (λ z. absurd (omega arith)) ∙ getD-set-other w 0 k a 0 (λ z. absurd (omega arith))
+  pub words-other : (k : ℕ) → (k ≡ 0 → ⊥) → (k ≡ i → ⊥) → getD (set (set w 0 a) i b) k 0 ≡ getD w k 0
+  words-other k first other = getD-set-other (set w 0 a) i k b 0 other ∙ getD-set-other w 0 k a 0 first
+
+  pub words-length : length (set (set w 0 a) i b) ≡ 36
+  words-length = length-set (set w 0 a) i b ∙ length-set w 0 a ∙ full
 
 -- THE TABLES: what was written is what 01 says of an accepted rule
 pub pair-table : (st : Store) (s o : List ℕ) (spot : Spot) (m : ℕ) → Placed st s o spot → tableOf (ruleSet st s o spot m) ≡ withPair (tableOf st) s o spot m
@@ -239,15 +242,15 @@ pair-table st s o spot m q =
     let hn : n * 256 ≤ length l = omega (arith, full, f .grows .0, f .grows .1, f .labels) in
     let hn₁ : n₁ * 256 ≤ length l₁ = omega (arith, full₁, f .grows .1, f .labels) in
     same-table
-    (ap (λ (c : ℕ). entries (labelAt (entered (spot .object) l₁ n₁ o)) c) (words-labels w wide _ _)
+    (ap (λ (c : ℕ). entries (labelAt (entered (spot .object) l₁ n₁ o)) c) (words-labels w wide 1 (omega arith) _ _)
     ∙ labels-entered (spot .object) l₁ n₁ o hn₁ (q .object)
     ∙ ap (λ (ls : List (List ℕ)). grown (spot .object) ls o) (labels-entered (spot .subject) l n s hn (q .subject)))
-    (ap (λ (c : ℕ). entries (ruleAt (withRule e (placeOf (spot .rule) k) (ruleAtSpot n spot m))) c) (words-rules w wide _ _)
+    (ap (λ (c : ℕ). entries (ruleAt (withRule e (placeOf (spot .rule) k) (ruleAtSpot n spot m))) c) (words-entries w wide 1 (omega arith) _ _)
     ∙ rules-put e k (spot .rule) (ruleAtSpot n spot m) (q .sizes .entries) (q .counts .rules) (f .rule) (f .rules)
     ∙ ap (λ (c : ℕ). put (spot .rule) (entries (ruleAt e) k) (ruleAtSpot c spot m)) (sym (entries-length (labelAt l) n)))
-    (ap (λ (c : ℕ). entries (mappingAt (withRule e (placeOf (spot .rule) k) (ruleAtSpot n spot m)) (set (set w 0 (countOf (spot .object) n₁)) 1 (countOf (spot .rule) k))) c) (words-other w wide _ _ 2 (omega arith))
+    (ap (λ (c : ℕ). entries (mappingAt (withRule e (placeOf (spot .rule) k) (ruleAtSpot n spot m)) (set (set w 0 (countOf (spot .object) n₁)) 1 (countOf (spot .rule) k))) c) (words-other w wide 1 (omega arith) _ _ 2 (λ z. absurd (omega arith)) (λ z. absurd (omega arith)))
     ∙ mappings-kept e w (placeOf (spot .rule) k) (countOf (spot .object) n₁) (countOf (spot .rule) k) (getD w 2 0) (ruleAtSpot n spot m) (omega (arith, f .rule, f .rules)) (q .counts .mappings))
-    (ap (λ (c : ℕ). entries (onlycapAt (withRule e (placeOf (spot .rule) k) (ruleAtSpot n spot m))) c) (words-other w wide _ _ 3 (omega arith))
+    (ap (λ (c : ℕ). entries (onlycapAt (withRule e (placeOf (spot .rule) k) (ruleAtSpot n spot m))) c) (words-other w wide 1 (omega arith) _ _ 3 (λ z. absurd (omega arith)) (λ z. absurd (omega arith)))
     ∙ onlycap-kept e (placeOf (spot .rule) k) (getD w 3 0) (ruleAtSpot n spot m) (omega (arith, f .rule, f .rules)))
 
 -- a sound rule set in sound tables leaves them sound
@@ -274,9 +277,9 @@ pair-undamaged st s o spot m q u small =
     let n₁ = countOf (spot .subject) n in
     let n₂ = countOf (spot .object) n₁ in
     let wide = q .sizes .words in
-    let cl = words-labels w wide n₂ (countOf (spot .rule) k) in
-    let cr = words-rules w wide n₂ (countOf (spot .rule) k) in
-    let co = words-other w wide n₂ (countOf (spot .rule) k) in
+    let cl = words-labels w wide 1 (omega arith) n₂ (countOf (spot .rule) k) in
+    let cr = words-entries w wide 1 (omega arith) n₂ (countOf (spot .rule) k) in
+    let co = words-other w wide 1 (omega arith) n₂ (countOf (spot .rule) k) in
     let r : soundRule n₂ (ruleAtSpot n spot m) ≡ true = sound-rule n₂ (ruleAtSpot n spot m) (omega (arith, f .subject, f .grows .1)) (f .object) small in
     record {
       sizes =
@@ -285,14 +288,14 @@ pair-undamaged st s o spot m q u small =
                 length-entered (spot .object) (entered (spot .subject) (st .labels) n s) n₁ o (omega (arith, f .object, f .labels)) (q .object)
                 (length-entered (spot .subject) (st .labels) n s (omega (arith, f .subject, f .grows .1, f .labels)) (q .subject) (q .sizes .labels));
             entries = length-rule e (placeOf (spot .rule) k) (ruleAtSpot n spot m) ∙ q .sizes .entries;
-            words = length-set (set w 0 n₂) 1 (countOf (spot .rule) k) ∙ length-set w 0 n₂ ∙ wide;
+            words = words-length w wide 1 (omega arith) n₂ (countOf (spot .rule) k);
           };
       counts =
           record {
             labels = omega (arith, cl, f .labels);
             rules = omega (arith, cr, f .rules);
-            mappings = omega (arith, co 2 (omega arith), q .counts .mappings);
-            onlycap = omega (arith, co 3 (omega arith), q .counts .onlycap);
+            mappings = omega (arith, co 2 (λ z. absurd (omega arith)) (λ z. absurd (omega arith)), q .counts .mappings);
+            onlycap = omega (arith, co 3 (λ z. absurd (omega arith)) (λ z. absurd (omega arith)), q .counts .onlycap);
           };
       sound =
           ap (λ (c : ℕ). soundTable c (tableOf (ruleSet st s o spot m))) cl

@@ -28,7 +28,8 @@ pub struct Numbered {
     pub count: usize,
 }
 
-fn number_for(found: Found, count: usize) -> Numbered
+// Who calls it has a count of a tested store, which is at most 256, or one more.
+pub fn number_for(found: Found, count: usize) -> Numbered
     requires { ⌜ count ≤ 300 ⌝ }
     ensures { λ r. ⌜ r ≡ record { number = placeOf found count; count = countOf found count } ⌝ }
 {
@@ -41,13 +42,13 @@ fn number_for(found: Found, count: usize) -> Numbered
     }
 }
 
-// Whether an entry that was sought has no place among `count`, of which there may be 256.
-fn full(found: Found, count: usize) -> bool
-    ensures { λ r. ⌜ r ≡ noPlace found count 256 ⌝ }
+// Whether an entry that was sought has no place among `count`, of which there may be `limit`.
+pub fn full(found: Found, count: usize, limit: usize) -> bool
+    ensures { λ r. ⌜ r ≡ noPlace found count limit ⌝ }
 {
     match found {
         Found::At(_) => false,
-        Found::Nothing => 256 <= count,
+        Found::Nothing => limit <= count,
     }
 }
 
@@ -72,7 +73,7 @@ pub fn find_place(
         return Place::Refused(6);
     }
     let rule = store::find_pair(entries, rules, a.number as u8, b.number as u8);
-    if full(rule, rules) {
+    if full(rule, rules, 256) {
         return Place::Refused(7);
     }
     Place::At(Spot {
@@ -93,8 +94,8 @@ pub fn modes_at(entries: &[u8], rule: Found) -> u8
     }
 }
 
-// Writes a label into the next place where it was not found.
-fn enter(labels: &mut [u8], found: Found, count: usize, label: &[u8])
+// Writes a label into the next place where it was not found. Who calls it has tested the store and the label, and that there is room.
+pub fn enter(labels: &mut [u8], found: Found, count: usize, label: &[u8])
     requires { ⌜ (length (now labels) ≡ 16384) × (placeOf found count < 64) × (length (now label) ≤ 255) ⌝ }
     ensures { λ _. ⌜ now (labels .exit) ≡ entered found (now (labels .entry)) count (now (label .entry)) ⌝ }
 {

@@ -129,7 +129,7 @@ returns c =
     same-store
     (c .before .before .before .before .before .before .before .before .enter2 .ensures ∙ same-entered (spot d .object) (S d .args .object .now) (c .before .before .before .before .before .before .before .before .before .before .before .before .enter .ensures) (subject-count d))
     (c .before .before .write-rule .ensures ∙ same-rule (S d .args .entries .now) (S d .args .modes) (rule-number d) (subject-number d) (object-number d))
-    (same-words (S d .args .words .now) (object-count d) (rule-count d))
+    (same-words (S d .args .words .now) 1 (object-count d) (rule-count d))
 
 pub set-pair-spec : {M : Type 1} → statement M
 set-pair-spec =

@@ -1,0 +1,322 @@
+-- 01, Single writes, Mapping, and the paragraph after the single writes: the CIPSO mapping (`cipso2`) of a label to a level and a set of
+-- categories. The write with its refusals in their order, the two look-ups, and the lowest label of a run of records; refusals 0, 1, 2, 3,
+-- 6, 9 and 10. How categories sit in a set stands in the crate numbers; here a set is spoken of by `noCategories`, `withCategory`,
+-- `categories`, `knownSet` and `sameSet` alone. Assumes nothing.
+use Prim.Native.Nat.{ℕ, _+_, _%_}
+use mathlib.Core.Bool.{Bool, false, cond, _&&_}
+use mathlib.Core.List.{List, [], _∷_, foldl}
+use lib.ListN.{length, getD, set}
+use lib.Dec.{eqb, leb, ltb}
+use Rattle.search.specs.Search.{first, put, placeOf, countOf, entries}
+use Rattle.search.specs.declared.Found.{Found}
+use Rattle.search.specs.declared.Found.the-variants.{At, Nothing}
+use Rattle.alphabet.specs.Alphabet.{wellFormed, fields}
+use Rattle.numbers.specs.Numbers.{numberOf}
+use Rattle.numbers.specs.Categories.{categories, withCategory}
+use Rattle.numbers.specs.declared.Number.{Number}
+use Rattle.numbers.specs.declared.Number.the-variants as number
+use Rattle.store.specs.declared.Mapping.{Mapping}
+use Rattle.store.specs.Table.{Table, labelIn, labelLimit, mappingLimit}
+use Rattle.store.specs.Layout.{Store, tableOf, undamagedOf}
+use Rattle.rules.specs.Rules.{noPlace, grown, entered}
+use Rattle.cipso.specs.declared.Categories.{Categories}
+use Rattle.cipso.specs.declared.Categories.the-variants as read
+use Rattle.cipso.specs.declared.Spot.{Spot}
+use Rattle.cipso.specs.declared.Place.{Place}
+use Rattle.cipso.specs.declared.Place.the-variants as place
+use Rattle.store.specs.declared.Done.{Done}
+use Rattle.store.specs.declared.Done.the-variants as done
+use Rattle.cipso.specs.declared.Lookup.{Lookup}
+use Rattle.cipso.specs.declared.Lookup.the-variants as lookup
+use Rattle.cipso.specs.declared.Label.{Label}
+use Rattle.cipso.specs.declared.Label.the-variants as label
+use Rattle.cipso.specs.declared.Record.{Record}
+use Rattle.cipso.specs.declared.Best.{Best}
+use Rattle.cipso.specs.declared.Best.the-variants as best
+
+-- ---- sets of categories, levels
+
+-- the set of no category
+abbrev pub noCategories : ℕ
+noCategories = 0
+
+-- a set has no other bit than those of categories: bit 0 is none
+abbrev pub knownSet : ℕ → Bool
+knownSet s = eqb (s % 2) 0
+
+-- two sets are equal
+abbrev pub sameSet : ℕ → ℕ → Bool
+sameSet a b = eqb a b
+
+-- level 0 to 255
+abbrev pub isLevel : ℕ → Bool
+isLevel n = leb n 255
+
+-- category 1 to 63 (source document 003)
+abbrev pub isCategory : ℕ → Bool
+isCategory n = leb 1 n && leb n 63
+
+-- ---- what a mapping write says by its bytes alone: label, level, then no or more categories
+
+-- one category more: a number of 1 to 3 digits that is a category. A repeat changes nothing
+abbrev pub withNumber : ℕ → Number → Categories
+withNumber s (number.Value n) = cond (isCategory n) (read.Set (withCategory s n)) read.Bad
+withNumber s number.Bad = read.Bad
+
+-- one field more, of those that have made a set or have a fault
+abbrev pub withField : Categories → List ℕ → Categories
+withField (read.Set s) f = withNumber s (numberOf f)
+withField read.Bad f = read.Bad
+
+-- the set that fields make
+unfoldable pub categoriesOf : List (List ℕ) → Categories
+categoriesOf fs = foldl withField (read.Set noCategories) fs
+
+-- what a write says: a refusal's number, or a mapping by its label, its level and its set
+pub data Said : Type 0 where
+  refused : ℕ → Said
+  mapping : List ℕ → ℕ → ℕ → Said
+
+-- 9 a category is not as above
+abbrev pub withSet : List ℕ → ℕ → Categories → Said
+withSet l level read.Bad = refused 9
+withSet l level (read.Set s) = mapping l level s
+
+-- 9 the level is not as above
+abbrev pub withLevel : List ℕ → Number → Categories → Said
+withLevel l number.Bad cs = refused 9
+withLevel l (number.Value n) cs = cond (isLevel n) (withSet l n cs) (refused 9)
+
+-- 3 the label is not well formed
+unfoldable pub saidBy : List ℕ → List ℕ → List (List ℕ) → Said
+saidBy l level cs = cond (wellFormed l) (withLevel l (numberOf level) (categoriesOf cs)) (refused 3)
+
+-- 2 under two fields
+abbrev pub saidFields : List (List ℕ) → Said
+saidFields [] = refused 2
+saidFields (l ∷ []) = refused 2
+saidFields (l ∷ level ∷ cs) = saidBy l level cs
+
+-- a write has at most 600 bytes
+abbrev pub writeLimit : ℕ
+writeLimit = 600
+
+-- 1 over 600 bytes
+unfoldable pub mappingOf : List ℕ → Said
+mappingOf text = cond (ltb writeLimit (length text)) (refused 1) (saidFields (fields text))
+
+-- ---- the write: what it does to the tables, and its answer
+
+-- whether a mapping is that of label number n
+unfoldable pub names : ℕ → Mapping → Bool
+names n m = eqb (m .label) n
+
+-- the mapping of label number n: the first that names it
+abbrev pub mappingIn : Table → ℕ → Found
+mappingIn t n = first (names n) (t .mappings)
+
+-- 6 the label is new and 64 are stored, 10 the label has no mapping and 32 are stored. A new label has the next number, which no mapping
+-- of an undamaged state names
+abbrev pub placeBy : Table → Found → Place
+placeBy t l =
+    cond (noPlace l (length (t .labels)) labelLimit)
+    (place.Refused 6)
+    (cond (noPlace (mappingIn t (placeOf l (length (t .labels)))) (length (t .mappings)) mappingLimit)
+    (place.Refused 10)
+    (place.At (record { label = l; mapping = mappingIn t (placeOf l (length (t .labels))) })))
+
+-- where a label's mapping stands or goes: a label means its first number
+unfoldable pub placing : Table → List ℕ → Place
+placing t l = placeBy t (labelIn t l)
+
+-- the mapping that a write makes, by the number that its label has or gets
+abbrev pub mappingFor : Table → Spot → ℕ → ℕ → Mapping
+mappingFor t spot level s = record { label = placeOf (spot .label) (length (t .labels)); level = level; set = s }
+
+-- an accepted write: a new label enters, and the mapping replaces the label's former one in its place, or goes last
+unfoldable pub withMapping : Table → List ℕ → Spot → ℕ → ℕ → Table
+withMapping t l spot level s =
+    record {
+      labels = grown (spot .label) (t .labels) l;
+      rules = t .rules;
+      mappings = put (spot .mapping) (t .mappings) (mappingFor t spot level s);
+      onlycap = t .onlycap;
+    }
+
+-- a refused write changes nothing
+abbrev pub tableAt : Table → List ℕ → ℕ → ℕ → Place → Table
+tableAt t l level s (place.Refused n) = t
+tableAt t l level s (place.At spot) = withMapping t l spot level s
+
+-- the tables after what a write says
+abbrev pub tableBy : Table → Said → Table
+tableBy t (refused n) = t
+tableBy t (mapping l level s) = tableAt t l level s (placing t l)
+
+-- the tables after a write
+unfoldable pub mappedTable : Table → List ℕ → Table
+mappedTable t text = tableBy t (mappingOf text)
+
+-- an accepted write answers done
+abbrev pub answerAt : Place → Done
+answerAt (place.Refused n) = done.Refused n
+answerAt (place.At spot) = done.Done
+
+-- the answer to what a write says
+abbrev pub answerBy : Table → Said → Done
+answerBy t (refused n) = done.Refused n
+answerBy t (mapping l level s) = answerAt (placing t l)
+
+-- the answer to a write to a lent state: 0 before every other where it is damaged
+unfoldable pub mapAnswer : Store → List ℕ → Done
+mapAnswer st text = cond (undamagedOf st) (answerBy (tableOf st) (mappingOf text)) (done.Refused 0)
+
+-- ---- the write in the lent slices: the new label's place, the mapping's three numbers and the two counts change, and nothing else
+
+-- a mapping's label and level written into place k
+unfoldable pub withNumbers : List ℕ → ℕ → Mapping → List ℕ
+withNumbers e k m = set (set e (768 + k) (m .label)) (800 + k) (m .level)
+
+-- its set written into place k
+unfoldable pub withWord : List ℕ → ℕ → Mapping → List ℕ
+withWord w k m = set w (4 + k) (m .set)
+
+-- the mapping that a write makes, where n labels are stored
+abbrev pub mappingAtSpot : ℕ → Spot → ℕ → ℕ → Mapping
+mappingAtSpot n spot level s = record { label = placeOf (spot .label) n; level = level; set = s }
+
+-- the slices after an accepted write
+unfoldable pub mappingSet : Store → List ℕ → Spot → ℕ → ℕ → Store
+mappingSet st l spot level s =
+    record {
+      labels = entered (spot .label) (st .labels) (getD (st .words) 0 0) l;
+      entries = withNumbers (st .entries) (placeOf (spot .mapping) (getD (st .words) 2 0)) (mappingAtSpot (getD (st .words) 0 0) spot level s);
+      words =
+          set (set (withWord (st .words) (placeOf (spot .mapping) (getD (st .words) 2 0)) (mappingAtSpot (getD (st .words) 0 0) spot level s)) 0 (countOf (spot .label) (getD (st .words) 0 0)))
+          2 (countOf (spot .mapping) (getD (st .words) 2 0));
+    }
+
+-- a refused write changes nothing
+abbrev pub storedAt : Store → List ℕ → ℕ → ℕ → Place → Store
+storedAt st l level s (place.Refused n) = st
+storedAt st l level s (place.At spot) = mappingSet st l spot level s
+
+-- the slices after what a write says
+abbrev pub storedBy : Store → Said → Store
+storedBy st (refused n) = st
+storedBy st (mapping l level s) = storedAt st l level s (placing (tableOf st) l)
+
+-- the slices after a write
+unfoldable pub mapStored : Store → List ℕ → Store
+mapStored st text = cond (undamagedOf st) (storedBy st (mappingOf text)) st
+
+-- ---- looked up by label: level, set and how many categories are in the set; an unmapped label gives none
+
+-- a mapping's level, its set and how many categories are in it
+abbrev pub mappedAs : Mapping → Lookup
+mappedAs m = lookup.Mapped (m .level) (m .set) (length (categories (m .set)))
+
+-- the mapping at a place
+abbrev pub lookedUp : List Mapping → Found → Lookup
+lookedUp ms (At k) = mappedAs (getD ms k (record { label = 0; level = 0; set = noCategories }))
+lookedUp ms Nothing = lookup.Unmapped
+
+-- by the label's first number; a label that is not in the table is unmapped
+abbrev pub lookupBy : Table → Found → Lookup
+lookupBy t (At n) = lookedUp (t .mappings) (mappingIn t n)
+lookupBy t Nothing = lookup.Unmapped
+
+-- 3 the label is not well formed
+unfoldable pub labelLookup : Table → List ℕ → Lookup
+labelLookup t l = cond (wellFormed l) (lookupBy t (labelIn t l)) (lookup.Refused 3)
+
+-- of a lent state: 0 before every other where it is damaged
+unfoldable pub byLabelOf : Store → List ℕ → Lookup
+byLabelOf st l = cond (undamagedOf st) (labelLookup (tableOf st) l) (lookup.Refused 0)
+
+-- ---- looked up by level and set: the lowest-numbered label whose both are equal, or none
+
+-- a mapping has this level and this set
+abbrev pub bothEqual : ℕ → ℕ → Mapping → Bool
+bothEqual level s m = eqb (m .level) level && sameSet (m .set) s
+
+-- the mapping at a place has both
+abbrev pub mappedTo : ℕ → ℕ → List Mapping → Found → Bool
+mappedTo level s ms (At k) = bothEqual level s (getD ms k (record { label = 0; level = 0; set = noCategories }))
+mappedTo level s ms Nothing = false
+
+-- n is the number that a search found
+abbrev pub isAt : ℕ → Found → Bool
+isAt n (At k) = eqb k n
+isAt n Nothing = false
+
+-- label number n counts by its first mapping, and only if n is the first number of its label
+unfoldable pub hasBoth : Table → ℕ → ℕ → ℕ → Bool
+hasBoth t level s n = mappedTo level s (t .mappings) (mappingIn t n) && isAt n (labelIn t (getD (t .labels) n []))
+
+-- a label's number, or none
+abbrev pub numbered : Found → Label
+numbered (At n) = label.Number n
+numbered Nothing = label.Nothing
+
+-- the first of the numbers 0, 1, .. of the labels that has both; 9 the level is over 255, or the set has a bit that is no category
+unfoldable pub levelLookup : Table → ℕ → ℕ → Label
+levelLookup t level s =
+    cond (isLevel level && knownSet s)
+    (numbered (first (hasBoth t level s) (entries (λ (n : ℕ). n) (length (t .labels)))))
+    (label.Refused 9)
+
+-- of a lent state: 0 before every other where it is damaged
+unfoldable pub byLevelOf : Store → ℕ → ℕ → Label
+byLevelOf st level s = cond (undamagedOf st) (levelLookup (tableOf st) level s) (label.Refused 0)
+
+-- ---- a run of records, each a label number, a level and a set: the lowest label number whose level and set both match, or none
+
+-- a record's level and set both match
+abbrev pub matches : ℕ → ℕ → Record → Bool
+matches level s r = eqb (r .level) level && sameSet (r .set) s
+
+-- the lower of a label number and the best so far
+abbrev pub lowerLabel : ℕ → Best → Best
+lowerLabel n (best.Label k) = best.Label (cond (ltb n k) n k)
+lowerLabel n best.Nothing = best.Label n
+
+-- the best so far and one record more
+unfoldable pub lowerOf : ℕ → ℕ → Best → Record → Best
+lowerOf level s b r = cond (matches level s r) (lowerLabel (r .label) b) b
+
+-- the best of a run
+unfoldable pub lowestOf : List Record → ℕ → ℕ → Best
+lowestOf run level s = foldl (lowerOf level s) best.Nothing run
+
+-- ---- 01's number and values for each case of the answers
+
+-- done; refused, with its number; a mapping, with its level, its categories in order and how many they are; a label, with its number; none
+pub data Answer : Type 0 where
+  is-done : Answer
+  is-refused : ℕ → Answer
+  is-mapping : ℕ → List ℕ → ℕ → Answer
+  is-label : ℕ → Answer
+  is-none : Answer
+
+-- of a write
+abbrev pub doneSays : Done → Answer
+doneSays done.Done = is-done
+doneSays (done.Refused n) = is-refused n
+
+-- of a look-up by label
+abbrev pub lookupSays : Lookup → Answer
+lookupSays (lookup.Mapped level s count) = is-mapping level (categories s) count
+lookupSays lookup.Unmapped = is-none
+lookupSays (lookup.Refused n) = is-refused n
+
+-- of a look-up by level and set
+abbrev pub labelSays : Label → Answer
+labelSays (label.Number n) = is-label n
+labelSays label.Nothing = is-none
+labelSays (label.Refused n) = is-refused n
+
+-- of a run
+abbrev pub bestSays : Best → Answer
+bestSays (best.Label n) = is-label n
+bestSays best.Nothing = is-none

@@ -1,0 +1,2 @@
+pub mod Cipso
+pub mod Within

@@ -1,0 +1,45 @@
+-- The cases P1 to P12 are computed on the definitions. Assumes nothing.
+use mathlib.Core.Path.{_≡_, refl, ap, _∙_}
+use mathlib.Core.Bool.{Bool, true, and-true}
+use mathlib.Core.List.{List, [], _∷_}
+use Prim.Native.Nat.{ℕ}
+use Rattle.search.specs.Search.{first, all, put, entries}
+use Rattle.search.specs.Bytes.{sameBytes}
+use Rattle.alphabet.specs.Alphabet.{isBlank, labelByte, wellFormed, fields}
+use Rattle.modes.specs.Modes.{bitOf, allowedByte, modesOf, readModes}
+use Rattle.numbers.specs.Numbers.{numberOf}
+use Rattle.numbers.specs.Categories.{categories, withCategory}
+use Rattle.store.specs.Table.{Table, fresh, isPair}
+use Rattle.lines.specs.Lines.{ruleBy, ruleOf, changeBy, changeOf}
+use Rattle.rules.specs.Rules.{placing, withPair}
+use Rattle.access.specs.Access.{effective, decide, answer}
+use Rattle.cipso.specs.Cipso.{Said, mapping, categoriesOf, saidBy, mappingOf, names, withMapping, mappedTable, tableBy, labelLookup}
+use Rattle.cipso.specs.Cipso as cipso
+use Rattle.claims.specs.Cases.{Case, asks, changes, maps, right, sameLookup, cases, Vault7}
+
+-- `Vault7 9 1 63`
+abbrev write : List ℕ
+write = 86 ∷ 97 ∷ 117 ∷ 108 ∷ 116 ∷ 55 ∷ 32 ∷ 57 ∷ 32 ∷ 49 ∷ 32 ∷ 54 ∷ 51 ∷ []
+
+set-is : withCategory (withCategory 0 1) 63 ≡ 9223372036854775810
+unfolding withCategory
+set-is = refl
+
+says : mappingOf write ≡ mapping Vault7 9 9223372036854775810
+unfolding all isBlank labelByte wellFormed fields numberOf categoriesOf saidBy mappingOf
+says = said ∙ ap (λ (s : ℕ). mapping Vault7 9 s) set-is
+  where
+    said : mappingOf write ≡ mapping Vault7 9 (withCategory (withCategory 0 1) 63)
+    said = refl
+
+after-it : sameLookup (labelLookup (tableBy fresh (mapping Vault7 9 9223372036854775810)) Vault7) 9 (1 ∷ 63 ∷ []) 2 ≡ true
+unfolding first put wellFormed all labelByte sameBytes labelLookup names withMapping categories entries cipso.placing
+after-it = refl
+
+mapped : right (maps write Vault7 9 (1 ∷ 63 ∷ []) 2) ≡ true
+unfolding right mappedTable
+mapped = ap (λ (s : Said). sameLookup (labelLookup (tableBy fresh s) Vault7) 9 (1 ∷ 63 ∷ []) 2) says ∙ after-it
+
+pub cases-right : all right cases ≡ true
+unfolding all right first put sameBytes isBlank labelByte wellFormed fields bitOf allowedByte modesOf readModes ruleBy ruleOf changeBy changeOf isPair placing withPair effective decide answer
+cases-right = and-true (right (maps write Vault7 9 (1 ∷ 63 ∷ []) 2)) ∙ mapped

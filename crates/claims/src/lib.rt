@@ -1,0 +1,33 @@
+// What the users asked for, each claim under its name. These functions do nothing: what each ensures is the claim, so the check names it as
+// proved, and a program that depends on this crate depends on the claims.
+ghost use mathlib.Core.Path.{_≡_};
+ghost use mathlib.Core.Bool.{true, false};
+ghost use mathlib.Core.List.{List, map};
+ghost use Rattle.search.specs.Search.{all};
+ghost use Rattle.store.specs.Layout.{tableOf, undamagedOf};
+ghost use Rattle.load.specs.Loader.{Load};
+ghost use Rattle.load.specs.Reader.{Call, Reply, events, reports};
+ghost use Rattle.load.proofs.Trace.{Fresh, Runs};
+ghost use Rattle.load.proofs.Undivided.{PlainReaders, refusal-of};
+ghost use Rattle.claims.specs.Cases.{right, cases};
+
+// Demand 3: every list of pieces, end calls and questions, from any undamaged table and a fresh loader, is the plain reader's.
+pub fn demand_3()
+    ensures { λ _. ⌜ ((s s′ : Load) (cs : List Call) (rs : List Reply) → Fresh s → Runs s cs rs s′ → PlainReaders s cs rs s′) ⌝ }
+{}
+
+// Demand 3, of two lists: with the same bytes and end calls in the same order, whatever their cuts and questions, they get the same reports
+// and leave the same table.
+pub fn demand_3_of_two_lists()
+    ensures { λ _. ⌜ ((s z s′ z′ : Load) (cs ds : List Call) (rs qs : List Reply) → Fresh s → Fresh z → tableOf (s .store) ≡ tableOf (z .store) → events cs ≡ events ds → Runs s cs rs s′ → Runs z ds qs z′ → (tableOf (s′ .store) ≡ tableOf (z′ .store)) × (reports rs ≡ reports qs)) ⌝ }
+{}
+
+// Of a damaged table: every call of a list is refused with 0, and nothing changes.
+pub fn damaged_table_refused()
+    ensures { λ _. ⌜ ((s s′ : Load) (cs : List Call) (rs : List Reply) → undamagedOf (s .store) ≡ false → Runs s cs rs s′ → (s′ ≡ s) × (rs ≡ map refusal-of cs)) ⌝ }
+{}
+
+// The cases P1 to P12.
+pub fn either_side_of_a_limit()
+    ensures { λ _. ⌜ all right cases ≡ true ⌝ }
+{}
