@@ -30,7 +30,7 @@ use Rattle.lines.specs.declared.RuleLine.the-variants as r
 use Rattle.lines.specs.declared.ChangeLine.{ChangeLine}
 use Rattle.lines.specs.declared.ChangeLine.the-variants as c
 use Rattle.lines.proofs.Laws.{Taken, Sound, rule-sound}
-use Rattle.writes.specs.Writes.{changed, Judged, is-skipped, is-refused, is-accepted, ruleJudged, changeJudged, judged, tableAfter, ruleStored, changeStored, saidStored, lineStored, lineVerdict, verdictOf, doneOf}
+use Rattle.writes.specs.Writes.{changed, Judged, is-skipped, is-refused, is-accepted, ruleJudged, changeJudged, judged, tableAfter, ruleStored, changeStored, saidStored, lineStored, lineVerdict, verdictOf, doneOf, changeAnswer, changeStore}
 use Rattle.writes.specs.declared.Verdict.{Verdict}
 use Rattle.writes.specs.declared.Verdict.the-variants as v
 use Rattle.store.specs.declared.Done.{Done}
@@ -160,3 +160,27 @@ said-table st (change s o a d) u f = change-table st u s o (f .0) a d (placing (
 pub line-table : (st : Store) (line : List ℕ) → undamagedOf st ≡ true → tableOf (lineStored st line) ≡ tableAfter (tableOf st) (judged (tableOf st) (ruleOf line))
 unfolding lineStored
 line-table st line u = said-table st (ruleOf line) u (rule-sound line)
+
+-- ---- demand 1: a refused write leaves every lent byte
+
+pub said-refused : (st : Store) (said : Said) (n : ℕ) → doneOf (judged (tableOf st) said) ≡ d.Refused n → saidStored st said ≡ st
+said-refused st skipped n e = refl
+said-refused st (refused k) n e = refl
+said-refused st (rule s o m) n e = by-place (placing (tableOf st) s o) e
+  where
+    by-place : (q : Place) → doneOf (ruleJudged (tableOf st) s o m q) ≡ d.Refused n → ruleStored st s o m q ≡ st
+    by-place (p.Refused k) e = refl
+    by-place (p.At spot) e = let z : _≡_ {A = ℕ} 0 1 = cc in absurd (omega arith)
+said-refused st (change s o a d′) n e = by-place (placing (tableOf st) s o) e
+  where
+    by-place : (q : Place) → doneOf (changeJudged (tableOf st) s o a d′ q) ≡ d.Refused n → changeStored st s o a d′ q ≡ st
+    by-place (p.Refused k) e = refl
+    by-place (p.At spot) e = let z : _≡_ {A = ℕ} 0 1 = cc in absurd (omega arith)
+
+pub change-refused : (st : Store) (text : List ℕ) (n : ℕ) → changeAnswer st text ≡ d.Refused n → changeStore st text ≡ st
+unfolding changeAnswer changeStore
+change-refused st text n e = by-test (undamagedOf st) e
+  where
+    by-test : (b : Bool) → cond b (doneOf (judged (tableOf st) (changeOf text))) (d.Refused 0) ≡ d.Refused n → cond b (saidStored st (changeOf text)) st ≡ st
+    by-test true e = said-refused st (changeOf text) n e
+    by-test false e = refl
