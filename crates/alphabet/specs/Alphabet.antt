@@ -44,6 +44,10 @@ faultOf l =
     (At 0)
     (orTooLong (first (λ (b : ℕ). not (labelByte b)) (take 255 l)) (length l)))
 
+-- a line, and a single write, has at most 600 bytes
+abbrev pub lineLimit : ℕ
+lineLimit = 600
+
 -- how many bytes at the front of a line are blanks (true), or are not (false)
 unfoldable pub run : Bool → List ℕ → ℕ
 unfolding isBlank

@@ -10,6 +10,13 @@ ghost use Rattle.load.specs.Reader.{Call, Reply, events, reports};
 ghost use Rattle.load.proofs.Trace.{Fresh, Runs};
 ghost use Rattle.load.proofs.Undivided.{PlainReaders, refusal-of};
 ghost use Rattle.claims.specs.Cases.{right, cases};
+ghost use Rattle.claims.specs.Refusals.{NothingChanges};
+
+// Demand 1: every call has an answer, since no public function has a precondition and each contract gives its answer by a definition; and a
+// refusal leaves the tables, the loader and every lent buffer holding what they held before.
+pub fn demand_1()
+    ensures { λ _. ⌜ NothingChanges ⌝ }
+{}
 
 // Demand 3: every list of pieces, end calls and questions, from any undamaged table and a fresh loader, is the plain reader's.
 pub fn demand_3()

@@ -7,14 +7,14 @@ use lib.ListN.{length}
 use borrow.Author.Tests.{lt-ltb, le-ltb}
 use Rattle.search.specs.Bytes.{sameBytes}
 use Rattle.search.specs.declared.Found.the-variants.{At, Nothing}
-use Rattle.alphabet.specs.Alphabet.{wellFormed, faultOf, fields, fieldAt, part}
+use Rattle.alphabet.specs.Alphabet.{wellFormed, faultOf, fields, fieldAt, part, lineLimit}
 use Rattle.alphabet.specs.declared.Field.the-variants.{Part, End}
 use Rattle.alphabet.proofs.Laws.{field-some, fault-formed, fault-unformed}
 use Rattle.modes.specs.Modes.{readModes, ruleLetters, changeLetters}
 use Rattle.modes.specs.declared.Access.{Access}
 use Rattle.modes.specs.declared.Access.the-variants.{Modes, Bad}
 use Rattle.lines.proofs.Laws.{inside}
-use Rattle.lines.specs.Lines.{lineLimit, rule, span, pair, SpanInside, ruleAtAccess, ruleAtLabels, ruleAtFourth, ruleAtThird, ruleAtSecond, ruleAtFirst, ruleLineAt, changeAtAccess, changeAtLabels, changeAtFifth, changeAtFourth, changeAtThird, changeAtSecond, changeAtFirst, changeLineAt}
+use Rattle.lines.specs.Lines.{rule, span, pair, SpanInside, ruleAtAccess, ruleAtLabels, ruleAtFourth, ruleAtThird, ruleAtSecond, ruleAtFirst, ruleLineAt, changeAtAccess, changeAtLabels, changeAtFifth, changeAtFourth, changeAtThird, changeAtSecond, changeAtFirst, changeLineAt}
 use Rattle.lines.specs.declared.RuleLine.the-variants as ruled
 use Rattle.lines.specs.declared.ChangeLine.the-variants as changed
 

@@ -6,13 +6,13 @@ use Prim.Native.Nat.{ℕ, _<_}
 use lib.Dec.{ltb}
 use lib.ListN.{length}
 use Rattle.search.specs.Bytes.{sameBytes}
-use Rattle.alphabet.specs.Alphabet.{wellFormed, fields, fieldAt, part}
+use Rattle.alphabet.specs.Alphabet.{wellFormed, fields, fieldAt, part, lineLimit}
 use Rattle.alphabet.proofs.Laws.{FieldFrom, in-a-row}
 use Rattle.modes.specs.Modes.{readModes, ruleLetters, changeLetters}
 use Rattle.modes.specs.declared.Access.{Access}
 use Rattle.modes.specs.declared.Access.the-variants.{Modes, Bad}
 use Rattle.modes.proofs.Laws.{modes-small}
-use Rattle.lines.specs.Lines.{lineLimit, Said, skipped, refused, rule, change, ruleWith, ruleBy, ruleFields, ruleOf, changeWith, changeBy, changeFields, changeOf, span, pair, ruleSaid, changeSaid, SpanInside, RuleInside, ChangeInside, ruleAtAccess, ruleAtLabels, ruleAtFourth, ruleAtThird, ruleAtSecond, ruleAtFirst, ruleLineAt, changeAtAccess, changeAtLabels, changeAtFifth, changeAtFourth, changeAtThird, changeAtSecond, changeAtFirst, changeLineAt}
+use Rattle.lines.specs.Lines.{Said, skipped, refused, rule, change, ruleWith, ruleBy, ruleFields, ruleOf, changeWith, changeBy, changeFields, changeOf, span, pair, ruleSaid, changeSaid, SpanInside, RuleInside, ChangeInside, ruleAtAccess, ruleAtLabels, ruleAtFourth, ruleAtThird, ruleAtSecond, ruleAtFirst, ruleLineAt, changeAtAccess, changeAtLabels, changeAtFifth, changeAtFourth, changeAtThird, changeAtSecond, changeAtFirst, changeLineAt}
 use Rattle.lines.specs.declared.RuleLine.{RuleLine}
 use Rattle.lines.specs.declared.RuleLine.the-variants as ruled
 use Rattle.lines.specs.declared.ChangeLine.{ChangeLine}

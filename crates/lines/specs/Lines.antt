@@ -7,7 +7,7 @@ use mathlib.Core.List.{List, [], _∷_}
 use lib.ListN.{length}
 use lib.Dec.{ltb}
 use Rattle.search.specs.Bytes.{sameBytes}
-use Rattle.alphabet.specs.Alphabet.{wellFormed, fields, fieldAt, part}
+use Rattle.alphabet.specs.Alphabet.{wellFormed, lineLimit, fields, fieldAt, part}
 use Rattle.alphabet.specs.declared.Field.{Field}
 use Rattle.alphabet.specs.declared.Field.the-variants.{Part, End}
 use Rattle.modes.specs.Modes.{readModes, ruleLetters, changeLetters}
@@ -19,10 +19,6 @@ use Rattle.lines.specs.declared.RuleLine.{RuleLine}
 use Rattle.lines.specs.declared.RuleLine.the-variants as r
 use Rattle.lines.specs.declared.ChangeLine.{ChangeLine}
 use Rattle.lines.specs.declared.ChangeLine.the-variants as c
-
--- a line, and a single write, has at most 600 bytes
-abbrev pub lineLimit : ℕ
-lineLimit = 600
 
 -- ---- a line of rule text: subject, object, access
 

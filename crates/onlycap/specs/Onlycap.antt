@@ -8,17 +8,13 @@ use lib.Dec.{ltb}
 use Rattle.search.specs.Search.{first, all, placeOf, countOf, entries}
 use Rattle.search.specs.Bytes.{sameBytes}
 use Rattle.search.specs.declared.Found.{Found}
-use Rattle.alphabet.specs.Alphabet.{wellFormed, fields}
+use Rattle.alphabet.specs.Alphabet.{wellFormed, lineLimit, fields}
 use Rattle.store.specs.Table.{Table, labelLimit, onlycapLimit}
 use Rattle.store.specs.Layout.{Store, store, tableOf, undamagedOf, labelAt, Sizes, Counts}
 use Rattle.rules.specs.Rules.{grown, entered}
 use Rattle.store.specs.declared.Done.{Done}
 use Rattle.store.specs.declared.Done.the-variants as d
 use Rattle.onlycap.specs.declared.Counted.{Counted}
-
--- a single write has at most 600 bytes
-abbrev pub writeLimit : ℕ
-writeLimit = 600
 
 -- some labels once the first n of a write's fields have joined them, each last where it is not there
 abbrev pub join : List (List ℕ) → List ℕ → List (List ℕ)
@@ -62,7 +58,7 @@ onlycapFields t (f ∷ more) = cond (loneDash (f ∷ more)) d.Done (onlycapLabel
 
 -- 1 over 600 bytes
 unfoldable pub onlycapOf : Table → List ℕ → Done
-onlycapOf t text = cond (ltb writeLimit (length text)) (d.Refused 1) (onlycapFields t (fields text))
+onlycapOf t text = cond (ltb lineLimit (length text)) (d.Refused 1) (onlycapFields t (fields text))
 
 -- the write replaces the list: a lone dash clears it, and labels become its labels, by their numbers, in the order of first appearance
 abbrev pub withOnlycap : Table → List (List ℕ) → Table

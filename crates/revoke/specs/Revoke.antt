@@ -6,16 +6,12 @@ use lib.ListN.{length, getD, set}
 use lib.Dec.{eqb, ltb}
 use Rattle.search.specs.declared.Found.{Found}
 use Rattle.search.specs.declared.Found.the-variants.{At, Nothing}
-use Rattle.alphabet.specs.Alphabet.{wellFormed}
+use Rattle.alphabet.specs.Alphabet.{wellFormed, lineLimit}
 use Rattle.store.specs.declared.Rule.{Rule}
 use Rattle.store.specs.Table.{Table, labelIn}
 use Rattle.store.specs.Layout.{Store, tableOf, undamagedOf}
 use Rattle.revoke.specs.declared.Revoked.{Revoked}
 use Rattle.revoke.specs.declared.Revoked.the-variants.{Count, Refused}
-
--- a single write has at most 600 bytes
-abbrev pub writeLimit : ℕ
-writeLimit = 600
 
 -- whether a rule has label number n as its subject
 abbrev pub hasSubject : ℕ → Rule → Bool
@@ -42,14 +38,14 @@ subjectCount t Nothing = 0
 -- 1 over 600 bytes, 3 the whole buffer is the label, and it is not well formed
 unfoldable pub revokeOf : Table → List ℕ → Revoked
 revokeOf t label =
-    cond (ltb writeLimit (length label))
+    cond (ltb lineLimit (length label))
     (Refused 1)
     (cond (wellFormed label)
     (Count (subjectCount t (labelIn t label)))
     (Refused 3))
 
 unfoldable pub revokeTable : Table → List ℕ → Table
-revokeTable t label = cond (ltb writeLimit (length label)) t (cond (wellFormed label) (withoutModes t (labelIn t label)) t)
+revokeTable t label = cond (ltb lineLimit (length label)) t (cond (wellFormed label) (withoutModes t (labelIn t label)) t)
 
 -- ---- the same in the lent slices: of the rules with that subject the modes change, and nothing else
 
@@ -68,7 +64,7 @@ revokeAnswer st label = cond (undamagedOf st) (revokeOf (tableOf st) label) (Ref
 unfoldable pub revokeEntries : Store → List ℕ → List ℕ
 revokeEntries st label =
     cond (undamagedOf st)
-    (cond (ltb writeLimit (length label))
+    (cond (ltb lineLimit (length label))
     (st .entries)
     (cond (wellFormed label) (clearedFor st (labelIn (tableOf st) label)) (st .entries)))
     (st .entries)
