@@ -262,13 +262,13 @@ module _ (t : Table) (n : ℕ) (sound : soundTable n t ≡ true) where
       let b = and-both _ _ (a .0) in
       (b .0, a .1)
 
-  not-listed : first (eqb n) (t .onlycap) ≡ Nothing
+  pub not-listed : first (eqb n) (t .onlycap) ≡ Nothing
   not-listed = none-pass (eqb n) (λ (k : ℕ). ltb k n) (t .onlycap) (sound-parts .1) (λ k h. ne-eqb n k (λ e. omega (arith, ltb-true k n h)))
 
-  not-subject : (j : ℕ) → pairIn t n j ≡ Nothing
+  pub not-subject : (j : ℕ) → pairIn t n j ≡ Nothing
   not-subject j = none-pass (isPair n j) (soundRule n) (t .rules) (sound-parts .0) (λ r h. beyond n j r h .0)
 
-  not-object : (i : ℕ) → pairIn t i n ≡ Nothing
+  pub not-object : (i : ℕ) → pairIn t i n ≡ Nothing
   not-object i = none-pass (isPair i n) (soundRule n) (t .rules) (sound-parts .0) (λ r h. beyond n i r h .1)
 
 -- a table that one more label has entered

@@ -24,12 +24,12 @@ use Rattle.numbers.specs.declared.Number.{Number}
 use Rattle.numbers.specs.declared.Number.the-variants as number
 use Rattle.numbers.proofs.Laws.{with-low}
 use Rattle.store.specs.declared.Mapping.{Mapping}
-use Rattle.store.specs.Table.{Table, soundRule, soundMapping, soundTable}
+use Rattle.store.specs.Table.{Table, labelIn, soundRule, soundMapping, soundTable}
 use Rattle.store.specs.Layout.{Store, store, labelAt, ruleAt, mappingAt, onlycapAt, tableOf, undamagedOf}
 use Rattle.store.proofs.Laws.{Undamaged, undamaged-is, is-undamaged, sound-more}
-use Rattle.rules.specs.Rules.{noPlace, entered}
+use Rattle.rules.specs.Rules.{noPlace, grown, entered}
 use Rattle.rules.proofs.Laws.{place-count, length-entered, labels-entered, same-table, words-labels, words-entries, words-other, words-length}
-use Rattle.cipso.specs.Cipso.{noCategories, isLevel, isCategory, withNumber, withField, categoriesOf, Said, refused, mapping, withSet, withLevel, saidBy, saidFields, mappingOf, names, placing, mappingFor, withMapping, tableAt, tableBy, mappedTable, answerAt, answerBy, mapAnswer, withNumbers, withWord, mappingAtSpot, mappingSet, storedAt, storedBy, mapStored, mappedAs, lookedUp, lookupBy, labelLookup, byLabelOf, bothEqual, mappedTo, isAt, hasBoth, numbered, levelLookup, byLevelOf, matches, lowerLabel, lowerOf, lowestOf}
+use Rattle.cipso.specs.Cipso.{noCategories, isLevel, isCategory, withNumber, withField, categoriesOf, Said, refused, mapping, withSet, withLevel, saidBy, saidFields, mappingOf, names, mappingIn, placing, mappingFor, withMapping, tableAt, tableBy, mappedTable, answerAt, answerBy, mapAnswer, withNumbers, withWord, mappingAtSpot, mappingSet, storedAt, storedBy, mapStored, mappedAs, lookedUp, lookupBy, labelLookup, byLabelOf, bothEqual, mappedTo, isAt, hasBoth, numbered, levelLookup, byLevelOf, matches, lowerLabel, lowerOf, lowestOf}
 use Rattle.cipso.specs.Within.{Placed}
 use Rattle.cipso.specs.declared.Categories.{Categories}
 use Rattle.cipso.specs.declared.Categories.the-variants as read
@@ -184,36 +184,36 @@ module _ {text : List ℕ} {a b c d : ℕ} (w : Two text a b c d) where
       pub said-set : {x : Categories} → n ≤ 255 → categoriesOf rest ≡ x → mappingOf text ≡ withSet labelField n x
       said-set {x} h e = said-read ∙ rw (le-leb n 255 h, e)
 
--- the set of a write that says a mapping
-pub said-known : (text l : List ℕ) (level s : ℕ) → mappingOf text ≡ mapping l level s → (s % 2 ≡ 0) × (length l ≤ 255)
+-- the set and the label of a write that says a mapping
+pub said-known : (text l : List ℕ) (level s : ℕ) → mappingOf text ≡ mapping l level s → (s % 2 ≡ 0) × (length l ≤ 255) × (wellFormed l ≡ true)
 unfolding mappingOf saidBy
 said-known text l level s e = by-length (ltb 600 (length text)) e
   where
-    by-set : (k : List ℕ) (n : ℕ) (fs : List (List ℕ)) (x : Categories) → categoriesOf fs ≡ x → wellFormed k ≡ true → withSet k n x ≡ mapping l level s → (s % 2 ≡ 0) × (length l ≤ 255)
+    by-set : (k : List ℕ) (n : ℕ) (fs : List (List ℕ)) (x : Categories) → categoriesOf fs ≡ x → wellFormed k ≡ true → withSet k n x ≡ mapping l level s → (s % 2 ≡ 0) × (length l ≤ 255) × (wellFormed l ≡ true)
     by-set k n fs (read.Set r) q f e =
         let z : r ≡ s = cc in
         let y : k ≡ l = cc in
-        rw (← z, ← y) (set-known fs r q, formed-is k f .1)
+        rw (← z, ← y) (set-known fs r q, formed-is k f .1, f)
     by-set k n fs read.Bad q f e = let z : _≡_ {A = ℕ} 0 1 = cc in absurd (omega arith)
 
-    by-level : (k : List ℕ) (n : ℕ) (fs : List (List ℕ)) (t : Bool) → wellFormed k ≡ true → cond t (withSet k n (categoriesOf fs)) (refused 9) ≡ mapping l level s → (s % 2 ≡ 0) × (length l ≤ 255)
+    by-level : (k : List ℕ) (n : ℕ) (fs : List (List ℕ)) (t : Bool) → wellFormed k ≡ true → cond t (withSet k n (categoriesOf fs)) (refused 9) ≡ mapping l level s → (s % 2 ≡ 0) × (length l ≤ 255) × (wellFormed l ≡ true)
     by-level k n fs true f e = by-set k n fs (categoriesOf fs) refl f e
     by-level k n fs false f e = let z : _≡_ {A = ℕ} 0 1 = cc in absurd (omega arith)
 
-    by-number-read : (k : List ℕ) (x : Number) (fs : List (List ℕ)) → wellFormed k ≡ true → withLevel k x (categoriesOf fs) ≡ mapping l level s → (s % 2 ≡ 0) × (length l ≤ 255)
+    by-number-read : (k : List ℕ) (x : Number) (fs : List (List ℕ)) → wellFormed k ≡ true → withLevel k x (categoriesOf fs) ≡ mapping l level s → (s % 2 ≡ 0) × (length l ≤ 255) × (wellFormed l ≡ true)
     by-number-read k (number.Value n) fs f e = by-level k n fs (isLevel n) f e
     by-number-read k number.Bad fs f e = let z : _≡_ {A = ℕ} 0 1 = cc in absurd (omega arith)
 
-    by-formed : (k v : List ℕ) (fs : List (List ℕ)) (t : Bool) → wellFormed k ≡ t → cond t (withLevel k (numberOf v) (categoriesOf fs)) (refused 3) ≡ mapping l level s → (s % 2 ≡ 0) × (length l ≤ 255)
+    by-formed : (k v : List ℕ) (fs : List (List ℕ)) (t : Bool) → wellFormed k ≡ t → cond t (withLevel k (numberOf v) (categoriesOf fs)) (refused 3) ≡ mapping l level s → (s % 2 ≡ 0) × (length l ≤ 255) × (wellFormed l ≡ true)
     by-formed k v fs true q e = by-number-read k (numberOf v) fs q e
     by-formed k v fs false q e = let z : _≡_ {A = ℕ} 0 1 = cc in absurd (omega arith)
 
-    by-fields : (fs : List (List ℕ)) → saidFields fs ≡ mapping l level s → (s % 2 ≡ 0) × (length l ≤ 255)
+    by-fields : (fs : List (List ℕ)) → saidFields fs ≡ mapping l level s → (s % 2 ≡ 0) × (length l ≤ 255) × (wellFormed l ≡ true)
     by-fields [] e = let z : _≡_ {A = ℕ} 0 1 = cc in absurd (omega arith)
     by-fields (k ∷ []) e = let z : _≡_ {A = ℕ} 0 1 = cc in absurd (omega arith)
     by-fields (k ∷ v ∷ fs) e = by-formed k v fs (wellFormed k) refl e
 
-    by-length : (t : Bool) → cond t (refused 1) (saidFields (fields text)) ≡ mapping l level s → (s % 2 ≡ 0) × (length l ≤ 255)
+    by-length : (t : Bool) → cond t (refused 1) (saidFields (fields text)) ≡ mapping l level s → (s % 2 ≡ 0) × (length l ≤ 255) × (wellFormed l ≡ true)
     by-length true e = let z : _≡_ {A = ℕ} 0 1 = cc in absurd (omega arith)
     by-length false e = by-fields (fields text) e
 
@@ -778,3 +778,56 @@ module _ (level s : ℕ) where
       by-test : (t : Bool) → matches level s x ≡ t → (from best.Nothing xs ≡ best.Nothing → Unmatched xs level s) → (from (best.Label (x .label)) xs ≡ best.Nothing → ⊥) → from (cond t (lowerLabel (x .label) best.Nothing) best.Nothing) xs ≡ best.Nothing → Unmatched (x ∷ xs) level s
       by-test true q more out e = λ r m. absurd (out e)
       by-test false q more out e = λ r m. ⊎-elim (λ z. ap (matches level s) z ∙ q) (λ t. more e r t) (List·Memᴰ·cases-cons m)
+
+-- ---- what a write does to a table, for whoever speaks of tables alone: nothing, or a well-formed label enters and its mapping is put in its
+-- place, with room for both
+
+pub record Maps (t t′ : Table) : Type 0 where
+  pub name : List ℕ
+  pub level : ℕ
+  pub members : ℕ
+  pub formed : wellFormed name ≡ true
+  pub known : members % 2 ≡ 0
+  pub labels : noPlace (labelIn t name) (length (t .labels)) 64 ≡ false
+  pub mappings : noPlace (mappingIn t (placeOf (labelIn t name) (length (t .labels)))) (length (t .mappings)) 32 ≡ false
+  pub is :
+      t′
+      ≡ record {
+        labels = grown (labelIn t name) (t .labels) name;
+        rules = t .rules;
+        mappings = put (mappingIn t (placeOf (labelIn t name) (length (t .labels)))) (t .mappings) (record { label = placeOf (labelIn t name) (length (t .labels)); level = level; set = members });
+        onlycap = t .onlycap;
+      }
+
+pub maps : (t : Table) (text : List ℕ) → (mappedTable t text ≡ t) ⊎ Maps t (mappedTable t text)
+unfolding mappedTable placing withMapping
+maps t text = by-said (mappingOf text) (said-known text)
+  where
+    by-place :
+        (l : List ℕ) (level s : ℕ) →
+        (s % 2 ≡ 0) × (length l ≤ 255) × (wellFormed l ≡ true) →
+        (a : Bool) →
+        noPlace (labelIn t l) (length (t .labels)) 64 ≡ a →
+        (b : Bool) →
+        noPlace (mappingIn t (placeOf (labelIn t l) (length (t .labels)))) (length (t .mappings)) 32 ≡ b →
+        (tableAt t l level s (cond a (place.Refused 6) (cond b (place.Refused 10) (place.At (record { label = labelIn t l; mapping = mappingIn t (placeOf (labelIn t l) (length (t .labels))) })))) ≡ t)
+        ⊎ Maps t (tableAt t l level s (cond a (place.Refused 6) (cond b (place.Refused 10) (place.At (record { label = labelIn t l; mapping = mappingIn t (placeOf (labelIn t l) (length (t .labels))) })))))
+    by-place l level s f true ea b eb = inl refl
+    by-place l level s f false ea true eb = inl refl
+    by-place l level s f false ea false eb =
+        inr
+        (record {
+          name = l;
+          level = level;
+          members = s;
+          formed = f .2;
+          known = f .0;
+          labels = ea;
+          mappings = eb;
+          is = refl;
+        })
+
+    by-said : (said : Said) → ((l : List ℕ) (level s : ℕ) → said ≡ mapping l level s → (s % 2 ≡ 0) × (length l ≤ 255) × (wellFormed l ≡ true)) → (tableBy t said ≡ t) ⊎ Maps t (tableBy t said)
+    by-said (refused n) f = inl refl
+    by-said (mapping l level s) f =
+        by-place l level s (f l level s refl) (noPlace (labelIn t l) (length (t .labels)) 64) refl (noPlace (mappingIn t (placeOf (labelIn t l) (length (t .labels)))) (length (t .mappings)) 32) refl

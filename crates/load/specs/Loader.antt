@@ -82,6 +82,10 @@ abbrev pub endedLoader : Loader → Ended → Loader
 endedLoader old (e.Report r l) = l
 endedLoader old (e.Refused n) = old
 
+-- a kept line that has a byte ends
+unfoldable pub stepEnd : Load → Load
+stepEnd s = cond (ltb 0 (s .loader .kept)) (endKept s) s
+
 -- a piece
 abbrev pub stepPiece : Load → List ℕ → Load
 stepPiece s text = foldl stepByte s text
@@ -92,10 +96,7 @@ pieceAfter s text = cond (ready s) (stepPiece s text) s
 unfoldable pub pieceAnswer : Load → List ℕ → Fed
 pieceAnswer s text = cond (ready s) (f.Done (stepPiece s text .loader)) (f.Refused 0)
 
--- the end call: ends a kept line that has a byte
-unfoldable pub stepEnd : Load → Load
-stepEnd s = cond (ltb 0 (s .loader .kept)) (endKept s) s
-
+-- the end call: ends a kept line that has a byte, answers the report, and leaves the loader fresh
 abbrev pub reportOf : Loader → Report
 reportOf l = record { lines = l .lines; accepted = l .accepted; skipped = l .skipped; refused = l .refused; first = l .first; reason = l .reason }
 

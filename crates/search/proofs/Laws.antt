@@ -1,7 +1,7 @@
 -- Laws of the definitions of specs/. Assumes nothing.
 use mathlib.Core.Path.{_≡_, refl, sym, ap, _∙_, subst}
 use mathlib.Core.Bool.{Bool, true, false, cond, not, _&&_, and-false, and-true}
-use mathlib.Core.List.{List, [], _∷_, _++_, append-assoc}
+use mathlib.Core.List.{List, [], _∷_, _++_, append-assoc, append-nil, map}
 use mathlib.Core.Logic.{_⊎_, inl, inr, ⊎-elim}
 use Prim.Native.Nat.{ℕ, zero, suc, _+_, _*_, _-_, _<_, _≤_, suc-le-suc}
 use native.Mathlib.Nat.{le-of-suc-le-suc, eq-or-lt-of-le}
@@ -9,7 +9,7 @@ use native.Mathlib.Numerals.{add-one}
 use native.Mathlib.Omega.{arith}
 use lib.Dec.{eqb}
 use borrow.Author.Tests.{eqb-true, eqb-false, eq-eqb, ne-eqb}
-use lib.ListN.{length, take, drop, getD, set, length-append, length-take, length-drop, length-set, List·getD-append}
+use lib.ListN.{length, take, drop, getD, set, length-append, length-take, length-drop, length-set, length-map, List·getD-append}
 use lib.Seq.{drop-cons, take-suc, getD-at, getD-append-add, getD-set-same, getD-set-other, ext-getD, getD-take, length-take-le}
 use Rattle.search.specs.Search.{first, all, put, placeOf, countOf, entries, later}
 use Rattle.search.specs.Bytes.{sameBytes, written}
@@ -155,6 +155,27 @@ module _ {A : Type 0} (p : A → Bool) (d : A) where
       by-test false e (At j) ih i q = let z : i ≡ suc j = cc in let h = ih j refl in rw z (suc-le-suc (h .0), h .1)
       by-test false e Nothing ih i q = let z : _≡_ {A = ℕ} 0 1 = cc in absurd (omega arith)
 
+-- what stands before the entry that is found fails
+pub first-before : {A : Type 0} (p : A → Bool) (d : A) (l : List A) (i : ℕ) → first p l ≡ At i → (k : ℕ) → k < i → p (getD l k d) ≡ false
+unfolding first
+first-before p d [] i e k h = let z : _≡_ {A = ℕ} 0 1 = cc in absurd (omega arith)
+first-before p d (x ∷ xs) i e k h = by-test (p x) refl (first p xs) (first-before p d xs) i e k h
+  where
+    by-test :
+        (b : Bool) →
+        p x ≡ b →
+        (f : Found) →
+        ((j : ℕ) → f ≡ At j → (k : ℕ) → k < j → p (getD xs k d) ≡ false) →
+        (i : ℕ) →
+        cond b (At zero) (later f) ≡ At i →
+        (k : ℕ) →
+        k < i →
+        p (getD (x ∷ xs) k d) ≡ false
+    by-test true q f ih i e k h = let z : i ≡ 0 = cc in absurd (omega arith)
+    by-test false q f ih i e zero h = q
+    by-test false q (At j) ih i e (suc k) h = let z : i ≡ suc j = cc in ih j refl k (omega arith)
+    by-test false q Nothing ih i e (suc k) h = let z : _≡_ {A = ℕ} 0 1 = cc in absurd (omega arith)
+
 -- an entry that fails the test, put last, changes no search
 pub first-snoc : {A : Type 0} (p : A → Bool) (l : List A) (x : A) → p x ≡ false → first p (l ++ (x ∷ [])) ≡ first p l
 unfolding first
@@ -255,3 +276,287 @@ entries-put f g n (At i) v h other here =
         let z = eqb-false k i e in
         sym (other k hk z) ∙ sym (getD-set-other (entries f n) i k v v z ∙ entries-at f v n k hk)
 entries-put f g n Nothing v h other here = rw add-one (last-entry f g n v (λ k kh. other k kh (λ e. absurd (omega arith))) here)
+
+-- ---- an entry put where a search says
+
+-- how long the list then is
+pub length-put : {A : Type 0} (f : Found) (l : List A) (v : A) → length (put f l v) ≡ countOf f (length l)
+unfolding put
+length-put (At i) l v = length-set l i v
+length-put Nothing l v = length-append l (v ∷ [])
+
+-- the entry stands in its place, and every other where it was
+pub put-at : {A : Type 0} (d : A) (f : Found) (l : List A) (v : A) → placeOf f (length l) < countOf f (length l) → getD (put f l v) (placeOf f (length l)) d ≡ v
+unfolding put
+put-at d (At i) l v h = getD-set-same l i v d h
+put-at d Nothing l v h = getD-at l v [] d (length l) refl
+
+pub put-other : {A : Type 0} (d : A) (f : Found) (l : List A) (v : A) (k : ℕ) → k < length l → (k ≡ placeOf f (length l) → ⊥) → getD (put f l v) k d ≡ getD l k d
+unfolding put
+put-other d (At i) l v k h apart = getD-set-other l i k v d apart
+put-other d Nothing l v k h apart = List·getD-append l (v ∷ []) d k h
+
+-- a place that a search found is an entry's
+pub first-place : {A : Type 0} (p : A → Bool) (d : A) (l : List A) → placeOf (first p l) (length l) < countOf (first p l) (length l)
+first-place p d l = by-case (first p l) (first-is p d l)
+  where
+    by-case : (f : Found) → ((i : ℕ) → f ≡ At i → (i < length l) × (p (getD l i d) ≡ true)) → placeOf f (length l) < countOf f (length l)
+    by-case (At i) ih = ih i refl .0
+    by-case Nothing ih = omega arith
+
+-- a search goes on past an entry that fails
+put-first : {A : Type 0} (q : A → Bool) (x : A) (xs : List A) (v : A) → put (first q (x ∷ xs)) (x ∷ xs) v ≡ cond (q x) (v ∷ xs) (x ∷ put (first q xs) xs v)
+unfolding first put
+put-first q x xs v = by-test (q x) (first q xs)
+  where
+    by-test : (b : Bool) (f : Found) → put (cond b (At zero) (later f)) (x ∷ xs) v ≡ cond b (v ∷ xs) (x ∷ put f xs v)
+    by-test true f = refl
+    by-test false (At i) = refl
+    by-test false Nothing = refl
+
+-- what is put is found
+pub first-put : {A : Type 0} (q : A → Bool) (l : List A) (v : A) → q v ≡ true → first q (put (first q l) l v) ≡ At (placeOf (first q l) (length l))
+unfolding first put
+first-put q [] v e = rw e
+first-put q (x ∷ xs) v e = ap (λ l. first q l) (put-first q x xs v) ∙ by-test (q x) refl (first q xs) (first-put q xs v e)
+  where
+    by-test :
+        (b : Bool) →
+        q x ≡ b →
+        (f : Found) →
+        first q (put (first q xs) xs v) ≡ At (placeOf f (length xs)) →
+        first q (cond b (v ∷ xs) (x ∷ put (first q xs) xs v)) ≡ At (placeOf (cond b (At zero) (later f)) (suc (length xs)))
+    by-test true i f ih = rw e
+    by-test false i (At j) ih = rw (i, ih)
+    by-test false i Nothing ih = rw (i, ih)
+
+-- a search that passes over the new entry, and over the one that it replaces, finds what it found
+pub first-put-other : {A : Type 0} (p q : A → Bool) (l : List A) (v : A) → p v ≡ false → ((y : A) → q y ≡ true → p y ≡ false) → first p (put (first q l) l v) ≡ first p l
+unfolding first put
+first-put-other p q [] v e h = rw e
+first-put-other p q (x ∷ xs) v e h = ap (λ l. first p l) (put-first q x xs v) ∙ by-test (q x) refl (first-put-other p q xs v e h)
+  where
+    by-test : (b : Bool) → q x ≡ b → first p (put (first q xs) xs v) ≡ first p xs → first p (cond b (v ∷ xs) (x ∷ put (first q xs) xs v)) ≡ first p (x ∷ xs)
+    by-test true i ih = rw (e, h x i)
+    by-test false i ih = rw ih
+
+-- what a search that passes over the new entry and the one that it replaces finds is as it was
+pub found-put-other :
+    {A : Type 0} (p q : A → Bool) (d : A) (l : List A) (v : A) →
+    ((y : A) → q y ≡ true → p y ≡ false) →
+    (k : ℕ) →
+    first p l ≡ At k →
+    getD (put (first q l) l v) k d ≡ getD l k d
+found-put-other p q d l v apart k e = put-other d (first q l) l v k (first-is p d l k e .0) (by-case (first q l) (first-is q d l))
+  where
+    by-case : (f : Found) → ((i : ℕ) → f ≡ At i → (i < length l) × (q (getD l i d) ≡ true)) → k ≡ placeOf f (length l) → ⊥
+    by-case (At i) h z =
+        let here : q (getD l k d) ≡ true = rw z (h i refl .1) in
+        no (sym (apart (getD l k d) here) ∙ first-is p d l k e .1)
+    by-case Nothing h z = omega (arith, first-is p d l k e .0)
+
+-- equal tests find the same
+pub first-same : {A : Type 0} (p q : A → Bool) (l : List A) → ((x : A) → p x ≡ q x) → first p l ≡ first q l
+unfolding first
+first-same p q [] h = refl
+first-same p q (x ∷ xs) h = rw (h x, first-same p q xs h)
+
+-- what is put last is found, where nothing else is
+pub first-last : {A : Type 0} (p : A → Bool) (l : List A) (x : A) → first p l ≡ Nothing → p x ≡ true → first p (l ++ (x ∷ [])) ≡ At (length l)
+unfolding put
+first-last p l x e h = ap (λ f. first p (put f l x)) (sym e) ∙ first-put p l x h ∙ ap (λ f. At (placeOf f (length l))) e
+
+-- ---- a test that tells entries apart
+
+pub not-so : (b : Bool) → (b ≡ true → ⊥) → b ≡ false
+not-so true h = absurd (h refl)
+not-so false h = refl
+
+-- `p x y`: x and y count as the same
+pub record Same {A : Type 0} (p : A → A → Bool) : Type 0 where
+  pub itself : (x : A) → p x x ≡ true
+  pub alike : (x y : A) → p x y ≡ true → (z : A) → p x z ≡ p y z
+
+-- no two entries count as the same: each is found at its own place
+abbrev pub Distinct : {A : Type 0} → (A → A → Bool) → A → List A → Type 0
+Distinct p d l = (k : ℕ) → k < length l → first (p (getD l k d)) l ≡ At k
+
+-- and so it stays when an entry is put in the place of the one that counts as the same, or last
+pub distinct-put : {A : Type 0} (p : A → A → Bool) (d : A) (l : List A) (v : A) → Same p → Distinct p d l → Distinct p d (put (first (p v) l) l v)
+distinct-put {A = A} p d l v same apart k h = by-place (eqb k (placeOf (first (p v) l) (length l))) refl
+  where
+    -- an entry elsewhere does not count as the same as v, nor as whatever does
+    other : k < length l → (k ≡ placeOf (first (p v) l) (length l) → ⊥) → p (getD l k d) v ≡ false
+    other hk n =
+        not-so (p (getD l k d) v)
+        (λ e. n (found (first (p v) l) (sym (first-same (p (getD l k d)) (p v) l (same .alike (getD l k d) v e)) ∙ apart k hk)))
+      where
+        found : (f : Found) → f ≡ At k → k ≡ placeOf f (length l)
+        found (At i) e = cc
+        found Nothing e = let z : _≡_ {A = ℕ} 0 1 = cc in absurd (omega arith)
+
+    passes-over : (x y : A) → p x v ≡ false → p v y ≡ true → p x y ≡ false
+    passes-over x y n e = not-so (p x y) (λ q. no (sym n ∙ same .alike x y q v ∙ sym (same .alike v y e v) ∙ same .itself v))
+
+    place-below : (f : Found) → k < countOf f (length l) → (k ≡ placeOf f (length l) → ⊥) → k < length l
+    place-below (At i) hk n = hk
+    place-below Nothing hk n = ⊎-elim (λ e. absurd (n e)) (λ q. q) (eq-or-lt-of-le (le-of-suc-le-suc (rw add-one at hk)))
+
+    by-place : (b : Bool) → eqb k (placeOf (first (p v) l) (length l)) ≡ b → first (p (getD (put (first (p v) l) l v) k d)) (put (first (p v) l) l v) ≡ At k
+    by-place true e =
+        let z = eqb-true k (placeOf (first (p v) l) (length l)) e in
+        let q : getD (put (first (p v) l) l v) k d ≡ v = rw z (put-at d (first (p v) l) l v (first-place (p v) d l)) in
+        ap (λ (x : A). first (p x) (put (first (p v) l) l v)) q ∙ first-put (p v) l v (same .itself v) ∙ ap At (sym z)
+    by-place false e =
+        let n = eqb-false k (placeOf (first (p v) l) (length l)) e in
+        let hk : k < length l = place-below (first (p v) l) (rw length-put at h) n in
+        let o = other hk n in
+        ap (λ (x : A). first (p x) (put (first (p v) l) l v)) (put-other d (first (p v) l) l v k hk n)
+        ∙ first-put-other (p (getD l k d)) (p v) l v o (λ y q. passes-over (getD l k d) y o q)
+        ∙ apart k hk
+
+-- ---- a list that begins with another
+
+pub record Front {A : Type 0} (l m : List A) : Type 0 where
+  pub rest : List A
+  pub is : m ≡ l ++ rest
+
+pub front-same : {A : Type 0} (l : List A) → Front l l
+front-same l = record { rest = []; is = sym (append-nil l) }
+
+pub front-more : {A : Type 0} {l m n : List A} → Front l m → Front m n → Front l n
+front-more {l = l} a b = record { rest = a .rest ++ b .rest; is = b .is ∙ rw (a .is) (append-assoc l (a .rest) (b .rest)) }
+
+pub front-length : {A : Type 0} {l m : List A} → Front l m → length l ≤ length m
+front-length {l = l} a = rw (a .is, length-append) (omega arith)
+
+pub front-first : {A : Type 0} (p : A → Bool) {l m : List A} (i : ℕ) → Front l m → first p l ≡ At i → first p m ≡ At i
+front-first p {l = l} i a e = rw (a .is) (first-append p l (a .rest) i e)
+
+-- what is found there and not in the front stands beyond it
+first-beyond : {A : Type 0} (p : A → Bool) (l m : List A) (i : ℕ) → first p l ≡ Nothing → first p (l ++ m) ≡ At i → length l ≤ i
+unfolding first
+first-beyond p [] m i e q = omega arith
+first-beyond p (x ∷ xs) m i e q = by-test (p x) (first p xs) (first p (xs ++ m)) (first-beyond p xs m) i e q
+  where
+    by-test :
+        (b : Bool) (f g : Found) →
+        ((j : ℕ) → f ≡ Nothing → g ≡ At j → length xs ≤ j) →
+        (i : ℕ) →
+        cond b (At zero) (later f) ≡ Nothing →
+        cond b (At zero) (later g) ≡ At i →
+        suc (length xs) ≤ i
+    by-test true f g ih i e q = let z : _≡_ {A = ℕ} 0 1 = cc in absurd (omega arith)
+    by-test false (At j) g ih i e q = let z : _≡_ {A = ℕ} 0 1 = cc in absurd (omega arith)
+    by-test false Nothing (At j) ih i e q = let z : i ≡ suc j = cc in rw z (suc-le-suc (ih j refl refl))
+    by-test false Nothing Nothing ih i e q = let z : _≡_ {A = ℕ} 0 1 = cc in absurd (omega arith)
+
+pub front-beyond : {A : Type 0} (p : A → Bool) {l m : List A} (i : ℕ) → Front l m → first p l ≡ Nothing → first p m ≡ At i → length l ≤ i
+front-beyond {A = A} p {l} i a e q = first-beyond p l (a .rest) i e (ap (λ (m : List A). first p m) (sym (a .is)) ∙ q)
+
+-- ---- a list of what another's entries make
+
+pub map-at : {A B : Type 0} (f : A → B) (d : A) (e : B) (l : List A) (k : ℕ) → k < length l → getD (map f l) k e ≡ f (getD l k d)
+map-at f d e [] k h = absurd (omega arith)
+map-at f d e (x ∷ xs) zero h = refl
+map-at f d e (x ∷ xs) (suc k) h = map-at f d e xs k (le-of-suc-le-suc h)
+
+-- a test that every entry passes, once it is made
+pub all-map : {A B : Type 0} (p : A → Bool) (q : B → Bool) (f : A → B) → ((x : A) → p x ≡ true → q (f x) ≡ true) → (l : List A) → all p l ≡ true → all q (map f l) ≡ true
+unfolding all
+all-map p q f h [] e = refl
+all-map p q f h (x ∷ xs) e =
+    let b = and-both (p x) (all p xs) e in
+    rw (h x (b .0), all-map p q f h xs (b .1))
+
+pub all-made : {A B : Type 0} (q : B → Bool) (f : A → B) → ((x : A) → q (f x) ≡ true) → (l : List A) → all q (map f l) ≡ true
+unfolding all
+all-made q f h [] = refl
+all-made q f h (x ∷ xs) = rw (h x, all-made q f h xs)
+
+-- entries that pass a test under which two makers agree
+pub map-same : {A B : Type 0} (p : A → Bool) (f g : A → B) → ((x : A) → p x ≡ true → f x ≡ g x) → (l : List A) → all p l ≡ true → map f l ≡ map g l
+unfolding all
+map-same p f g h [] e = refl
+map-same p f g h (x ∷ xs) e =
+    let b = and-both (p x) (all p xs) e in
+    rw (h x (b .0), map-same p f g h xs (b .1))
+
+pub first-map : {A B : Type 0} (p : B → Bool) (f : A → B) (l : List A) → first p (map f l) ≡ first (λ (x : A). p (f x)) l
+unfolding first
+first-map p f [] = refl
+first-map p f (x ∷ xs) = rw (first-map p f xs)
+
+-- what tells entries apart still does, where it does not look at what was changed
+pub distinct-map : {A : Type 0} (p : A → A → Bool) (d : A) (f : A → A) → ((x y : A) → p (f x) (f y) ≡ p x y) → (l : List A) → Distinct p d l → Distinct p d (map f l)
+distinct-map {A} p d f same l apart k h =
+    let hk : k < length l = rw length-map at h in
+    ap (λ (x : A). first (p x) (map f l)) (map-at f d d l k hk)
+    ∙ first-map (p (f (getD l k d))) f l
+    ∙ first-same (λ (x : A). p (f (getD l k d)) (f x)) (p (getD l k d)) l (λ x. same (getD l k d) x)
+    ∙ apart k hk
+
+-- ---- a list with no entry twice, whose entries are all in another, is no longer than that
+
+-- numbers below n that are sent apart to numbers below m are no more than m
+pub no-more : (m n : ℕ) (f : ℕ → ℕ) → ((k : ℕ) → k < n → f k < m) → ((a b : ℕ) → a < n → b < n → f a ≡ f b → a ≡ b) → n ≤ m
+no-more zero zero f below apart = omega arith
+no-more zero (suc n) f below apart = absurd (omega (arith, below zero (omega arith)))
+no-more (suc m) zero f below apart = omega arith
+no-more (suc m) (suc n) f below apart = suc-le-suc (no-more m n (λ (k : ℕ). cond (eqb (f k) m) (f n) (f k)) still-below still-apart)
+  where
+    or-last : (k : ℕ) → k < suc n → (f k ≡ m) ⊎ (f k < m)
+    or-last k h = eq-or-lt-of-le (le-of-suc-le-suc (below k h))
+
+    last-else : (k : ℕ) → k < n → f k ≡ m → f n < m
+    last-else k h e = ⊎-elim (λ q. absurd (omega (arith, apart n k (omega arith) (omega arith) (q ∙ sym e)))) (λ q. q) (or-last n (omega arith))
+
+    -- what is sent to m goes to where n went
+    still-below : (k : ℕ) → k < n → cond (eqb (f k) m) (f n) (f k) < m
+    still-below k h = by-test (eqb (f k) m) refl
+      where
+        by-test : (b : Bool) → eqb (f k) m ≡ b → cond b (f n) (f k) < m
+        by-test true e = last-else k h (eqb-true _ _ e)
+        by-test false e = ⊎-elim (λ q. absurd (eqb-false _ _ e q)) (λ q. q) (or-last k (omega arith))
+
+    still-apart : (a b : ℕ) → a < n → b < n → cond (eqb (f a) m) (f n) (f a) ≡ cond (eqb (f b) m) (f n) (f b) → a ≡ b
+    still-apart a b ha hb e = by-tests (eqb (f a) m) refl (eqb (f b) m) refl e
+      where
+        by-tests : (x : Bool) → eqb (f a) m ≡ x → (y : Bool) → eqb (f b) m ≡ y → cond x (f n) (f a) ≡ cond y (f n) (f b) → a ≡ b
+        by-tests true p true q e = apart a b (omega arith) (omega arith) (eqb-true _ _ p ∙ sym (eqb-true _ _ q))
+        by-tests true p false q e = absurd (omega (arith, apart n b (omega arith) (omega arith) e))
+        by-tests false p true q e = absurd (omega (arith, apart a n (omega arith) (omega arith) e))
+        by-tests false p false q e = apart a b (omega arith) (omega arith) e
+
+pub distinct-fits :
+    {A : Type 0} (p : A → A → Bool) (d : A) (l m : List A) →
+    Same p →
+    Distinct p d l →
+    ((k : ℕ) → k < length l → first (p (getD l k d)) m ≡ Nothing → ⊥) →
+    length l ≤ length m
+distinct-fits {A} p d l m same apart there =
+    no-more (length m) (length l) (λ (k : ℕ). placeOf (first (p (getD l k d)) m) 0) (λ k h. found k h .0)
+    (λ a b ha hb e.
+    let x = same .alike (getD l a d) _ (found a ha .1) in
+    let y = same .alike (getD l b d) _ (found b hb .1) in
+    let z : first (p (getD l a d)) l ≡ first (p (getD l b d)) l =
+    first-same (p (getD l a d)) (p (getD l b d)) l (λ w. x w ∙ ap (λ (i : ℕ). p (getD m i d) w) e ∙ sym (y w)) in
+    same-place (sym (apart a ha) ∙ z ∙ apart b hb))
+  where
+    same-place : {a b : ℕ} → At a ≡ At b → a ≡ b
+    same-place e = cc
+
+    found : (k : ℕ) → k < length l → (placeOf (first (p (getD l k d)) m) 0 < length m) × (p (getD l k d) (getD m (placeOf (first (p (getD l k d)) m) 0) d) ≡ true)
+    found k h = by-case (first (p (getD l k d)) m) (first-is (p (getD l k d)) d m) (there k h)
+      where
+        by-case :
+            (f : Found) →
+            ((i : ℕ) → f ≡ At i → (i < length m) × (p (getD l k d) (getD m i d) ≡ true)) →
+            (f ≡ Nothing → ⊥) →
+            (placeOf f 0 < length m) × (p (getD l k d) (getD m (placeOf f 0) d) ≡ true)
+        by-case (At i) q n = q i refl
+        by-case Nothing q n = absurd (n refl)
+
+pub map-snoc : {A B : Type 0} (f : A → B) (l : List A) (x : A) → map f (l ++ (x ∷ [])) ≡ map f l ++ (f x ∷ [])
+map-snoc f [] x = refl
+map-snoc f (y ∷ ys) x = rw (map-snoc f ys x)

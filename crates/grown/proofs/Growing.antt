@@ -1,0 +1,277 @@
+-- Every other kind of write leaves a sane table sane, one law for each; and so every grown table is sane. Assumes nothing.
+use mathlib.Core.Path.{_≡_, refl, sym, subst}
+use mathlib.Core.Bool.{Bool, true, false, cond, _&&_}
+use mathlib.Core.List.{List, [], _∷_, map}
+use mathlib.Core.Logic.{_⊎_, inl, inr}
+use Prim.Native.Nat.{ℕ, zero, suc, _%_, _<_, _≤_}
+use native.Mathlib.Omega.{arith}
+use lib.Dec.{ltb}
+use borrow.Author.Tests.{eqb-true, eq-eqb, lt-ltb, ltb-false}
+use lib.ListN.{length, getD, length-map}
+use Rattle.search.specs.Search.{first, all, put, placeOf}
+use Rattle.search.specs.Bytes.{sameBytes}
+use Rattle.search.specs.declared.Found.{Found}
+use Rattle.search.specs.declared.Found.the-variants.{At, Nothing}
+use Rattle.search.proofs.Laws.{and-both, all-at, all-put, first-is, length-put, Same, Distinct, distinct-put, Front, front-same, front-more, front-length, all-map, all-made, distinct-map}
+use Rattle.alphabet.specs.Alphabet.{wellFormed, fields}
+use Rattle.store.specs.declared.Rule.{Rule}
+use Rattle.store.specs.declared.Mapping.{Mapping}
+use Rattle.store.specs.Table.{Table, labelIn, isPair, soundRule, soundMapping}
+use Rattle.store.proofs.Laws.{sound-more}
+use Rattle.rules.specs.Rules.{noPlace}
+use Rattle.rules.proofs.Laws.{place-count}
+use Rattle.lines.specs.Lines.{ruleOf, changeOf}
+use Rattle.lines.proofs.Laws.{rule-sound, change-sound}
+use Rattle.revoke.specs.Revoke.{hasSubject, revokedRule, withoutModes, revokeTable}
+use Rattle.onlycap.specs.Onlycap.{joined, different, labelsWith, numberIn, loneDash, onlycapLabels, onlycapFields, onlycapOf, tableBy, onlycapTable}
+use Rattle.store.specs.declared.Done.the-variants as d
+use Rattle.cipso.specs.Cipso as cipso
+use Rattle.cipso.proofs.Laws.{Maps, maps}
+use Rattle.grown.specs.Grown.{Grown, from-fresh, by-rule, by-change, by-revoke, by-onlycap, by-mapping}
+use Rattle.grown.specs.Sane.{twoLabels, Sane}
+use Rattle.grown.proofs.Sane.{samePair, sound-parts, sound-whole, enter, enter-front, enter-length, enter-number, enter-once, enter-all, five-front, front-five, fresh-sane, said-sane}
+
+-- ---- revoke-subject: rules lose their modes, and nothing else changes
+
+module _ (n : ℕ) where
+  same-subject : (r : Rule) → revokedRule n r .subject ≡ r .subject
+  same-subject r = by-test (hasSubject n r)
+    where
+      by-test : (b : Bool) → cond b (record { subject = r .subject; object = r .object; modes = 0 }) r .subject ≡ r .subject
+      by-test true = refl
+      by-test false = refl
+
+  same-object : (r : Rule) → revokedRule n r .object ≡ r .object
+  same-object r = by-test (hasSubject n r)
+    where
+      by-test : (b : Bool) → cond b (record { subject = r .subject; object = r .object; modes = 0 }) r .object ≡ r .object
+      by-test true = refl
+      by-test false = refl
+
+  revoked-apart : (r : Rule) → twoLabels r ≡ true → twoLabels (revokedRule n r) ≡ true
+  revoked-apart r e = rw (same-subject r, same-object r) e
+
+  revoked-pair : (r q : Rule) → samePair (revokedRule n r) (revokedRule n q) ≡ samePair r q
+  unfolding isPair
+  revoked-pair r q = rw (same-subject r, same-object r, same-subject q, same-object q)
+
+  revoked-sound : (k : ℕ) (r : Rule) → soundRule k r ≡ true → soundRule k (revokedRule n r) ≡ true
+  unfolding soundRule
+  revoked-sound k r e = by-test (hasSubject n r)
+    where
+      by-test : (b : Bool) → soundRule k (cond b (record { subject = r .subject; object = r .object; modes = 0 }) r) ≡ true
+      by-test true = rw (and-both (ltb (r .subject) k && ltb (r .object) k) (ltb (r .modes) 64) e .0)
+      by-test false = e
+
+  cleared-sane : (t : Table) → Sane t → Sane (withoutModes t (At n))
+  cleared-sane t h =
+      let a = sound-parts t (length (t .labels)) (h .sound) in
+      record {
+        five = h .five;
+        formed = h .formed;
+        label-once = h .label-once;
+        two-labels = all-map twoLabels twoLabels (revokedRule n) revoked-apart (t .rules) (h .two-labels);
+        pair-once = distinct-map samePair (record { subject = 0; object = 0; modes = 0 }) (revokedRule n) revoked-pair (t .rules) (h .pair-once);
+        sound =
+            sound-whole (withoutModes t (At n)) (length (t .labels))
+            (all-map (soundRule (length (t .labels))) (soundRule (length (t .labels))) (revokedRule n) (revoked-sound (length (t .labels))) (t .rules) (a .0))
+            (a .1)
+            (a .2);
+        mapping-once = h .mapping-once;
+        labels = h .labels;
+        rules = rw length-map (h .rules);
+        mappings = h .mappings;
+        onlycap = h .onlycap;
+      }
+
+pub revoke-sane : (t : Table) (label : List ℕ) → Sane t → Sane (revokeTable t label)
+unfolding revokeTable
+revoke-sane t label h = by-tests (ltb 600 (length label)) (wellFormed label) (labelIn t label)
+  where
+    by-tests : (a b : Bool) (f : Found) → Sane (cond a t (cond b (withoutModes t f) t))
+    by-tests true b f = h
+    by-tests false true (At n) = cleared-sane n t h
+    by-tests false true Nothing = h
+    by-tests false false f = h
+
+-- ---- the onlycap list: labels enter, and the list is replaced
+
+module _ (ls fs : List (List ℕ)) where
+  joined-front : (n : ℕ) → Front ls (joined ls fs n)
+  unfolding joined
+  joined-front zero = front-same ls
+  joined-front (suc n) = front-more (joined-front n) (enter-front (joined ls fs n) (getD fs n []))
+
+  joined-once : Distinct sameBytes [] ls → (n : ℕ) → Distinct sameBytes [] (joined ls fs n)
+  unfolding joined
+  joined-once once zero = once
+  joined-once once (suc n) = enter-once (joined ls fs n) (getD fs n []) (joined-once once n)
+
+  joined-all : (q : List ℕ → Bool) → all q ls ≡ true → all q fs ≡ true → (n : ℕ) → n ≤ length fs → all q (joined ls fs n) ≡ true
+  unfolding joined
+  joined-all q e f zero h = e
+  joined-all q e f (suc n) h = enter-all (joined ls fs n) (getD fs n []) q (joined-all q e f n (omega arith)) (all-at q [] fs f n h)
+
+-- the five are there, so a number is that of a label
+number-below : (ls : List (List ℕ)) (l : List ℕ) → 5 ≤ length ls → numberIn ls l < length ls
+number-below ls l h = by-case (first (sameBytes l) ls) (first-is (sameBytes l) [] ls)
+  where
+    by-case : (f : Found) → ((i : ℕ) → f ≡ At i → (i < length ls) × (sameBytes l (getD ls i []) ≡ true)) → placeOf f 0 < length ls
+    by-case (At i) q = q i refl .0
+    by-case Nothing q = omega arith
+
+-- labels that enter, and what then is in the mappings and the onlycap list, with the rules as they were
+entered-sane :
+    (t : Table) (ls : List (List ℕ)) (ms : List Mapping) (os : List ℕ) →
+    Sane t →
+    Front (t .labels) ls →
+    all wellFormed ls ≡ true →
+    Distinct sameBytes [] ls →
+    length ls ≤ 64 →
+    all (soundMapping (length ls)) ms ≡ true →
+    Distinct (λ (m : Mapping). cipso.names (m .label)) (record { label = 0; level = 0; set = 0 }) ms →
+    length ms ≤ 32 →
+    all (λ (k : ℕ). ltb k (length ls)) os ≡ true →
+    length os ≤ 8 →
+    Sane (record { labels = ls; rules = t .rules; mappings = ms; onlycap = os })
+entered-sane t ls ms os h front formed once few sound-ms once-ms few-ms sound-os few-os =
+    record {
+      five = front-five (front-more (five-front (h .five)) front);
+      formed = formed;
+      label-once = once;
+      two-labels = h .two-labels;
+      pair-once = h .pair-once;
+      sound =
+          sound-whole (record { labels = ls; rules = t .rules; mappings = ms; onlycap = os }) (length ls)
+          (sound-parts t (length ls) (sound-more (length (t .labels)) (length ls) (front-length front) t (h .sound)) .0)
+          sound-ms
+          sound-os;
+      mapping-once = once-ms;
+      labels = few;
+      rules = h .rules;
+      mappings = few-ms;
+      onlycap = few-os;
+    }
+
+module _ (t : Table) (ls : List (List ℕ)) (h : Sane t) (front : Front (t .labels) ls) where
+  mappings-more : all (soundMapping (length ls)) (t .mappings) ≡ true
+  mappings-more = sound-parts t (length ls) (sound-more (length (t .labels)) (length ls) (front-length front) t (h .sound)) .1
+
+  onlycap-more : all (λ (k : ℕ). ltb k (length ls)) (t .onlycap) ≡ true
+  onlycap-more = sound-parts t (length ls) (sound-more (length (t .labels)) (length ls) (front-length front) t (h .sound)) .2
+
+  at-least-five : 5 ≤ length ls
+  at-least-five = front-length (front-more (five-front (h .five)) front)
+
+module _ (t : Table) (h : Sane t) where
+  emptied-sane : Sane (record { labels = t .labels; rules = t .rules; mappings = t .mappings; onlycap = [] })
+  unfolding all
+  emptied-sane =
+      entered-sane t (t .labels) (t .mappings) [] h (front-same (t .labels)) (h .formed) (h .label-once) (h .labels)
+      (mappings-more t (t .labels) h (front-same (t .labels))) (h .mapping-once) (h .mappings) refl (omega arith)
+
+  listed-sane :
+      (fs : List (List ℕ)) →
+      all wellFormed fs ≡ true →
+      length (different fs) ≤ 8 →
+      length (labelsWith t fs) ≤ 64 →
+      Sane (record { labels = labelsWith t fs; rules = t .rules; mappings = t .mappings; onlycap = map (numberIn (labelsWith t fs)) (different fs) })
+  listed-sane fs formed few room =
+      let front = joined-front (t .labels) fs (length fs) in
+      entered-sane t (labelsWith t fs) (t .mappings) (map (numberIn (labelsWith t fs)) (different fs)) h front
+      (joined-all (t .labels) fs wellFormed (h .formed) formed (length fs) (omega arith))
+      (joined-once (t .labels) fs (h .label-once) (length fs))
+      room
+      (mappings-more t (labelsWith t fs) h front)
+      (h .mapping-once)
+      (h .mappings)
+      (all-made (λ (k : ℕ). ltb k (length (labelsWith t fs))) (numberIn (labelsWith t fs)) (λ l. lt-ltb _ _ (number-below (labelsWith t fs) l (at-least-five t (labelsWith t fs) h front))) (different fs))
+      (rw length-map few)
+
+  pub onlycap-sane : (text : List ℕ) → Sane (onlycapTable t text)
+  unfolding onlycapTable onlycapOf
+  onlycap-sane text = by-length (ltb 600 (length text))
+    where
+      by-labels :
+          (fs : List (List ℕ)) →
+          loneDash fs ≡ false →
+          (a : Bool) →
+          all wellFormed fs ≡ a →
+          (b : Bool) →
+          ltb 8 (length (different fs)) ≡ b →
+          (c : Bool) →
+          ltb 64 (length (labelsWith t fs)) ≡ c →
+          Sane (tableBy t fs (cond a (cond b (d.Refused 11) (cond c (d.Refused 6) d.Done)) (d.Refused 3)))
+      by-labels fs e false ea b eb c ec = h
+      by-labels fs e true ea true eb c ec = h
+      by-labels fs e true ea false eb true ec = h
+      by-labels fs e true ea false eb false ec = rw e (listed-sane fs ea (ltb-false _ _ eb) (ltb-false _ _ ec))
+
+      by-dash : (fs : List (List ℕ)) (b : Bool) → loneDash fs ≡ b → Sane (tableBy t fs (cond b d.Done (onlycapLabels t fs)))
+      by-dash fs true e = rw e emptied-sane
+      by-dash fs false e = by-labels fs e (all wellFormed fs) refl (ltb 8 (length (different fs))) refl (ltb 64 (length (labelsWith t fs))) refl
+
+      by-fields : (fs : List (List ℕ)) → Sane (tableBy t fs (onlycapFields t fs))
+      by-fields [] = h
+      by-fields (f ∷ more) = by-dash (f ∷ more) (loneDash (f ∷ more)) refl
+
+      by-length : (b : Bool) → Sane (tableBy t (fields text) (cond b (d.Refused 1) (onlycapFields t (fields text))))
+      by-length true = h
+      by-length false = by-fields (fields text)
+
+-- ---- a CIPSO mapping: a label enters, and its mapping is put in its place
+
+-- two mappings of one label
+abbrev sameNames : Mapping → Mapping → Bool
+sameNames m = cipso.names (m .label)
+
+same-names : Same sameNames
+unfolding cipso.names
+same-names =
+    record {
+      itself = λ m. eq-eqb (m .label) (m .label) refl;
+      alike = λ m q e z. rw (eqb-true (q .label) (m .label) e);
+    }
+
+module _ (t : Table) (l : List ℕ) (level s : ℕ) (h : Sane t) (formed : wellFormed l ≡ true) (even : s % 2 ≡ 0) where
+  abbrev numbered : ℕ
+  numbered = placeOf (labelIn t l) (length (t .labels))
+
+  abbrev newMapping : Mapping
+  newMapping = record { label = numbered; level = level; set = s }
+
+  new-sound : soundMapping (length (enter (t .labels) l)) newMapping ≡ true
+  unfolding soundMapping
+  new-sound = rw (lt-ltb _ _ (first-is (sameBytes l) [] (enter (t .labels) l) numbered (enter-number (t .labels) l) .0), eq-eqb _ _ even)
+
+  put-sane :
+      noPlace (labelIn t l) (length (t .labels)) 64 ≡ false →
+      noPlace (cipso.mappingIn t numbered) (length (t .mappings)) 32 ≡ false →
+      Sane (record { labels = enter (t .labels) l; rules = t .rules; mappings = put (cipso.mappingIn t numbered) (t .mappings) newMapping; onlycap = t .onlycap })
+  put-sane room place =
+      let front = enter-front (t .labels) l in
+      entered-sane t (enter (t .labels) l) (put (cipso.mappingIn t numbered) (t .mappings) newMapping) (t .onlycap) h front
+      (enter-all (t .labels) l wellFormed (h .formed) formed)
+      (enter-once (t .labels) l (h .label-once))
+      (rw enter-length (place-count (labelIn t l) (length (t .labels)) 64 (h .labels) room))
+      (all-put (soundMapping (length (enter (t .labels) l))) (cipso.mappingIn t numbered) (t .mappings) newMapping (mappings-more t (enter (t .labels) l) h front) new-sound)
+      (distinct-put sameNames (record { label = 0; level = 0; set = 0 }) (t .mappings) newMapping same-names (h .mapping-once))
+      (rw length-put (place-count (cipso.mappingIn t numbered) (length (t .mappings)) 32 (h .mappings) place))
+      (onlycap-more t (enter (t .labels) l) h front)
+      (h .onlycap)
+
+pub mapping-sane : (t : Table) (text : List ℕ) → Sane t → Sane (cipso.mappedTable t text)
+mapping-sane t text h = by-case (maps t text)
+  where
+    by-case : (cipso.mappedTable t text ≡ t) ⊎ Maps t (cipso.mappedTable t text) → Sane (cipso.mappedTable t text)
+    by-case (inl e) = subst Sane (sym e) h
+    by-case (inr w) = subst Sane (sym (w .is)) (put-sane t (w .name) (w .level) (w .members) h (w .formed) (w .known) (w .labels) (w .mappings))
+
+-- EVERY GROWN TABLE
+pub grown-sane : {t : Table} → Grown t → Sane t
+grown-sane from-fresh = fresh-sane
+grown-sane (by-rule {t} {t′} line g e) = said-sane t t′ (ruleOf line) (grown-sane g) (rule-sound line) e
+grown-sane (by-change {t} {t′} text g e) = said-sane t t′ (changeOf text) (grown-sane g) (change-sound text) e
+grown-sane (by-revoke {t} label g e) = subst Sane e (revoke-sane t label (grown-sane g))
+grown-sane (by-onlycap {t} text g e) = subst Sane e (onlycap-sane t (grown-sane g) text)
+grown-sane (by-mapping {t} text g e) = subst Sane e (mapping-sane t text (grown-sane g))

@@ -1,0 +1,5 @@
+pub mod Sane
+pub mod Growing
+pub mod Pairs
+pub mod Order
+pub mod Relisted

@@ -1,0 +1,5 @@
+pub mod Grown
+pub mod Sane
+pub mod Pairs
+pub mod Order
+pub mod Relisted

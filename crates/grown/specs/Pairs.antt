@@ -1,0 +1,81 @@
+-- Demand 2, second half: 'Loading a well-formed triple of two different labels, within the line length and with room for it, sets that
+-- pair's modes and changes no other pair's answer.' Each part of that sentence by a name. Assumes nothing.
+use Prim.Native.Nat.{ℕ, _+_, _≤_}
+use mathlib.Core.Bool.{Bool, true, false, _&&_, _||_}
+use mathlib.Core.Path.{_≡_}
+use mathlib.Core.List.{List, [], _∷_, _++_}
+use lib.ListN.{length}
+use lib.Dec.{leb, ltb}
+use Rattle.search.specs.declared.Found.{Found}
+use Rattle.search.specs.declared.Found.the-variants.{At, Nothing}
+use Rattle.alphabet.specs.Alphabet.{wellFormed, lineLimit, fields}
+use Rattle.modes.specs.Modes.{readModes, ruleLetters}
+use Rattle.modes.specs.declared.Access.the-variants.{Modes}
+use Rattle.store.specs.declared.Rule.{Rule}
+use Rattle.store.specs.Table.{Table, labelIn, labelLimit, ruleLimit}
+use Rattle.writes.specs.Writes.{Judged, is-skipped, is-refused, is-accepted}
+use Rattle.access.specs.Rules.{Line, line, ruleBetween, modesAt, holds, bringUp, labelRules, sevenRules}
+use Rattle.access.specs.Access.{effective, answer}
+use Rattle.access.specs.declared.Denial.the-variants.{NoRule}
+use Rattle.access.specs.declared.Verdict.the-variants.{Grants, Denies}
+
+-- a well-formed triple of two different labels, within the line length: subject, object and the modes that its access field says
+pub record Triple (text s o : List ℕ) (m : ℕ) : Type 0 where
+  pub short : length text ≤ lineLimit
+  pub access : List ℕ
+  pub three : fields text ≡ s ∷ o ∷ access ∷ []
+  pub subject : wellFormed s ≡ true
+  pub object : wellFormed o ≡ true
+  pub modes : readModes ruleLetters true access ≡ Modes m
+  pub different : s ≡ o → ⊥
+
+-- the modes of a pair of labels, read as rule 6 reads them: by the first number of each label and the first rule of the two
+pub data PairModes : Type 0 where
+  has-modes : ℕ → PairModes
+  no-rule : PairModes
+
+abbrev pub modesFound : List Rule → Found → PairModes
+modesFound rules (At k) = has-modes (modesAt rules k)
+modesFound rules Nothing = no-rule
+
+unfoldable pub modesBetween : Table → List ℕ → List ℕ → PairModes
+modesBetween t s o = modesFound (t .rules) (ruleBetween t (labelIn t s) (labelIn t o))
+
+-- the modes that a change starts from: those of the pair's rule, or none
+abbrev pub modesSoFar : PairModes → ℕ
+modesSoFar (has-modes m) = m
+modesSoFar no-rule = 0
+
+-- room for it: no more new labels than free label places, and the pair has a rule or fewer than 256 are stored
+abbrev pub newLabels : Found → ℕ
+newLabels (At k) = 0
+newLabels Nothing = 1
+
+abbrev pub hasRule : PairModes → Bool
+hasRule (has-modes m) = true
+hasRule no-rule = false
+
+unfoldable pub hasRoom : Table → List ℕ → List ℕ → Bool
+hasRoom t s o =
+    leb (length (t .labels) + (newLabels (labelIn t s) + newLabels (labelIn t o))) labelLimit
+    && (hasRule (modesBetween t s o) || ltb (length (t .rules)) ruleLimit)
+
+abbrev pub isAccepted : Judged → Bool
+isAccepted is-skipped = false
+isAccepted (is-refused n) = false
+isAccepted (is-accepted t) = true
+
+-- the seven rules for a pair with these modes
+abbrev pub rulesFor : List ℕ → List ℕ → ℕ → ℕ → List Line
+rulesFor s o m wanted = labelRules s o wanted ++ (line (holds wanted m) (Grants 6 (bringUp m)) ∷ line true (Denies NoRule) ∷ [])
+
+-- what it does: from table t to table t′
+pub record SetsPair (t t′ : Table) (s o : List ℕ) (m : ℕ) : Type 0 where
+  -- it sets the pair's modes, and the pair is from now on judged by them
+  pub modes : modesBetween t′ s o ≡ has-modes m
+  pub judged-by : (wanted : ℕ) → sevenRules t′ s o wanted ≡ rulesFor s o m wanted
+  -- no other pair's answer changes, whoever asks for what; nor do its modes
+  pub other-answers : (x y request : List ℕ) (capable : Bool) → (x ≡ s → y ≡ o → ⊥) → answer t′ x y request capable ≡ answer t x y request capable
+  pub other-modes : (x y : List ℕ) → (x ≡ s → y ≡ o → ⊥) → modesBetween t′ x y ≡ modesBetween t x y
+  -- nor does anybody's override
+  pub override : (x : List ℕ) (capable : Bool) → effective t′ (labelIn t′ x) capable ≡ effective t (labelIn t x) capable

@@ -1,0 +1,151 @@
+-- Laws of a run's search: what it answers, the best of the records looked at so far, and the records of three lists. Assumes nothing.
+use mathlib.Core.Path.{_≡_, refl, sym, _∙_, ap}
+use mathlib.Core.Bool.{Bool, true, false, cond}
+use mathlib.Core.List.{List, [], _∷_, foldl}
+use Prim.Native.Nat.{ℕ, zero, suc, _+_, _≤_, _<_}
+use native.Mathlib.Omega.{arith}
+use native.Mathlib.Numerals.{add-one}
+use lib.Dec.{ltb}
+use lib.ListN.{length, drop, getD, drop-of-length-le}
+use lib.Seq.{drop-cons}
+use borrow.Author.Tests.{ltb-true, ltb-false}
+use Rattle.cipso.specs.Cipso.{lowerOf, lowestOf}
+use Rattle.cipso.proofs.Laws.{Lowest, Unmatched, lowest-found, lowest-none, none-lowest}
+use Rattle.cipso.specs.declared.Record.{Record}
+use Rattle.cipso.specs.declared.Best.{Best}
+use Rattle.cipso.specs.declared.Best.the-variants as best
+use Rattle.cipso.specs.declared.Label.the-variants as label
+use Rattle.run.specs.Run.{sought, said, settledOf, runOf, recordsOf}
+use Rattle.run.specs.Within.{searched, Shortest}
+
+-- ---- by whether the level and the set can be searched for
+
+module _ (level s : ℕ) where
+  pub searched-none : (count : ℕ) → sought level s ≡ false → searched count level s ≡ 0
+  unfolding searched
+  searched-none count h = ap (λ (t : Bool). cond t count 0) h
+
+  pub searched-all : (count : ℕ) → sought level s ≡ true → searched count level s ≡ count
+  unfolding searched
+  searched-all count h = ap (λ (t : Bool). cond t count 0) h
+
+  pub settled-refused : (b : Best) → sought level s ≡ false → settledOf b level s ≡ label.Refused 9
+  unfolding settledOf
+  settled-refused b h = ap (λ (t : Bool). cond t (said b) (label.Refused 9)) h
+
+  pub settled-said : (b : Best) → sought level s ≡ true → settledOf b level s ≡ said b
+  unfolding settledOf
+  settled-said b h = ap (λ (t : Bool). cond t (said b) (label.Refused 9)) h
+
+  -- no more records are looked at than there are
+  pub searched-within : (count : ℕ) → searched count level s ≤ count
+  unfolding searched
+  searched-within count = by-test (sought level s)
+    where
+      by-test : (t : Bool) → cond t count 0 ≤ count
+      by-test true = omega arith
+      by-test false = omega arith
+
+-- ---- the best so far
+
+module _ (run : List Record) (level s : ℕ) where
+  -- b is the best of the first i records: with those that are left it makes the best of the run
+  abbrev pub Left : Best → ℕ → Type 0
+  Left b i = foldl (lowerOf level s) b (drop i run) ≡ lowestOf run level s
+
+  pub left-start : Left best.Nothing 0
+  unfolding lowestOf
+  left-start = refl
+
+  pub left-next : (z : Record) (b r : Best) (i : ℕ) → i < length run → r ≡ lowerOf level s b (getD run i z) → Left b i → Left r (i + 1)
+  left-next z b r i h e l = rw (e, add-one) (sym (rw (drop-cons run i z h)) ∙ l)
+
+  -- what is answered at the end: either all records were looked at, or the level or the set is refused
+  pub left-settled : (b : Best) (i : ℕ) → searched (length run) level s ≤ i → Left b i → settledOf b level s ≡ runOf run level s
+  unfolding settledOf runOf searched
+  left-settled b i h l = by-test (sought level s) h
+    where
+      by-test : (t : Bool) → cond t (length run) 0 ≤ i → cond t (said b) (label.Refused 9) ≡ cond t (said (lowestOf run level s)) (label.Refused 9)
+      by-test true h = let e : b ≡ lowestOf run level s = sym (rw (drop-of-length-le run {i = i} h)) ∙ l in rw e
+      by-test false h = refl
+
+-- ---- what a search says
+
+module _ (run : List Record) (level s : ℕ) where
+  -- 9 is answered wherever the level or the set cannot be searched for
+  pub run-refused : sought level s ≡ false → runOf run level s ≡ label.Refused 9
+  unfolding runOf
+  run-refused h = settled-refused level s (lowestOf run level s) h
+
+  -- and nothing else is ever refused: a run never gets 0
+  pub run-refused-9 : (k : ℕ) → runOf run level s ≡ label.Refused k → (k ≡ 9) × (sought level s ≡ false)
+  unfolding runOf settledOf
+  run-refused-9 k e = by-test (sought level s) refl (lowestOf run level s) e
+    where
+      by-test : (t : Bool) → sought level s ≡ t → (b : Best) → cond t (said b) (label.Refused 9) ≡ label.Refused k → (k ≡ 9) × (sought level s ≡ false)
+      by-test true h (best.Label n) e = let z : _≡_ {A = ℕ} 0 1 = cc in absurd (omega arith)
+      by-test true h best.Nothing e = let z : _≡_ {A = ℕ} 0 1 = cc in absurd (omega arith)
+      by-test false h b e = (cc, h)
+
+  -- a label number that is answered is the lowest of those whose level and set both match
+  pub run-found : (n : ℕ) → runOf run level s ≡ label.Number n → Lowest run level s n
+  unfolding runOf settledOf
+  run-found n e = lowest-found level s run n (by-test (sought level s) (lowestOf run level s) e)
+    where
+      by-test : (t : Bool) (b : Best) → cond t (said b) (label.Refused 9) ≡ label.Number n → b ≡ best.Label n
+      by-test true (best.Label k) e = let z : k ≡ n = cc in rw z
+      by-test true best.Nothing e = let z : _≡_ {A = ℕ} 0 1 = cc in absurd (omega arith)
+      by-test false b e = let z : _≡_ {A = ℕ} 0 1 = cc in absurd (omega arith)
+
+  -- none is answered exactly where none matches
+  pub run-none : sought level s ≡ true → Unmatched run level s → runOf run level s ≡ label.Nothing
+  unfolding runOf
+  run-none h u = settled-said level s (lowestOf run level s) h ∙ ap said (lowest-none level s run u)
+
+  pub none-run : runOf run level s ≡ label.Nothing → Unmatched run level s
+  unfolding runOf settledOf
+  none-run e = none-lowest level s run (by-test (sought level s) (lowestOf run level s) e)
+    where
+      by-test : (t : Bool) (b : Best) → cond t (said b) (label.Refused 9) ≡ label.Nothing → b ≡ best.Nothing
+      by-test true (best.Label k) e = let z : _≡_ {A = ℕ} 0 1 = cc in absurd (omega arith)
+      by-test true best.Nothing e = refl
+      by-test false b e = let z : _≡_ {A = ℕ} 0 1 = cc in absurd (omega arith)
+
+-- ---- the records of three lists
+
+-- there are as many as the shortest has elements
+pub records-length : (a b c : List ℕ) → Shortest (length a) (length b) (length c) (length (recordsOf a b c))
+unfolding recordsOf
+records-length [] b c = record { first = omega arith; second = omega arith; third = omega arith; one = λ p q r. omega arith }
+records-length (x ∷ a) [] c = record { first = omega arith; second = omega arith; third = omega arith; one = λ p q r. omega arith }
+records-length (x ∷ a) (y ∷ b) [] = record { first = omega arith; second = omega arith; third = omega arith; one = λ p q r. omega arith }
+records-length (x ∷ a) (y ∷ b) (z ∷ c) = let h = records-length a b c in record { first = omega arith; second = omega arith; third = omega arith; one = λ p q r. h .one (omega arith) (omega arith) (omega arith) }
+
+-- two shortest lengths are equal
+pub shortest-same : (a b c m n : ℕ) → Shortest a b c m → Shortest a b c n → m ≡ n
+shortest-same a b c m n p q = by-test (ltb m n) (ltb n m) refl refl
+  where
+    by-test : (t u : Bool) → ltb m n ≡ t → ltb n m ≡ u → m ≡ n
+    by-test true u e f = let h = ltb-true m n e in absurd (p .one (omega arith) (omega arith) (omega arith))
+    by-test false true e f = let h = ltb-true n m f in absurd (q .one (omega arith) (omega arith) (omega arith))
+    by-test false false e f = omega (arith, ltb-false m n e, ltb-false n m f)
+
+-- record i has element i of each
+pub records-at : (a b c : List ℕ) (i : ℕ) (d : Record) → i < length (recordsOf a b c) → getD (recordsOf a b c) i d ≡ record { label = getD a i 0; level = getD b i 0; set = getD c i 0 }
+unfolding recordsOf
+records-at [] b c i d h = absurd (omega arith)
+records-at (x ∷ a) [] c i d h = absurd (omega arith)
+records-at (x ∷ a) (y ∷ b) [] i d h = absurd (omega arith)
+records-at (x ∷ a) (y ∷ b) (z ∷ c) zero d h = refl
+records-at (x ∷ a) (y ∷ b) (z ∷ c) (suc i) d h = records-at a b c i d (omega arith)
+
+-- one record more is looked at
+pub records-next :
+    (a b c : List ℕ) (level s : ℕ) (m r : Best) (i : ℕ) →
+    i < length (recordsOf a b c) →
+    r ≡ lowerOf level s m (record { label = getD a i 0; level = getD b i 0; set = getD c i 0 }) →
+    Left (recordsOf a b c) level s m i →
+    Left (recordsOf a b c) level s r (i + 1)
+records-next a b c level s m r i h e l =
+    let z : Record = record { label = 0; level = 0; set = 0 } in
+    left-next (recordsOf a b c) level s z m r i h (e ∙ ap (lowerOf level s m) (sym (records-at a b c i z h))) l

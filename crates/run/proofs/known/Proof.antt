@@ -1,0 +1,16 @@
+-- `run::known` meets its contract: it makes the definition's tests in their order. Assumes nothing.
+use borrow.Author.Tests.{lt-leb, le-leb}
+use Rattle.run.specs.Run.{sought}
+use Rattle.run.proofs.known.Statement.{statement}
+use Rattle.run.proofs.known.Tie as tie
+
+returns : tie.Need-returns
+unfolding sought
+returns c = rw (lt-leb _ _ (c .if1 .taken))
+
+returns-2 : tie.Need-returns-2
+unfolding sought
+returns-2 c = rw (le-leb _ _ (c .if1 .left))
+
+pub known-spec : {M : Type 1} → statement M
+known-spec = tie.close (tie.spec returns returns-2)

@@ -1,0 +1,100 @@
+-- `run::lowest_of` meets its contract. The loop's invariant: no more records are passed than are looked at, and the best so far with the
+-- records that are left makes the best of all. The measure is what is left to look at. Assumes nothing.
+use mathlib.Core.Path.{_≡_, sym, _∙_}
+use Prim.Native.Nat.{_≤_, _-_}
+use mathlib.Core.List.{List}
+use native.Mathlib.Omega.{arith}
+use borrow.Author.Needs.{needs}
+use lib.ListN.{length}
+use Rattle.cipso.specs.declared.Record.{Record}
+use Rattle.run.specs.Run.{recordsOf}
+use Rattle.run.proofs.Laws.{Left, left-start, left-settled, searched-within, records-length, records-next, shortest-same}
+use Rattle.run.proofs.lowest_of.Statement.{statement}
+use Rattle.run.proofs.lowest_of.Tie as tie
+
+abbrev Inv-loop : tie.InvT-loop
+Inv-loop labels levels sets level set all count best₀ i₀ best i = (i ≤ count) × Left (recordsOf labels levels sets) level set best i
+
+abbrev μ-loop : tie.MeasureT-loop
+μ-loop labels levels sets level set all count best₀ i₀ best i = count - i
+
+module _ (c : tie.After-reach Inv-loop μ-loop) where
+  abbrev records : List Record
+  records = recordsOf (c .before .before .before .before .before .args .labels .now) (c .before .before .before .before .before .args .levels .now) (c .before .before .before .before .before .args .sets .now)
+
+  -- the shortest of the three lengths is how many records there are
+  all-of : c .before .shortest .result ≡ length records
+  all-of = shortest-same _ _ _ _ _ (c .before .shortest .ensures) (records-length _ _ _)
+
+  -- no more of them are looked at
+  within : c .reach .result ≤ c .before .shortest .result
+  within = omega (arith, searched-within (c .before .before .before .before .before .args .level) (c .before .before .before .before .before .args .set) (c .before .shortest .result))
+
+shortest-requires : tie.Need-shortest-requires Inv-loop μ-loop
+shortest-requires c κs = search needs
+
+reach-requires : tie.Need-reach-requires Inv-loop μ-loop
+reach-requires c κs = search needs
+
+loop-holds : tie.Need-loop-holds Inv-loop μ-loop
+loop-holds c = (search needs, left-start _ _ _)
+
+mul-t15 : tie.Need-mul-t15 Inv-loop μ-loop
+mul-t15 c = omega (arith, within (c .before .before))
+
+shared-slice-read-t17 : tie.Need-shared-slice-read-t17 Inv-loop μ-loop
+shared-slice-read-t17 c = omega (arith, within (c .before .before .before))
+
+mul-t18 : tie.Need-mul-t18 Inv-loop μ-loop
+mul-t18 c = omega (arith, within (c .before .before .before))
+
+shared-slice-read-t20 : tie.Need-shared-slice-read-t20 Inv-loop μ-loop
+shared-slice-read-t20 c = omega (arith, within (c .before .before .before .before))
+
+mul-t21 : tie.Need-mul-t21 Inv-loop μ-loop
+mul-t21 c = omega (arith, within (c .before .before .before .before))
+
+shared-slice-read-t23 : tie.Need-shared-slice-read-t23 Inv-loop μ-loop
+shared-slice-read-t23 c = omega (arith, within (c .before .before .before .before .before))
+
+lower-requires : tie.Need-lower-requires Inv-loop μ-loop
+lower-requires c κs = search needs
+
+add-i : tie.Need-add-i Inv-loop μ-loop
+add-i c = omega arith
+
+loop-less : tie.Need-loop-less Inv-loop μ-loop
+loop-less c = omega arith
+
+loop-again : tie.Need-loop-again Inv-loop μ-loop
+loop-again c = (omega arith, records-next _ _ _ _ _ _ _ _ (omega (arith, within (c .before .before .before .before .before .before), all-of (c .before .before .before .before .before .before))) (c .lower .ensures) (c .before .before .before .before .before .loop .inv .1))
+
+settled-requires : tie.Need-settled-requires Inv-loop μ-loop
+settled-requires c κs = search needs
+
+returns : tie.Need-returns Inv-loop μ-loop
+returns c =
+    c .settled .ensures
+    ∙ left-settled _ _ _ _ (c .before .before .loop .i) (rw (sym (all-of (c .before .before .before)), sym (c .before .before .before .reach .ensures)) (c .before .loop-test .left)) (c .before .before .loop .inv .1)
+
+pub lowest-of-spec : {M : Type 1} → statement M
+lowest-of-spec =
+    tie.close
+    (tie.spec
+    Inv-loop
+    μ-loop
+    shortest-requires
+    reach-requires
+    loop-holds
+    mul-t15
+    shared-slice-read-t17
+    mul-t18
+    shared-slice-read-t20
+    mul-t21
+    shared-slice-read-t23
+    lower-requires
+    add-i
+    loop-less
+    loop-again
+    settled-requires
+    returns)

@@ -1,0 +1,81 @@
+// A run of records that the host lends, searched for the lowest label number whose level and set both match (01, Single writes, the
+// paragraph after them). A run may have any length and content. It is no part of the state, so no search of it gets 0.
+use cipso::Best;
+use cipso::Label;
+use cipso::Record;
+ghost use mathlib.Core.Path.{_≡_};
+ghost use Rattle.run.specs.Run.{sought, settledOf, runOf, recordsOf};
+ghost use Rattle.run.specs.Within.{searched, Shortest};
+
+// Whether a level and a set can be searched for: the level is 0 to 255, and the set has no bit that is no category.
+fn known(level: u64, set: u64) -> bool
+    ensures { λ r. ⌜ r ≡ sought level set ⌝ }
+{
+    if 255 < level {
+        return false;
+    }
+    set % 2 == 0
+}
+
+// How many of a run's records are looked at: all, or none where the level or the set is refused.
+fn reach(count: usize, level: u64, set: u64) -> usize
+    ensures { λ r. ⌜ r ≡ searched count level set ⌝ }
+{
+    if known(level, set) { count } else { 0 }
+}
+
+// What a search answers by the best that it found.
+fn settled(best: Best, level: u64, set: u64) -> Label
+    ensures { λ r. ⌜ r ≡ settledOf best level set ⌝ }
+{
+    if !known(level, set) {
+        return Label::Refused(9);
+    }
+    match best {
+        Best::Label(n) => Label::Number(n as usize),
+        Best::Nothing => Label::Nothing,
+    }
+}
+
+// The shortest of three lengths.
+fn shortest(a: usize, b: usize, c: usize) -> usize
+    ensures { λ r. ⌜ Shortest a b c r ⌝ }
+{
+    let d = if b < a { b } else { a };
+    if c < d { c } else { d }
+}
+
+// The search by plain values: each field of the records stands in a slice of its own. There are as many records as the shortest of the
+// three has elements.
+pub fn lowest_of(labels: &[u64], levels: &[u64], sets: &[u64], level: u64, set: u64) -> Label
+    ensures { λ r. ⌜ r ≡ runOf (recordsOf (now (labels .entry)) (now (levels .entry)) (now (sets .entry))) level set ⌝ }
+{
+    let all = shortest(labels.len(), levels.len(), sets.len());
+    let count = reach(all, level, set);
+    let mut best = Best::Nothing;
+    let mut i = 0;
+    while i < count {
+        let entry = Record {
+            label: labels[i],
+            level: levels[i],
+            set: sets[i],
+        };
+        best = cipso::lower(best, entry, level, set);
+        i += 1;
+    }
+    settled(best, level, set)
+}
+
+// The search of a run of records. It reads a record whole, and `cipso::lower` compares it by value.
+pub fn lowest(run: &[Record], level: u64, set: u64) -> Label
+    ensures { λ r. ⌜ r ≡ runOf (now (run .entry)) level set ⌝ }
+{
+    let count = reach(run.len(), level, set);
+    let mut best = Best::Nothing;
+    let mut i = 0;
+    while i < count {
+        best = cipso::lower(best, run[i], level, set);
+        i += 1;
+    }
+    settled(best, level, set)
+}
