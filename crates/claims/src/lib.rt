@@ -1,5 +1,5 @@
-// What the users asked for, each claim under its name. These functions do nothing: what each ensures is the claim, so the check names it as
-// proved, and a program that depends on this crate depends on the claims.
+// What the users asked for, each claim under its name; demand 2 stands in the crate grown. These functions do nothing: what each ensures is
+// the claim, so the check names it as proved, and a program that depends on this crate depends on the claims.
 ghost use mathlib.Core.Path.{_≡_};
 ghost use mathlib.Core.Bool.{true, false};
 ghost use mathlib.Core.List.{List, map};
@@ -11,11 +11,17 @@ ghost use Rattle.load.proofs.Trace.{Fresh, Runs};
 ghost use Rattle.load.proofs.Undivided.{PlainReaders, refusal-of};
 ghost use Rattle.claims.specs.Cases.{right, cases};
 ghost use Rattle.claims.specs.Refusals.{NothingChanges};
+ghost use Rattle.claims.specs.Tables.{TablesFollow};
 
-// Demand 1: every call has an answer, since no public function has a precondition and each contract gives its answer by a definition; and a
+// Demand 1: every call of a host has an answer, since none has a precondition and each contract gives its answer by a definition; and a
 // refusal leaves the tables, the loader and every lent buffer holding what they held before.
 pub fn demand_1()
     ensures { λ _. ⌜ NothingChanges ⌝ }
+{}
+
+// What each write leaves in the lent slices is what 01 says it does to the tables, and an undamaged state stays undamaged.
+pub fn tables_follow()
+    ensures { λ _. ⌜ TablesFollow ⌝ }
 {}
 
 // Demand 3: every list of pieces, end calls and questions, from any undamaged table and a fresh loader, is the plain reader's.

@@ -14,7 +14,7 @@ use Rattle.search.specs.Bytes.{written}
 use Rattle.search.proofs.Laws.{and-both, and-assoc, all-snoc, all-weaker, entries-same, entries-none, last-entry, length-written}
 use Rattle.store.specs.declared.Rule.{Rule}
 use Rattle.store.specs.declared.Mapping.{Mapping}
-use Rattle.store.specs.Table.{Table, floor, hat, star, question-mark, at-sign, fresh, soundRule, soundMapping, soundTable}
+use Rattle.store.specs.Table.{Table, floor, hat, star, huh, web, fresh, soundRule, soundMapping, soundTable}
 use Rattle.store.specs.Layout.{Store, store, labelAt, ruleAt, mappingAt, onlycapAt, tableOf, undamagedOf, withLabel, withRule, held, freshLabels, freshWords, freshStore, Sizes, Counts}
 
 -- ---- a test over the entries of a table, by the runs of numbers that hold them
@@ -193,7 +193,7 @@ module _ (l : List ℕ) (full : length l ≡ 16384) where
   l₃ = withLabel l₂ 2 star
 
   abbrev l₄ : List ℕ
-  l₄ = withLabel l₃ 3 question-mark
+  l₄ = withLabel l₃ 3 huh
 
   full₁ : length l₁ ≡ 16384
   full₁ = length-label l 0 floor full (omega arith) (omega arith)
@@ -205,11 +205,11 @@ module _ (l : List ℕ) (full : length l ≡ 16384) where
   full₃ = length-label l₂ 2 star full₂ (omega arith) (omega arith)
 
   full₄ : length l₄ ≡ 16384
-  full₄ = length-label l₃ 3 question-mark full₃ (omega arith) (omega arith)
+  full₄ = length-label l₃ 3 huh full₃ (omega arith) (omega arith)
 
   pub length-fresh : length (freshLabels l) ≡ 16384
   unfolding freshLabels
-  length-fresh = length-label l₄ 4 at-sign full₄ (omega arith) (omega arith)
+  length-fresh = length-label l₄ 4 web full₄ (omega arith) (omega arith)
 
   -- one label more
   grow : (t : List ℕ) (k : ℕ) (x : List ℕ) → length t ≡ 16384 → k < 64 → length x ≤ 255 → entries (labelAt (withLabel t k x)) (suc k) ≡ entries (labelAt t) k ++ (x ∷ [])
@@ -221,9 +221,9 @@ module _ (l : List ℕ) (full : length l ≡ 16384) where
   pub fresh-labels : entries (labelAt (freshLabels l)) 5 ≡ fresh .labels
   unfolding freshLabels
   fresh-labels =
-      grow l₄ 4 at-sign full₄ (omega arith) (omega arith)
-      ∙ ap (λ (ls : List (List ℕ)). ls ++ (at-sign ∷ [])) (grow l₃ 3 question-mark full₃ (omega arith) (omega arith)
-      ∙ ap (λ (ls : List (List ℕ)). ls ++ (question-mark ∷ [])) (grow l₂ 2 star full₂ (omega arith) (omega arith)
+      grow l₄ 4 web full₄ (omega arith) (omega arith)
+      ∙ ap (λ (ls : List (List ℕ)). ls ++ (web ∷ [])) (grow l₃ 3 huh full₃ (omega arith) (omega arith)
+      ∙ ap (λ (ls : List (List ℕ)). ls ++ (huh ∷ [])) (grow l₂ 2 star full₂ (omega arith) (omega arith)
       ∙ ap (λ (ls : List (List ℕ)). ls ++ (star ∷ [])) (grow l₁ 1 hat full₁ (omega arith) (omega arith)
       ∙ ap (λ (ls : List (List ℕ)). ls ++ (hat ∷ [])) (grow l 0 floor full (omega arith) (omega arith) ∙ ap (λ (ls : List (List ℕ)). ls ++ (floor ∷ [])) (entries-none (labelAt l))))))
 

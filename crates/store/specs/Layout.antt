@@ -16,7 +16,7 @@ use Rattle.store.specs.declared.Rule.{Rule}
 use Rattle.store.specs.declared.Mapping.{Mapping}
 use Rattle.store.specs.declared.Done.{Done}
 use Rattle.store.specs.declared.Done.the-variants as d
-use Rattle.store.specs.Table.{Table, floor, hat, star, question-mark, at-sign, soundTable, labelLimit, ruleLimit, mappingLimit, onlycapLimit}
+use Rattle.store.specs.Table.{Table, floor, hat, star, huh, web, soundTable, labelLimit, ruleLimit, mappingLimit, onlycapLimit}
 
 -- the three lent slices
 pub record Store : Type 0 where
@@ -80,7 +80,7 @@ abbrev pub fullSizes : Store → Bool
 fullSizes s = eqb (length (s .labels)) 16384 && (eqb (length (s .entries)) 840 && eqb (length (s .words)) 36)
 
 unfoldable pub freshLabels : List ℕ → List ℕ
-freshLabels l = withLabel (withLabel (withLabel (withLabel (withLabel l 0 floor) 1 hat) 2 star) 3 question-mark) 4 at-sign
+freshLabels l = withLabel (withLabel (withLabel (withLabel (withLabel l 0 floor) 1 hat) 2 star) 3 huh) 4 web
 
 unfoldable pub freshWords : List ℕ → List ℕ
 freshWords w = set (set (set (set w 0 5) 1 0) 2 0) 3 0

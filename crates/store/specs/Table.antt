@@ -29,17 +29,17 @@ hat = 94 ∷ []
 abbrev pub star : List ℕ
 star = 42 ∷ []
 
-abbrev pub question-mark : List ℕ
-question-mark = 63 ∷ []
+abbrev pub huh : List ℕ
+huh = 63 ∷ []
 
-abbrev pub at-sign : List ℕ
-at-sign = 64 ∷ []
+abbrev pub web : List ℕ
+web = 64 ∷ []
 
 -- a fresh table has the five labels alone
 abbrev pub fresh : Table
 fresh =
     record {
-      labels = floor ∷ hat ∷ star ∷ question-mark ∷ at-sign ∷ [];
+      labels = floor ∷ hat ∷ star ∷ huh ∷ web ∷ [];
       rules = [];
       mappings = [];
       onlycap = [];

@@ -173,13 +173,13 @@ pub fn fresh_table(labels: &mut [u8], entries: &[u8], words: &mut [u64]) -> Done
     let floor = [95u8];
     let hat = [94u8];
     let star = [42u8];
-    let web = [63u8];
-    let internet = [64u8];
+    let huh = [63u8];
+    let web = [64u8];
     write_label(labels, 0, &floor);
     write_label(labels, 1, &hat);
     write_label(labels, 2, &star);
-    write_label(labels, 3, &web);
-    write_label(labels, 4, &internet);
+    write_label(labels, 3, &huh);
+    write_label(labels, 4, &web);
     words[0] = 5;
     words[1] = 0;
     words[2] = 0;

@@ -1,4 +1,4 @@
--- 01, Rule text and Single writes: what a line of rule text and a change-rule write do to the tables, and revoke-subject. Assumes nothing.
+-- 01, Rule text and Single writes: what a line of rule text and a change-rule write do to the tables. Assumes nothing.
 use Prim.Native.Nat.{ℕ, _+_}
 use mathlib.Core.Bool.{Bool, true, false, cond, _&&_}
 use mathlib.Core.List.{List, [], _∷_}

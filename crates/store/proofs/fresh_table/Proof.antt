@@ -5,7 +5,7 @@ use mathlib.Core.List.{List}
 use native.Mathlib.Omega.{arith}
 use borrow.Author.Tests.{eq-eqb, ne-eqb}
 use lib.ListN.{length, length-set}
-use Rattle.store.specs.Table.{floor, hat, star, question-mark, at-sign}
+use Rattle.store.specs.Table.{floor, hat, star, huh, web}
 use Rattle.store.specs.Layout.{Store, store, withLabel, freshLabels, freshWords, freshStore, freshAnswer}
 use borrow.Author.Needs.{needs}
 use Rattle.store.proofs.fresh_table.Statement.{statement}
@@ -90,8 +90,8 @@ returns-4 c =
     let y = eq-eqb _ _ (c .before .before .before .before .before .before .before .before .before .before .before .before .before .before .before .before .before .before .before .before .before .before .before .before .before .before .if2 .left) in
     let z = eq-eqb _ _ (c .before .before .before .before .before .before .before .before .before .before .before .before .before .before .before .before .before .before .before .before .before .before .before .before .before .if3 .left) in
     let l = c .before .before .write-label5 .ensures
-    ∙ ap (λ (t : List ℕ). withLabel t 4 at-sign) (c .before .before .before .before .before .before .before .write-label4 .ensures
-    ∙ ap (λ (t : List ℕ). withLabel t 3 question-mark) (c .before .before .before .before .before .before .before .before .before .before .before .before .write-label3 .ensures
+    ∙ ap (λ (t : List ℕ). withLabel t 4 web) (c .before .before .before .before .before .before .before .write-label4 .ensures
+    ∙ ap (λ (t : List ℕ). withLabel t 3 huh) (c .before .before .before .before .before .before .before .before .before .before .before .before .write-label3 .ensures
     ∙ ap (λ (t : List ℕ). withLabel t 2 star) (c .before .before .before .before .before .before .before .before .before .before .before .before .before .before .before .before .before .write-label2 .ensures
     ∙ ap (λ (t : List ℕ). withLabel t 1 hat) (c .before .before .before .before .before .before .before .before .before .before .before .before .before .before .before .before .before .before .before .before .before .before .write-label .ensures)))) in
     (rw (x, y, z), rw (x, y, z) (same-store _ _ l))
