@@ -1,6 +1,6 @@
 -- `run::lowest` meets its contract: a walk of its MIR, by hand. A turn reads the record at i whole, and calls `cipso::lower` with it and
--- with the best so far, which is an enum. The invariant: no more records are passed than are looked at, and the best so far with the
--- records that are left makes the best of the run. The variant is what is left to look at. Assumes nothing.
+-- with the best so far, which is an enum. The invariant: the best so far with the records that are left makes the best of the run. The
+-- variant is what is left to look at. Assumes nothing.
 use mathlib.Core.Path.{_≡_, refl, sym, _∙_, subst}
 use Prim.Native.Nat.{ℕ, _+_, _-_, _*_, _<_, _≤_, _^_}
 use native.Mathlib.Omega.{arith}

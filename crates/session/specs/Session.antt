@@ -1,0 +1,168 @@
+-- The session in lent memory: its exact step, byte by byte, and what each step says. A line is kept in 602 bytes: its first 601, and its
+-- newline. One of over 600 bytes is so told by its length, and is judged as the whole line would be. Assumes nothing.
+use Prim.Native.Nat.{ℕ, _+_, _*_, _≤_}
+use mathlib.Core.Path.{_≡_}
+use mathlib.Core.Bool.{Bool, true, false, cond, _&&_}
+use mathlib.Core.List.{List, [], _∷_, _++_, foldl}
+use lib.ListN.{length, take, set}
+use lib.Dec.{ltb, leb, eqb}
+use Rattle.search.specs.Bytes.{written}
+use Rattle.store.specs.Layout.{Store, store}
+use Rattle.access.specs.Access.{questionOf}
+use Rattle.load.specs.declared.Loader.{Loader}
+use Rattle.load.specs.declared.Report.{Report}
+use Rattle.load.specs.declared.Ended.{Ended}
+use Rattle.load.specs.declared.Ended.the-variants as e
+use Rattle.load.specs.Loader.{Load, load, ready, freshLoader, pieceAfter, endAfter, endAnswer}
+use Rattle.session.specs.declared.Session.{Session}
+use Rattle.session.specs.declared.Turn.{Turn}
+use Rattle.session.specs.declared.Turn.the-variants.{Went, Refused}
+use Rattle.session.specs.Program.{isMark, answerTo, numbersLine, answerLine}
+
+-- the lent memory and the session: the loader's state, the slice of the line under way, whether rule text is still read, and how many
+-- bytes of that line are kept
+pub record State : Type 0 where
+  pub load : Load
+  pub text : List ℕ
+  pub loading : Bool
+  pub kept : ℕ
+
+abbrev pub state : Store → List ℕ → List ℕ → Session → State
+state st line text s = record { load = load st line (s .loader); text = text; loading = s .loading; kept = s .kept }
+
+abbrev pub sessionOf : State → Session
+sessionOf s = record { loading = s .loading; kept = s .kept; loader = s .load .loader }
+
+-- a session that begins
+abbrev pub freshSession : Session
+freshSession = record { loading = true; kept = 0; loader = freshLoader }
+
+-- whether all is undamaged and of its full size: refusal 0 otherwise
+unfoldable pub readyAll : State → Bool
+readyAll s = ready (s .load) && (eqb (length (s .text)) 602 && leb (s .kept) 601)
+
+-- the line under way, as much of it as is kept
+abbrev pub keptLine : State → List ℕ
+keptLine s = take (s .kept) (s .text)
+
+-- ---- a line ends
+
+-- a line of rule text: it is handed to the loader, with its newline
+abbrev pub lineLoaded : State → State
+lineLoaded s = record { load = pieceAfter (s .load) (keptLine s ++ (10 ∷ [])); text = set (s .text) (s .kept) 10; loading = true; kept = 0 }
+
+-- the rule text ends: the end call, whose report is written
+abbrev pub textEnded : State → State
+textEnded s = record { load = endAfter (s .load); text = s .text; loading = false; kept = 0 }
+
+abbrev pub reportText : Report → List ℕ
+reportText r = numbersLine (r .lines ∷ r .accepted ∷ r .skipped ∷ r .refused ∷ r .first ∷ r .reason ∷ [])
+
+abbrev pub endedText : Ended → List ℕ
+endedText (e.Report r l) = reportText r
+endedText (e.Refused n) = []
+
+-- a question line: its answer is written, and nothing else changes
+abbrev pub lineAsked : State → State
+lineAsked s = record { load = s .load; text = s .text; loading = false; kept = 0 }
+
+abbrev pub askedText : State → List ℕ
+askedText s = answerLine (answerTo (questionOf (s .load .store)) (keptLine s))
+
+unfoldable pub lineAfter : State → State
+lineAfter s = cond (s .loading) (cond (isMark (keptLine s)) (textEnded s) (lineLoaded s)) (lineAsked s)
+
+unfoldable pub lineSays : State → List ℕ
+lineSays s = cond (s .loading) (cond (isMark (keptLine s)) (endedText (endAnswer (s .load))) []) (askedText s)
+
+-- ---- a byte, and a piece of the input
+
+abbrev pub keepByte : State → ℕ → State
+keepByte s b = cond (ltb (s .kept) 601) (record { load = s .load; text = set (s .text) (s .kept) b; loading = s .loading; kept = s .kept + 1 }) s
+
+unfoldable pub stepByte : State → ℕ → State
+unfolding lineAfter
+stepByte s b = cond (eqb b 10) (lineAfter s) (keepByte s b)
+
+unfoldable pub sayByte : State → ℕ → List ℕ
+unfolding lineSays
+sayByte s b = cond (eqb b 10) (lineSays s) []
+
+abbrev pub stepInput : State → List ℕ → State
+stepInput s input = foldl stepByte s input
+
+abbrev pub sayInput : State → List ℕ → List ℕ
+sayInput s [] = []
+sayInput s (b ∷ bs) = sayByte s b ++ sayInput (stepByte s b) bs
+
+-- ---- the end of the input: a line that has a byte ends, and rule text that has not ended does
+
+abbrev pub lastAfter : State → State
+lastAfter s = cond (ltb 0 (s .kept)) (lineAfter s) s
+
+abbrev pub lastSays : State → List ℕ
+lastSays s = cond (ltb 0 (s .kept)) (lineSays s) []
+
+abbrev pub closeAfter : State → State
+closeAfter s = cond (s .loading) (textEnded s) s
+
+abbrev pub closeSays : State → List ℕ
+closeSays s = cond (s .loading) (endedText (endAnswer (s .load))) []
+
+-- ---- the two calls, on a session and an output of n bytes: 0 where the state is damaged, 12 where the output is too short for what a
+-- piece of that length may say, and then nothing changes
+
+unfoldable pub feedTest : State → List ℕ → ℕ → ℕ
+feedTest s input n = cond (readyAll s) (cond (leb (66 * length input) n) 1 12) 0
+
+abbrev pub whether : {A : Type 0} → ℕ → A → A → A
+whether n a b = cond (eqb n 1) a b
+
+unfoldable pub feedSays : State → List ℕ → ℕ → List ℕ
+unfolding feedTest
+feedSays s input n = whether (feedTest s input n) (sayInput s input) []
+
+unfoldable pub feedAfter : State → List ℕ → ℕ → State
+unfolding feedTest
+feedAfter s input n = whether (feedTest s input n) (stepInput s input) s
+
+unfoldable pub feedAnswer : State → List ℕ → ℕ → Turn
+unfolding feedTest
+feedAnswer s input n = whether (feedTest s input n) (Went (sessionOf (stepInput s input)) (length (sayInput s input))) (Refused (feedTest s input n))
+
+unfoldable pub finishTest : State → ℕ → ℕ
+finishTest s n = cond (readyAll s) (cond (leb 132 n) 1 12) 0
+
+unfoldable pub finishSays : State → ℕ → List ℕ
+unfolding finishTest
+finishSays s n = whether (finishTest s n) (lastSays s ++ closeSays (lastAfter s)) []
+
+unfoldable pub finishAfter : State → ℕ → State
+unfolding finishTest
+finishAfter s n = whether (finishTest s n) (closeAfter (lastAfter s)) s
+
+unfoldable pub finishAnswer : State → ℕ → Turn
+unfolding finishTest
+finishAnswer s n = whether (finishTest s n) (Went (sessionOf (closeAfter (lastAfter s))) (length (lastSays s ++ closeSays (lastAfter s)))) (Refused (finishTest s n))
+
+-- the session that the caller goes on with: on a refusal the one that it had
+abbrev pub wentSession : Session → Turn → Session
+wentSession old (Went s n) = s
+wentSession old (Refused n) = old
+
+-- how many bytes of output it wrote
+abbrev pub wentCount : Turn → ℕ
+wentCount (Went s n) = n
+wentCount (Refused n) = 0
+
+-- so many bytes stand at the front of an output. (The second part follows from the first: lending that part asks for both.)
+abbrev pub Front : ℕ → List ℕ → Type 0
+Front n out = (n ≤ length out) × (n ≡ length (take n out))
+
+-- ---- bytes put into an output from an index on
+
+-- `said` stands from `at` on, `end` is the index behind it, and it is no longer than `most`
+pub record Put (most : ℕ) (out : List ℕ) (at : ℕ) (said : List ℕ) (after : List ℕ) (end : ℕ) : Type 0 where
+  pub bytes : after ≡ written out at said
+  pub ends : end ≡ at + length said
+  pub short : length said ≤ most

@@ -1,0 +1,445 @@
+// What the program writes for what it reads (01, What the program reads and writes): rule text, the first line that is exactly `?`, then
+// question lines. The input may be cut anywhere; each line is looked at whole, at its newline or at the end of the input.
+use access::Answer;
+use alphabet::Field;
+use load::Ended;
+use load::Fed;
+use load::Loader;
+use load::Report;
+ghost use mathlib.Core.Path.{_≡_};
+ghost use mathlib.Core.List.{[], _∷_, _++_};
+ghost use Prim.Native.Nat.{_+_, _≤_, _<_};
+ghost use lib.ListN.{length};
+ghost use Rattle.search.specs.Bytes.{written};
+ghost use Rattle.store.specs.Layout.{store, freshStore};
+ghost use Rattle.access.specs.Access.{questionOf};
+ghost use Rattle.load.specs.Loader.{load, endAnswer};
+ghost use Rattle.session.specs.Program.{decimal, wordOf, answerLine, answerTo};
+ghost use Rattle.session.specs.Session.{state, freshSession, readyAll, lineLoaded, textEnded, endedText, reportText, lineAfter, lineSays, stepByte, sayByte, closeAfter, closeSays, feedAnswer, feedAfter, feedSays, finishAnswer, finishAfter, finishSays, wentSession, wentCount, Front, Put};
+
+// The most bytes of a question line.
+const LIMIT: usize = 600;
+
+// How many bytes of a line are kept: one over 600 is told by its length.
+const KEPT: usize = 601;
+
+// The most bytes that a line of output has.
+const ROOM: usize = 66;
+
+// The session between two calls: whether rule text is still read, how many bytes of the line under way are kept, and the loader.
+pub struct Session {
+    pub loading: bool,
+    pub kept: usize,
+    pub loader: Loader,
+}
+
+// What a call answers: the session to go on with and how many bytes of output it wrote, or a refusal's number.
+pub enum Turn {
+    Went(Session, usize),
+    Refused(u8),
+}
+
+// The session and the index of the output where the next byte goes.
+struct Step {
+    session: Session,
+    at: usize,
+}
+
+// Writes a number in decimal digits from index `at`, and answers the index behind it. Who calls it has made sure that there is room.
+fn write_number(out: &mut [u8], at: usize, n: u32) -> usize
+    requires { ⌜ at + length (decimal n) ≤ length (now out) ⌝ }
+    ensures { λ r. ⌜ Put 10 (now (out .entry)) at (decimal n) (now (out .exit)) r ⌝ }
+{
+    if n < 10 {
+        out[at] = 48 + n as u8;
+        return at + 1;
+    }
+    let next = write_number(out, at, n / 10);
+    out[next] = 48 + (n % 10) as u8;
+    next + 1
+}
+
+// Writes a number and the byte behind it.
+fn write_field(out: &mut [u8], at: usize, n: u32, behind: u8) -> usize
+    requires { ⌜ at + 11 ≤ length (now out) ⌝ }
+    ensures { λ r. ⌜ Put 11 (now (out .entry)) at (decimal n ++ (behind ∷ [])) (now (out .exit)) r ⌝ }
+{
+    let next = write_number(out, at, n);
+    out[next] = behind;
+    next + 1
+}
+
+// Writes the report on one line.
+fn write_report(out: &mut [u8], at: usize, report: Report) -> usize
+    requires { ⌜ at + 66 ≤ length (now out) ⌝ }
+    ensures { λ r. ⌜ Put 66 (now (out .entry)) at (reportText report) (now (out .exit)) r ⌝ }
+{
+    let a = write_field(out, at, report.lines, 32);
+    let b = write_field(out, a, report.accepted, 32);
+    let c = write_field(out, b, report.skipped, 32);
+    let d = write_field(out, c, report.refused, 32);
+    let e = write_field(out, d, report.first, 32);
+    write_field(out, e, report.reason as u32, 10)
+}
+
+// Writes an answer's word and a space.
+fn write_word(out: &mut [u8], at: usize, answer: Answer) -> usize
+    requires { ⌜ at + 9 ≤ length (now out) ⌝ }
+    ensures { λ r. ⌜ Put 9 (now (out .entry)) at (wordOf answer) (now (out .exit)) r ⌝ }
+{
+    match answer {
+        Answer::Granted(_, _) => {
+            let word = [103u8, 114, 97, 110, 116, 101, 100, 32];
+            search::copy_at(out, at, &word);
+            at + 8
+        }
+        Answer::Denied(_) => {
+            let word = [100u8, 101, 110, 105, 101, 100, 32];
+            search::copy_at(out, at, &word);
+            at + 7
+        }
+        Answer::Override(_) => {
+            let word = [111u8, 118, 101, 114, 114, 105, 100, 101, 32];
+            search::copy_at(out, at, &word);
+            at + 9
+        }
+        Answer::Refused(_) => {
+            let word = [114u8, 101, 102, 117, 115, 101, 100, 32];
+            search::copy_at(out, at, &word);
+            at + 8
+        }
+    }
+}
+
+// Writes an answer on one line.
+fn write_answer(out: &mut [u8], at: usize, answer: Answer) -> usize
+    requires { ⌜ at + 66 ≤ length (now out) ⌝ }
+    ensures { λ r. ⌜ Put 66 (now (out .entry)) at (answerLine answer) (now (out .exit)) r ⌝ }
+{
+    let shown = access::show(answer);
+    let word = write_word(out, at, answer);
+    let end = write_number(out, word, shown.number as u32);
+    if shown.bringup {
+        let ending = [32u8, 98, 10];
+        search::copy_at(out, end, &ending);
+        return end + 3;
+    }
+    out[end] = 10;
+    end + 1
+}
+
+// The answer to a question line: refusals 1 and 2 before the question's own.
+fn question_line(labels: &[u8], entries: &[u8], words: &[u64], line: &[u8]) -> Answer
+    ensures { λ r. ⌜ r ≡ answerTo (questionOf (store (now (labels .entry)) (now (entries .entry)) (now (words .entry)))) (now (line .entry)) ⌝ }
+{
+    if LIMIT < line.len() {
+        return Answer::Refused(1);
+    }
+    let Field::Part { start: a, end: b } = alphabet::next_field(line, 0) else {
+        return Answer::Refused(2);
+    };
+    let Field::Part { start: c, end: d } = alphabet::next_field(line, b) else {
+        return Answer::Refused(2);
+    };
+    let Field::Part { start: e, end: f } = alphabet::next_field(line, d) else {
+        return Answer::Refused(2);
+    };
+    let Field::Part { start: g, end: h } = alphabet::next_field(line, f) else {
+        return access::question(
+            labels,
+            entries,
+            words,
+            &line[a..b],
+            &line[c..d],
+            &line[e..f],
+            false,
+        );
+    };
+    let Field::End = alphabet::next_field(line, h) else {
+        return Answer::Refused(2);
+    };
+    let capability = [111u8];
+    if search::same_bytes(&line[g..h], &capability) {
+        return access::question(
+            labels,
+            entries,
+            words,
+            &line[a..b],
+            &line[c..d],
+            &line[e..f],
+            true,
+        );
+    }
+    Answer::Refused(2)
+}
+
+// Whether the lent state is undamaged and of its full size: refusal 0 otherwise.
+fn is_ready(
+    labels: &[u8],
+    entries: &[u8],
+    words: &[u64],
+    line: &[u8],
+    text: &[u8],
+    s: Session,
+) -> bool
+    ensures { λ r. ⌜ r ≡ readyAll (state (store (now (labels .entry)) (now (entries .entry)) (now (words .entry))) (now (line .entry)) (now (text .entry)) s) ⌝ }
+{
+    if !store::undamaged(labels, entries, words) {
+        return false;
+    }
+    if line.len() != 600 {
+        return false;
+    }
+    let loader = s.loader;
+    if 601 < loader.kept {
+        return false;
+    }
+    if text.len() != 602 {
+        return false;
+    }
+    s.kept <= KEPT
+}
+
+// Hands a line of rule text to the loader, with its newline. Who calls it has tested that the newline fits.
+fn load_line(
+    labels: &mut [u8],
+    entries: &mut [u8],
+    words: &mut [u64],
+    line: &mut [u8],
+    text: &mut [u8],
+    s: Session,
+) -> Session
+    requires { ⌜ s .kept < length (now text) ⌝ }
+    ensures { λ r. ⌜ state (store (now (labels .exit)) (now (entries .exit)) (now (words .exit))) (now (line .exit)) (now (text .exit)) (r) ≡ lineLoaded (state (store (now (labels .entry)) (now (entries .entry)) (now (words .entry))) (now (line .entry)) (now (text .entry)) (s)) ⌝ }
+{
+    let kept = s.kept;
+    let loader = s.loader;
+    text[kept] = 10;
+    let end = kept + 1;
+    match load::piece(labels, entries, words, line, loader, &text[..end]) {
+        Fed::Done(next) => Session {
+            loading: true,
+            kept: 0,
+            loader: next,
+        },
+        Fed::Refused(_) => Session {
+            loading: true,
+            kept: 0,
+            loader,
+        },
+    }
+}
+
+// Ends the rule text: the end call, whose report is written. Who calls it has made sure that there is room.
+fn end_text(
+    labels: &mut [u8],
+    entries: &mut [u8],
+    words: &mut [u64],
+    line: &mut [u8],
+    text: &[u8],
+    out: &mut [u8],
+    step: Step,
+) -> Step
+    requires { ⌜ step .at + 66 ≤ length (now out) ⌝ }
+    ensures { λ r. ⌜ state (store (now (labels .exit)) (now (entries .exit)) (now (words .exit))) (now (line .exit)) (now (text .entry)) (r .session) ≡ textEnded (state (store (now (labels .entry)) (now (entries .entry)) (now (words .entry))) (now (line .entry)) (now (text .entry)) (step .session)) ⌝ }
+    ensures { λ r. ⌜ Put 66 (now (out .entry)) (step .at) (endedText (endAnswer (load (store (now (labels .entry)) (now (entries .entry)) (now (words .entry))) (now (line .entry)) (step .session .loader)))) (now (out .exit)) (r .at) ⌝ }
+{
+    let s = step.session;
+    let loader = s.loader;
+    let at = step.at;
+    match load::end(labels, entries, words, line, loader) {
+        Ended::Report(report, next) => {
+            let n = write_report(out, at, report);
+            Step {
+                session: Session {
+                    loading: false,
+                    kept: 0,
+                    loader: next,
+                },
+                at: n,
+            }
+        }
+        Ended::Refused(_) => Step {
+            session: Session {
+                loading: false,
+                kept: 0,
+                loader,
+            },
+            at,
+        },
+    }
+}
+
+// Ends the line under way: it is looked at whole. Who calls it has made sure that there is room.
+fn end_line(
+    labels: &mut [u8],
+    entries: &mut [u8],
+    words: &mut [u64],
+    line: &mut [u8],
+    text: &mut [u8],
+    out: &mut [u8],
+    step: Step,
+) -> Step
+    requires { ⌜ (step .session .kept < length (now text)) × (step .at + 66 ≤ length (now out)) ⌝ }
+    ensures { λ r. ⌜ state (store (now (labels .exit)) (now (entries .exit)) (now (words .exit))) (now (line .exit)) (now (text .exit)) (r .session) ≡ lineAfter (state (store (now (labels .entry)) (now (entries .entry)) (now (words .entry))) (now (line .entry)) (now (text .entry)) (step .session)) ⌝ }
+    ensures { λ r. ⌜ Put 66 (now (out .entry)) (step .at) (lineSays (state (store (now (labels .entry)) (now (entries .entry)) (now (words .entry))) (now (line .entry)) (now (text .entry)) (step .session))) (now (out .exit)) (r .at) ⌝ }
+{
+    let s = step.session;
+    let loader = s.loader;
+    let kept = s.kept;
+    let at = step.at;
+    if !s.loading {
+        let answer = question_line(labels, entries, words, &text[..kept]);
+        let n = write_answer(out, at, answer);
+        return Step {
+            session: Session {
+                loading: false,
+                kept: 0,
+                loader,
+            },
+            at: n,
+        };
+    }
+    let mark = [63u8];
+    if search::same_bytes(&text[..kept], &mark) {
+        return end_text(labels, entries, words, line, text, out, step);
+    }
+    let next = load_line(labels, entries, words, line, text, s);
+    Step { session: next, at }
+}
+
+// Takes one byte of the input. Who calls it has made sure that there is room.
+fn take_byte(
+    labels: &mut [u8],
+    entries: &mut [u8],
+    words: &mut [u64],
+    line: &mut [u8],
+    text: &mut [u8],
+    out: &mut [u8],
+    step: Step,
+    b: u8,
+) -> Step
+    requires { ⌜ (length (now text) ≡ 602) × (step .session .kept ≤ 601) × (step .at + 66 ≤ length (now out)) ⌝ }
+    ensures { λ r. ⌜ state (store (now (labels .exit)) (now (entries .exit)) (now (words .exit))) (now (line .exit)) (now (text .exit)) (r .session) ≡ stepByte (state (store (now (labels .entry)) (now (entries .entry)) (now (words .entry))) (now (line .entry)) (now (text .entry)) (step .session)) b ⌝ }
+    ensures { λ r. ⌜ Put 66 (now (out .entry)) (step .at) (sayByte (state (store (now (labels .entry)) (now (entries .entry)) (now (words .entry))) (now (line .entry)) (now (text .entry)) (step .session)) b) (now (out .exit)) (r .at) ⌝ }
+{
+    if b == 10 {
+        return end_line(labels, entries, words, line, text, out, step);
+    }
+    let s = step.session;
+    let kept = s.kept;
+    let loader = s.loader;
+    let at = step.at;
+    if kept < KEPT {
+        text[kept] = b;
+        return Step {
+            session: Session {
+                loading: s.loading,
+                kept: kept + 1,
+                loader,
+            },
+            at,
+        };
+    }
+    step
+}
+
+// Ends the rule text where it has not ended. Who calls it has made sure that there is room.
+fn close(
+    labels: &mut [u8],
+    entries: &mut [u8],
+    words: &mut [u64],
+    line: &mut [u8],
+    text: &[u8],
+    out: &mut [u8],
+    step: Step,
+) -> Step
+    requires { ⌜ step .at + 66 ≤ length (now out) ⌝ }
+    ensures { λ r. ⌜ state (store (now (labels .exit)) (now (entries .exit)) (now (words .exit))) (now (line .exit)) (now (text .entry)) (r .session) ≡ closeAfter (state (store (now (labels .entry)) (now (entries .entry)) (now (words .entry))) (now (line .entry)) (now (text .entry)) (step .session)) ⌝ }
+    ensures { λ r. ⌜ Put 66 (now (out .entry)) (step .at) (closeSays (state (store (now (labels .entry)) (now (entries .entry)) (now (words .entry))) (now (line .entry)) (now (text .entry)) (step .session))) (now (out .exit)) (r .at) ⌝ }
+{
+    let s = step.session;
+    if s.loading {
+        return end_text(labels, entries, words, line, text, out, step);
+    }
+    step
+}
+
+// Begins: a fresh table in the lent memory, and a fresh session.
+pub fn begin(labels: &mut [u8], entries: &[u8], words: &mut [u64]) -> Session
+    ensures { λ r. ⌜ r ≡ freshSession ⌝ }
+    ensures { λ _. ⌜ store (now (labels .exit)) (now (entries .entry)) (now (words .exit)) ≡ freshStore (store (now (labels .entry)) (now (entries .entry)) (now (words .entry))) ⌝ }
+{
+    store::fresh_table(labels, entries, words);
+    Session {
+        loading: true,
+        kept: 0,
+        loader: load::fresh(),
+    }
+}
+
+// Takes a piece of the input: any bytes, any length that the output has room for, also none.
+pub fn feed(
+    labels: &mut [u8],
+    entries: &mut [u8],
+    words: &mut [u64],
+    line: &mut [u8],
+    text: &mut [u8],
+    out: &mut [u8],
+    s: Session,
+    input: &[u8],
+) -> Turn
+    ensures { λ r. ⌜ r ≡ feedAnswer (state (store (now (labels .entry)) (now (entries .entry)) (now (words .entry))) (now (line .entry)) (now (text .entry)) (s)) (now (input .entry)) (length (now (out .entry))) ⌝ }
+    ensures { λ r. ⌜ state (store (now (labels .exit)) (now (entries .exit)) (now (words .exit))) (now (line .exit)) (now (text .exit)) (wentSession s r) ≡ feedAfter (state (store (now (labels .entry)) (now (entries .entry)) (now (words .entry))) (now (line .entry)) (now (text .entry)) (s)) (now (input .entry)) (length (now (out .entry))) ⌝ }
+    ensures { λ r. ⌜ now (out .exit) ≡ written (now (out .entry)) 0 (feedSays (state (store (now (labels .entry)) (now (entries .entry)) (now (words .entry))) (now (line .entry)) (now (text .entry)) (s)) (now (input .entry)) (length (now (out .entry)))) ⌝ }
+    ensures { λ r. ⌜ Front (wentCount r) (now (out .exit)) ⌝ }
+{
+    if !is_ready(labels, entries, words, line, text, s) {
+        return Turn::Refused(0);
+    }
+    if out.len() / ROOM < input.len() {
+        return Turn::Refused(12);
+    }
+    let mut step = Step { session: s, at: 0 };
+    let mut i = 0;
+    while i < input.len() {
+        step = take_byte(labels, entries, words, line, text, out, step, input[i]);
+        i += 1;
+    }
+    let next = step.session;
+    Turn::Went(next, step.at)
+}
+
+// The end of the input: bytes after the last newline are one more line, and rule text that has not ended does.
+pub fn finish(
+    labels: &mut [u8],
+    entries: &mut [u8],
+    words: &mut [u64],
+    line: &mut [u8],
+    text: &mut [u8],
+    out: &mut [u8],
+    s: Session,
+) -> Turn
+    ensures { λ r. ⌜ r ≡ finishAnswer (state (store (now (labels .entry)) (now (entries .entry)) (now (words .entry))) (now (line .entry)) (now (text .entry)) (s)) (length (now (out .entry))) ⌝ }
+    ensures { λ r. ⌜ state (store (now (labels .exit)) (now (entries .exit)) (now (words .exit))) (now (line .exit)) (now (text .exit)) (wentSession s r) ≡ finishAfter (state (store (now (labels .entry)) (now (entries .entry)) (now (words .entry))) (now (line .entry)) (now (text .entry)) (s)) (length (now (out .entry))) ⌝ }
+    ensures { λ r. ⌜ now (out .exit) ≡ written (now (out .entry)) 0 (finishSays (state (store (now (labels .entry)) (now (entries .entry)) (now (words .entry))) (now (line .entry)) (now (text .entry)) (s)) (length (now (out .entry)))) ⌝ }
+    ensures { λ r. ⌜ Front (wentCount r) (now (out .exit)) ⌝ }
+{
+    if !is_ready(labels, entries, words, line, text, s) {
+        return Turn::Refused(0);
+    }
+    if out.len() < 2 * ROOM {
+        return Turn::Refused(12);
+    }
+    let kept = s.kept;
+    let begun = Step { session: s, at: 0 };
+    if kept == 0 {
+        let whole = close(labels, entries, words, line, text, out, begun);
+        let next = whole.session;
+        return Turn::Went(next, whole.at);
+    }
+    let ended = end_line(labels, entries, words, line, text, out, begun);
+    let last = close(labels, entries, words, line, text, out, ended);
+    let next = last.session;
+    Turn::Went(next, last.at)
+}
