@@ -1,0 +1,14 @@
+//! A plain reference: the paper 01 ("What is to be built") said again as code.
+//!
+//! - `plain`: the tables, the loader and every call of the paper. Nothing here
+//!   can be damaged, so refusal 0 does not occur.
+//! - `raw`: the same calls over lent memory, which may be damaged (refusal 0).
+//! - `program`: standard input to standard output.
+//! - `script`: one call a line, one answer a line, for comparing programs.
+//! - `random`: writes random scripts.
+
+pub mod plain;
+pub mod program;
+pub mod random;
+pub mod raw;
+pub mod script;

@@ -1,0 +1,924 @@
+//! The library of the paper, as plainly as it can be said.
+//!
+//! Words in quotes are the paper's. The order of this file is the paper's:
+//! labels, modes, rule text, single writes, look-ups, questions, listing.
+//! A table here is never damaged; see `raw` for lent memory and refusal 0.
+
+/// "The label table holds 64 labels".
+pub const LABEL_PLACES: usize = 64;
+/// "the rule table, which holds 256 rules".
+pub const RULE_PLACES: usize = 256;
+/// "There are 32 mappings."
+pub const MAPPING_PLACES: usize = 32;
+/// "Override list: 1 to 8 different labels".
+pub const OVERRIDE_PLACES: usize = 8;
+/// "A label has 1 to 255 bytes".
+pub const LABEL_LIMIT: usize = 255;
+/// "A line has at most 600 bytes before its newline"; a single write "at most 600 bytes".
+pub const LINE_LIMIT: usize = 600;
+/// "Each number is the true one or 4,294,967,295, whichever is smaller."
+pub const REPORT_LIMIT: u64 = 4_294_967_295;
+
+/// "The refusal numbers". The number of each case stands beside it.
+#[derive(Clone, Copy, PartialEq, Eq, Debug)]
+pub enum Refusal {
+    /// 0: the lent state is damaged. Given only by the calls of `raw`.
+    Damaged = 0,
+    /// 1: "a line or write has over 600 bytes".
+    TooLong = 1,
+    /// 2: "wrong number of fields".
+    WrongFields = 2,
+    /// 3: "a label is not well formed".
+    BadLabel = 3,
+    /// 4: "an access field has a byte not allowed there".
+    BadAccess = 4,
+    /// 5: "subject equals object".
+    SameLabels = 5,
+    /// 6: "more new labels than free label places".
+    NoLabelPlace = 6,
+    /// 7: "the pair has no rule and 256 are stored".
+    NoRulePlace = 7,
+    /// 8: "the request is empty or has another byte".
+    BadRequest = 8,
+    /// 9: "a level or category is not as above".
+    BadLevelOrCategory = 9,
+    /// 10: "the label has no mapping and 32 are stored".
+    NoMappingPlace = 10,
+    /// 11: "over 8 different labels in an override list".
+    TooManyOverrideLabels = 11,
+    /// 12: "lent output too short".
+    OutputTooShort = 12,
+    /// 13: "no rule or label of that number".
+    NoSuchNumber = 13,
+}
+
+impl Refusal {
+    /// The number that the paper gives to this refusal.
+    pub fn number(self) -> u8 {
+        self as u8
+    }
+}
+
+// ---------------------------------------------------------------------------
+// Labels
+// ---------------------------------------------------------------------------
+
+/// "The class of each of the 256 byte values (label byte, blank, newline, other)".
+#[derive(Clone, Copy, PartialEq, Eq, Debug)]
+pub enum Class {
+    Label,
+    Blank,
+    Newline,
+    Other,
+}
+
+/// "Blanks are space (32) and tab (9); newline is 10." A label byte is "from 33
+/// to 126, none of / \ ' "". "The dash is a label byte, though never the first."
+pub fn class_of(byte: u8) -> Class {
+    match byte {
+        32 | 9 => Class::Blank,
+        10 => Class::Newline,
+        b'/' | b'\\' | b'\'' | b'"' => Class::Other,
+        33..=126 => Class::Label,
+        _ => Class::Other,
+    }
+}
+
+fn is_blank(byte: u8) -> bool {
+    class_of(byte) == Class::Blank
+}
+
+/// "A label has 1 to 255 bytes, each from 33 to 126, none of / \ ' ", and
+/// doesn't begin with -."
+pub fn is_well_formed(label: &[u8]) -> bool {
+    if label.is_empty() || label.len() > LABEL_LIMIT {
+        return false;
+    }
+    if label[0] == b'-' {
+        return false;
+    }
+    label.iter().all(|&byte| class_of(byte) == Class::Label)
+}
+
+// ---------------------------------------------------------------------------
+// Modes
+// ---------------------------------------------------------------------------
+
+pub const R: u8 = 32;
+pub const W: u8 = 16;
+pub const X: u8 = 8;
+pub const A: u8 = 4;
+pub const T: u8 = 2;
+pub const B: u8 = 1;
+
+/// "One table of letters and their bits serves reading and writing alike";
+/// "the fixed order r, w, x, a, t, b".
+pub const LETTERS: [(u8, u8); 6] = [
+    (b'r', R),
+    (b'w', W),
+    (b'x', X),
+    (b'a', A),
+    (b't', T),
+    (b'b', B),
+];
+
+/// Letters of a rule line's access field: "the letters r w x a t b".
+pub const RULE_LETTERS: u8 = R | W | X | A | T | B;
+/// Letters of a change: "r w x a t and the dash"; "b is refused".
+pub const CHANGE_LETTERS: u8 = R | W | X | A | T;
+/// Letters of a request: "r w x a".
+pub const REQUEST_LETTERS: u8 = R | W | X | A;
+
+/// The bit of a letter, "either case".
+fn bit_of_letter(byte: u8) -> Option<u8> {
+    let small = byte.to_ascii_lowercase();
+    for (letter, bit) in LETTERS {
+        if letter == small {
+            return Some(bit);
+        }
+    }
+    None
+}
+
+/// An access field: letters, "either case, repeats allowed. A dash is a
+/// placeholder". `allowed` are the letters that may stand in this field.
+/// None where the field "has a byte not allowed there".
+pub fn read_access(field: &[u8], allowed: u8) -> Option<u8> {
+    let mut modes = 0;
+    for &byte in field {
+        if byte == b'-' {
+            continue;
+        }
+        let bit = bit_of_letter(byte)?;
+        if bit & allowed == 0 {
+            return None;
+        }
+        modes |= bit;
+    }
+    Some(modes)
+}
+
+/// "The request is a non-empty set of r w x a, in the letters of a mode without
+/// t, b or dash." None where it "is empty or has another byte".
+pub fn read_request(request: &[u8]) -> Option<u8> {
+    if request.is_empty() {
+        return None;
+    }
+    let mut modes = 0;
+    for &byte in request {
+        let bit = bit_of_letter(byte)?;
+        if bit & REQUEST_LETTERS == 0 {
+            return None;
+        }
+        modes |= bit;
+    }
+    Some(modes)
+}
+
+/// "Letters are written out in the fixed order"; "modes or a dash".
+pub fn write_modes(modes: u8) -> Vec<u8> {
+    let mut text = Vec::new();
+    for (letter, bit) in LETTERS {
+        if modes & bit != 0 {
+            text.push(letter);
+        }
+    }
+    if text.is_empty() {
+        text.push(b'-');
+    }
+    text
+}
+
+// ---------------------------------------------------------------------------
+// Categories
+// ---------------------------------------------------------------------------
+
+/// Category n, 1 to 63, is the bit 2^(64-n): category 1 the top bit, category
+/// 63 the bit 2. The bit 1 (2^0) names no category.
+pub fn category_bit(category: u64) -> u64 {
+    1u64 << (64 - category)
+}
+
+/// The one bit of a set that is no category.
+pub const UNKNOWN_CATEGORY_BIT: u64 = 1;
+
+/// "Numbers are 1 to 3 digits, leading zeros allowed."
+pub fn read_number(field: &[u8]) -> Option<u64> {
+    if field.is_empty() || field.len() > 3 {
+        return None;
+    }
+    let mut number = 0;
+    for &byte in field {
+        if !byte.is_ascii_digit() {
+            return None;
+        }
+        number = number * 10 + u64::from(byte - b'0');
+    }
+    Some(number)
+}
+
+/// "Level 0 to 255".
+fn read_level(field: &[u8]) -> Option<u8> {
+    let number = read_number(field)?;
+    if number > 255 {
+        return None;
+    }
+    Some(number as u8)
+}
+
+/// "category 1 to 63", given as its bit.
+fn read_category(field: &[u8]) -> Option<u64> {
+    let number = read_number(field)?;
+    if !(1..=63).contains(&number) {
+        return None;
+    }
+    Some(category_bit(number))
+}
+
+// ---------------------------------------------------------------------------
+// Fields
+// ---------------------------------------------------------------------------
+
+/// "fields with one or more blanks between; blanks before and after are
+/// allowed": a field is a longest run of bytes that are not blanks.
+pub fn fields(line: &[u8]) -> Vec<&[u8]> {
+    let mut found = Vec::new();
+    for part in line.split(|&byte| is_blank(byte)) {
+        if !part.is_empty() {
+            found.push(part);
+        }
+    }
+    found
+}
+
+// ---------------------------------------------------------------------------
+// The tables
+// ---------------------------------------------------------------------------
+
+/// One CIPSO mapping: a label's number, its level and its set of categories.
+#[derive(Clone, Copy, PartialEq, Eq, Debug)]
+pub struct Mapping {
+    pub label: usize,
+    pub level: u8,
+    pub set: u64,
+}
+
+/// "the tables (labels, rules and mappings in order, override list)".
+#[derive(Clone, PartialEq, Eq, Debug)]
+pub struct Table {
+    pub labels: Vec<Vec<u8>>,
+    /// Subject's number, object's number, modes.
+    pub rules: Vec<(usize, usize, u8)>,
+    pub mappings: Vec<Mapping>,
+    /// Label numbers.
+    pub override_list: Vec<usize>,
+}
+
+impl Table {
+    /// "A fresh table has the five labels alone": "_ ^ * ? @".
+    pub fn fresh() -> Table {
+        Table {
+            labels: vec![
+                b"_".to_vec(),
+                b"^".to_vec(),
+                b"*".to_vec(),
+                b"?".to_vec(),
+                b"@".to_vec(),
+            ],
+            rules: Vec::new(),
+            mappings: Vec::new(),
+            override_list: Vec::new(),
+        }
+    }
+
+    /// "a label means its first number".
+    pub fn number_of(&self, label: &[u8]) -> Option<usize> {
+        self.labels.iter().position(|stored| stored == label)
+    }
+
+    /// The place of the rule with these two numbers: "the first counts".
+    fn place_of_rule(&self, subject: usize, object: usize) -> Option<usize> {
+        self.rules
+            .iter()
+            .position(|rule| rule.0 == subject && rule.1 == object)
+    }
+
+    /// The place of the pair's rule. A label that is not stored has no rules.
+    fn place_of_pair(&self, subject: &[u8], object: &[u8]) -> Option<usize> {
+        let subject = self.number_of(subject)?;
+        let object = self.number_of(object)?;
+        self.place_of_rule(subject, object)
+    }
+
+    /// The place of the mapping of the label with this number: "the first counts".
+    fn place_of_mapping(&self, label: usize) -> Option<usize> {
+        self.mappings
+            .iter()
+            .position(|mapping| mapping.label == label)
+    }
+
+    /// The different labels among these that are not in the table yet.
+    fn new_labels<'a>(&self, labels: &[&'a [u8]]) -> Vec<&'a [u8]> {
+        let mut new: Vec<&'a [u8]> = Vec::new();
+        for &label in labels {
+            if self.number_of(label).is_none() && !new.contains(&label) {
+                new.push(label);
+            }
+        }
+        new
+    }
+
+    /// "more new labels than free label places".
+    fn lacks_label_places(&self, labels: &[&[u8]]) -> bool {
+        let free = LABEL_PLACES - self.labels.len();
+        self.new_labels(labels).len() > free
+    }
+
+    /// "A label enters ... in the order written, and never leaves." Gives the
+    /// label's number, old or new.
+    fn enter_label(&mut self, label: &[u8]) -> usize {
+        match self.number_of(label) {
+            Some(number) => number,
+            None => {
+                self.labels.push(label.to_vec());
+                self.labels.len() - 1
+            }
+        }
+    }
+
+    /// The refusals 5 6 7 of a rule and of a change, in that order.
+    fn check_pair(&self, subject: &[u8], object: &[u8]) -> Result<(), Refusal> {
+        if subject == object {
+            return Err(Refusal::SameLabels);
+        }
+        if self.lacks_label_places(&[subject, object]) {
+            return Err(Refusal::NoLabelPlace);
+        }
+        let has_rule = self.place_of_pair(subject, object).is_some();
+        if !has_rule && self.rules.len() >= RULE_PLACES {
+            return Err(Refusal::NoRulePlace);
+        }
+        Ok(())
+    }
+
+    /// "new labels enter, subject first, and its pair is set": a pair seen
+    /// first "takes the next place in the rule table".
+    fn set_pair(&mut self, subject: &[u8], object: &[u8], modes: u8) {
+        let subject = self.enter_label(subject);
+        let object = self.enter_label(object);
+        match self.place_of_rule(subject, object) {
+            Some(place) => self.rules[place].2 = modes,
+            None => self.rules.push((subject, object, modes)),
+        }
+    }
+}
+
+// ---------------------------------------------------------------------------
+// Rule text
+// ---------------------------------------------------------------------------
+
+/// What a line comes to: "skipped, refused by the first number that holds, or
+/// accepted".
+#[derive(Clone, Copy, PartialEq, Eq, Debug)]
+pub enum Line<'a> {
+    Skipped,
+    Refused(Refusal),
+    Accepted {
+        subject: &'a [u8],
+        object: &'a [u8],
+        modes: u8,
+    },
+}
+
+/// "A line of 0 to 600 blanks and no other byte is skipped."
+fn is_skipped(line: &[u8]) -> bool {
+    line.len() <= LINE_LIMIT && line.iter().all(|&byte| is_blank(byte))
+}
+
+impl Table {
+    /// "A line that ends is counted and judged by its bytes and these tables".
+    pub fn judge_line<'a>(&self, line: &'a [u8]) -> Line<'a> {
+        if is_skipped(line) {
+            return Line::Skipped;
+        }
+        match self.judge_rule(line) {
+            Ok((subject, object, modes)) => Line::Accepted {
+                subject,
+                object,
+                modes,
+            },
+            Err(refusal) => Line::Refused(refusal),
+        }
+    }
+
+    /// A rule: "subject, object, access"; "the first in this order is given:
+    /// rule 1 2 3 4 5 6 7".
+    fn judge_rule<'a>(&self, line: &'a [u8]) -> Result<(&'a [u8], &'a [u8], u8), Refusal> {
+        if line.len() > LINE_LIMIT {
+            return Err(Refusal::TooLong);
+        }
+        let fields = fields(line);
+        if fields.len() != 3 {
+            return Err(Refusal::WrongFields);
+        }
+        let (subject, object, access) = (fields[0], fields[1], fields[2]);
+        if !is_well_formed(subject) || !is_well_formed(object) {
+            return Err(Refusal::BadLabel);
+        }
+        let Some(modes) = read_access(access, RULE_LETTERS) else {
+            return Err(Refusal::BadAccess);
+        };
+        self.check_pair(subject, object)?;
+        Ok((subject, object, modes))
+    }
+}
+
+/// The plain reader's loader: "a kept line of any length and the report's true
+/// numbers". The first refused line is number 0 with reason 0 "where none".
+#[derive(Clone, PartialEq, Eq, Debug)]
+pub struct Loader {
+    pub line: Vec<u8>,
+    pub lines: u64,
+    pub accepted: u64,
+    pub skipped: u64,
+    pub refused: u64,
+    pub first_line: u64,
+    pub first_reason: u64,
+}
+
+/// "The report: lines, accepted, skipped, refused, and the number (from 1) and
+/// reason of the first refused line."
+#[derive(Clone, Copy, PartialEq, Eq, Debug)]
+pub struct Report {
+    pub lines: u32,
+    pub accepted: u32,
+    pub skipped: u32,
+    pub refused: u32,
+    pub first_line: u32,
+    pub first_reason: u32,
+}
+
+/// "Each number is the true one or 4,294,967,295, whichever is smaller."
+pub fn limited(number: u64) -> u32 {
+    number.min(REPORT_LIMIT) as u32
+}
+
+impl Loader {
+    /// "a fresh loader an empty kept line and a report of zeros".
+    pub fn fresh() -> Loader {
+        Loader {
+            line: Vec::new(),
+            lines: 0,
+            accepted: 0,
+            skipped: 0,
+            refused: 0,
+            first_line: 0,
+            first_reason: 0,
+        }
+    }
+
+    /// The report so far, its numbers limited.
+    pub fn report(&self) -> Report {
+        Report {
+            lines: limited(self.lines),
+            accepted: limited(self.accepted),
+            skipped: limited(self.skipped),
+            refused: limited(self.refused),
+            first_line: limited(self.first_line),
+            first_reason: limited(self.first_reason),
+        }
+    }
+
+    /// The kept line ends: it "is counted and judged", and "the next begins
+    /// empty". "A refused line does nothing" but enter the counts.
+    fn end_line(&mut self, table: &mut Table) {
+        self.lines += 1;
+        match table.judge_line(&self.line) {
+            Line::Skipped => self.skipped += 1,
+            Line::Refused(refusal) => {
+                if self.refused == 0 {
+                    self.first_line = self.lines;
+                    self.first_reason = u64::from(refusal.number());
+                }
+                self.refused += 1;
+            }
+            Line::Accepted {
+                subject,
+                object,
+                modes,
+            } => {
+                // "An accepted line sets its pair's modes wholly."
+                table.set_pair(subject, object, modes);
+                self.accepted += 1;
+            }
+        }
+        self.line.clear();
+    }
+
+    /// "Piece: each byte but a newline joins the kept line; a newline ends it,
+    /// and the next begins empty. The answer is done."
+    pub fn piece(&mut self, table: &mut Table, bytes: &[u8]) {
+        for &byte in bytes {
+            if class_of(byte) == Class::Newline {
+                self.end_line(table);
+            } else {
+                self.line.push(byte);
+            }
+        }
+    }
+
+    /// "End call: ends a kept line that has a byte; then answers the report,
+    /// its numbers limited as above, and begins a fresh loader with the tables
+    /// kept."
+    pub fn end(&mut self, table: &mut Table) -> Report {
+        if !self.line.is_empty() {
+            self.end_line(table);
+        }
+        let report = self.report();
+        *self = Loader::fresh();
+        report
+    }
+}
+
+// ---------------------------------------------------------------------------
+// Single writes
+// ---------------------------------------------------------------------------
+
+impl Table {
+    /// "Change: subject, object, allow, deny." Refusals 1 2 3 4 5 6 7.
+    pub fn change(&mut self, write: &[u8]) -> Result<(), Refusal> {
+        if write.len() > LINE_LIMIT {
+            return Err(Refusal::TooLong);
+        }
+        let fields = fields(write);
+        if fields.len() != 4 {
+            return Err(Refusal::WrongFields);
+        }
+        let (subject, object) = (fields[0], fields[1]);
+        if !is_well_formed(subject) || !is_well_formed(object) {
+            return Err(Refusal::BadLabel);
+        }
+        let Some(allow) = read_access(fields[2], CHANGE_LETTERS) else {
+            return Err(Refusal::BadAccess);
+        };
+        let Some(deny) = read_access(fields[3], CHANGE_LETTERS) else {
+            return Err(Refusal::BadAccess);
+        };
+        self.check_pair(subject, object)?;
+        // "A pair with no rule starts from none".
+        let old = match self.place_of_pair(subject, object) {
+            Some(place) => self.rules[place].2,
+            None => 0,
+        };
+        // "New modes are (old modes or allow) without deny."
+        self.set_pair(subject, object, (old | allow) & !deny);
+        Ok(())
+    }
+
+    /// "Revoke: one label, with no blanks. Every rule with that subject gets no
+    /// modes and keeps its place. The answer is how many rules have that
+    /// subject; an unknown label gives 0." Refusals 1 3. The whole buffer is
+    /// the label.
+    pub fn revoke(&mut self, write: &[u8]) -> Result<usize, Refusal> {
+        if write.len() > LINE_LIMIT {
+            return Err(Refusal::TooLong);
+        }
+        if !is_well_formed(write) {
+            return Err(Refusal::BadLabel);
+        }
+        let Some(subject) = self.number_of(write) else {
+            return Ok(0);
+        };
+        let mut count = 0;
+        for rule in &mut self.rules {
+            if rule.0 == subject {
+                rule.2 = 0;
+                count += 1;
+            }
+        }
+        Ok(count)
+    }
+
+    /// "Override list: 1 to 8 different labels, or a lone dash to clear.
+    /// Repeats count once. The write replaces the list." Refusals 1 2 3 11 6.
+    pub fn override_write(&mut self, write: &[u8]) -> Result<(), Refusal> {
+        if write.len() > LINE_LIMIT {
+            return Err(Refusal::TooLong);
+        }
+        let fields = fields(write);
+        if fields.is_empty() {
+            return Err(Refusal::WrongFields);
+        }
+        if fields.len() == 1 && fields[0] == b"-" {
+            self.override_list.clear();
+            return Ok(());
+        }
+        if !fields.iter().all(|field| is_well_formed(field)) {
+            return Err(Refusal::BadLabel);
+        }
+        let mut different: Vec<&[u8]> = Vec::new();
+        for field in fields {
+            if !different.contains(&field) {
+                different.push(field);
+            }
+        }
+        if different.len() > OVERRIDE_PLACES {
+            return Err(Refusal::TooManyOverrideLabels);
+        }
+        if self.lacks_label_places(&different) {
+            return Err(Refusal::NoLabelPlace);
+        }
+        self.override_list.clear();
+        for label in different {
+            let number = self.enter_label(label);
+            self.override_list.push(number);
+        }
+        Ok(())
+    }
+
+    /// "Mapping: label, level, then no or more categories." Refusals 1 2 3 9 6 10.
+    pub fn mapping(&mut self, write: &[u8]) -> Result<(), Refusal> {
+        if write.len() > LINE_LIMIT {
+            return Err(Refusal::TooLong);
+        }
+        let fields = fields(write);
+        if fields.len() < 2 {
+            return Err(Refusal::WrongFields);
+        }
+        let label = fields[0];
+        if !is_well_formed(label) {
+            return Err(Refusal::BadLabel);
+        }
+        let Some(level) = read_level(fields[1]) else {
+            return Err(Refusal::BadLevelOrCategory);
+        };
+        let mut set = 0;
+        for field in &fields[2..] {
+            let Some(bit) = read_category(field) else {
+                return Err(Refusal::BadLevelOrCategory);
+            };
+            set |= bit;
+        }
+        if self.lacks_label_places(&[label]) {
+            return Err(Refusal::NoLabelPlace);
+        }
+        let former = match self.number_of(label) {
+            Some(number) => self.place_of_mapping(number),
+            None => None,
+        };
+        if former.is_none() && self.mappings.len() >= MAPPING_PLACES {
+            return Err(Refusal::NoMappingPlace);
+        }
+        let number = self.enter_label(label);
+        let mapping = Mapping {
+            label: number,
+            level,
+            set,
+        };
+        // "It replaces the label's former mapping in its place; a new one goes last."
+        match former {
+            Some(place) => self.mappings[place] = mapping,
+            None => self.mappings.push(mapping),
+        }
+        Ok(())
+    }
+}
+
+// ---------------------------------------------------------------------------
+// Looking mappings up
+// ---------------------------------------------------------------------------
+
+/// "A mapping looked up by label gives level, set and how many categories are
+/// in the set."
+#[derive(Clone, Copy, PartialEq, Eq, Debug)]
+pub struct Found {
+    pub level: u8,
+    pub set: u64,
+    pub count: u32,
+}
+
+/// One record of a lent run: "a label number, a level and a set", "of any
+/// length and content". Every number is wide, so that any content can be said.
+#[derive(Clone, Copy, PartialEq, Eq, Debug)]
+pub struct Record {
+    pub label: u64,
+    pub level: u64,
+    pub set: u64,
+}
+
+/// The 9 of a look-up: a level over 255, or a set with the bit that is no category.
+fn check_level_and_set(level: u64, set: u64) -> Result<(), Refusal> {
+    if level > 255 || set & UNKNOWN_CATEGORY_BIT != 0 {
+        return Err(Refusal::BadLevelOrCategory);
+    }
+    Ok(())
+}
+
+impl Table {
+    /// "An unmapped label gives none." Refusal 3.
+    pub fn by_label(&self, label: &[u8]) -> Result<Option<Found>, Refusal> {
+        if !is_well_formed(label) {
+            return Err(Refusal::BadLabel);
+        }
+        let Some(number) = self.number_of(label) else {
+            return Ok(None);
+        };
+        let Some(place) = self.place_of_mapping(number) else {
+            return Ok(None);
+        };
+        let mapping = self.mappings[place];
+        Ok(Some(Found {
+            level: mapping.level,
+            set: mapping.set,
+            count: mapping.set.count_ones(),
+        }))
+    }
+
+    /// "Looked up by level and set, it gives the lowest-numbered label whose
+    /// both are equal, or none." Refusal 9. Where a label or a mapping is
+    /// stored twice "the first counts": a number counts only if it is its
+    /// label's first, and only by its first mapping.
+    pub fn by_level(&self, level: u64, set: u64) -> Result<Option<usize>, Refusal> {
+        check_level_and_set(level, set)?;
+        for number in 0..self.labels.len() {
+            let is_first_number = self.number_of(&self.labels[number]) == Some(number);
+            if !is_first_number {
+                continue;
+            }
+            let Some(place) = self.place_of_mapping(number) else {
+                continue;
+            };
+            let mapping = self.mappings[place];
+            if u64::from(mapping.level) == level && mapping.set == set {
+                return Ok(Some(number));
+            }
+        }
+        Ok(None)
+    }
+}
+
+/// "The host can also search a lent run of records ...: the lowest label number
+/// whose level and set both match, or none." Refusal 9. "A run is no part of
+/// the state and never gets 0."
+pub fn search_run(run: &[Record], level: u64, set: u64) -> Result<Option<u64>, Refusal> {
+    check_level_and_set(level, set)?;
+    let mut lowest: Option<u64> = None;
+    for record in run {
+        if record.level != level || record.set != set {
+            continue;
+        }
+        match lowest {
+            Some(label) if label <= record.label => {}
+            _ => lowest = Some(record.label),
+        }
+    }
+    Ok(lowest)
+}
+
+// ---------------------------------------------------------------------------
+// Questions
+// ---------------------------------------------------------------------------
+
+/// "The answer is one of: granted, with the rule number and, under rule 6,
+/// whether the rule has b; denied, with 1 or 7; granted by override, with the
+/// rule that would have denied; refused, with its number."
+#[derive(Clone, Copy, PartialEq, Eq, Debug)]
+pub enum Answer {
+    Granted { rule: u8, has_b: bool },
+    Denied { rule: u8 },
+    Override { rule: u8 },
+    Refused(Refusal),
+}
+
+/// Granted by another rule than 6: there is no b to tell of.
+fn granted(rule: u8) -> Answer {
+    Answer::Granted { rule, has_b: false }
+}
+
+impl Table {
+    /// The seven rules: "The first that applies decides". The labels are
+    /// compared as bytes, so that it does not matter what is stored.
+    fn seven_rules(&self, subject: &[u8], object: &[u8], request: u8) -> Answer {
+        let only_r_and_x = request & !(R | X) == 0;
+        // 1. "Subject is *: denied."
+        if subject == b"*" {
+            return Answer::Denied { rule: 1 };
+        }
+        // 2. "Subject is ^ and the request has only r and x: granted."
+        if subject == b"^" && only_r_and_x {
+            return granted(2);
+        }
+        // 3. "Object is _ and the request has only r and x: granted."
+        if object == b"_" && only_r_and_x {
+            return granted(3);
+        }
+        // 4. "Object is *: granted."
+        if object == b"*" {
+            return granted(4);
+        }
+        // 5. "Subject equals object: granted."
+        if subject == object {
+            return granted(5);
+        }
+        // 6. "The pair has a rule whose modes hold every requested letter: granted."
+        if let Some(place) = self.place_of_pair(subject, object) {
+            let modes = self.rules[place].2;
+            if modes & request == request {
+                return Answer::Granted {
+                    rule: 6,
+                    has_b: modes & B != 0,
+                };
+            }
+        }
+        // 7. "Denied."
+        Answer::Denied { rule: 7 }
+    }
+
+    /// "the list is empty or holds the subject".
+    fn override_reaches(&self, subject: &[u8]) -> bool {
+        if self.override_list.is_empty() {
+            return true;
+        }
+        match self.number_of(subject) {
+            Some(number) => self.override_list.contains(&number),
+            None => false,
+        }
+    }
+
+    /// "A question is a subject, an object, a request and whether the asker has
+    /// the override capability." Refusals 3 8. "A question changes nothing."
+    pub fn question(
+        &self,
+        subject: &[u8],
+        object: &[u8],
+        request: &[u8],
+        has_override: bool,
+    ) -> Answer {
+        if !is_well_formed(subject) || !is_well_formed(object) {
+            return Answer::Refused(Refusal::BadLabel);
+        }
+        let Some(request) = read_request(request) else {
+            return Answer::Refused(Refusal::BadRequest);
+        };
+        let answer = self.seven_rules(subject, object, request);
+        // "Override counts only if the asker has it and the list is empty or
+        // holds the subject, and only after a denial."
+        if let Answer::Denied { rule } = answer {
+            if has_override && self.override_reaches(subject) {
+                return Answer::Override { rule };
+            }
+        }
+        answer
+    }
+}
+
+// ---------------------------------------------------------------------------
+// Listing
+// ---------------------------------------------------------------------------
+
+impl Table {
+    /// "subject, space, object, space, modes or a dash, newline".
+    fn rule_text(&self, rule: (usize, usize, u8)) -> Vec<u8> {
+        let (subject, object, modes) = rule;
+        let mut text = Vec::new();
+        text.extend_from_slice(&self.labels[subject]);
+        text.push(b' ');
+        text.extend_from_slice(&self.labels[object]);
+        text.push(b' ');
+        text.extend_from_slice(&write_modes(modes));
+        text.push(b'\n');
+        text
+    }
+
+    /// "Rule number k (from 0, in table order)": "It goes to the front of a
+    /// lent buffer, the rest of which is unchanged; the length is answered."
+    /// Refusals 13 12.
+    pub fn list(&self, k: u64, buffer: &mut [u8]) -> Result<usize, Refusal> {
+        if k >= self.rules.len() as u64 {
+            return Err(Refusal::NoSuchNumber);
+        }
+        let text = self.rule_text(self.rules[k as usize]);
+        if text.len() > buffer.len() {
+            return Err(Refusal::OutputTooShort);
+        }
+        buffer[..text.len()].copy_from_slice(&text);
+        Ok(text.len())
+    }
+
+    /// "A label can also be asked for by number: the answer is the very part
+    /// ... that holds it, empty on a refusal".
+    pub fn label(&self, k: u64) -> &[u8] {
+        match self.label_check(k) {
+            Ok(()) => &self.labels[k as usize],
+            Err(_) => &[],
+        }
+    }
+
+    /// "a call beside it answers done or the refusal's number". Refusal 13.
+    pub fn label_check(&self, k: u64) -> Result<(), Refusal> {
+        if k >= self.labels.len() as u64 {
+            return Err(Refusal::NoSuchNumber);
+        }
+        Ok(())
+    }
+}

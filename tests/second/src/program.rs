@@ -1,0 +1,95 @@
+//! "What the program reads and writes".
+
+use crate::plain::{fields, Answer, Loader, Refusal, Report, Table, LINE_LIMIT};
+
+/// All of standard input to all of standard output.
+pub fn run(input: &[u8]) -> Vec<u8> {
+    let (rule_text, questions) = split_at_question_mark(input);
+
+    let mut table = Table::fresh();
+    let mut loader = Loader::fresh();
+    loader.piece(&mut table, rule_text);
+    let report = loader.end(&mut table);
+
+    let mut output = Vec::new();
+    output.extend_from_slice(report_text(&report).as_bytes());
+    output.push(b'\n');
+    for line in lines_of(questions) {
+        let answer = question_line(&table, line);
+        output.extend_from_slice(answer_text(&answer).as_bytes());
+        output.push(b'\n');
+    }
+    output
+}
+
+/// "Standard input holds rule text, the first line that is exactly `?`, then
+/// question lines". Gives the bytes before that line and the bytes after it.
+/// Without such a line all of the input is rule text.
+fn split_at_question_mark(input: &[u8]) -> (&[u8], &[u8]) {
+    let mut start = 0;
+    while start < input.len() {
+        let rest = &input[start..];
+        let length = match rest.iter().position(|&byte| byte == b'\n') {
+            Some(length) => length,
+            None => rest.len(),
+        };
+        let end = start + length;
+        let next = (end + 1).min(input.len());
+        if &input[start..end] == b"?" {
+            return (&input[..start], &input[next..]);
+        }
+        start = next;
+    }
+    (input, &[])
+}
+
+/// The lines of a text; "the last line needs no newline".
+fn lines_of(text: &[u8]) -> Vec<&[u8]> {
+    let mut lines: Vec<&[u8]> = text.split(|&byte| byte == b'\n').collect();
+    // What is behind the last newline is a line only if it has a byte.
+    if lines.last() == Some(&&b""[..]) {
+        lines.pop();
+    }
+    lines
+}
+
+/// "subject, object, request and, where the asker has the capability, a fourth
+/// field `o`". "A question line over 600 bytes gets `refused 1`, other fields
+/// than these `refused 2`, both before 3."
+pub fn question_line(table: &Table, line: &[u8]) -> Answer {
+    if line.len() > LINE_LIMIT {
+        return Answer::Refused(Refusal::TooLong);
+    }
+    let fields = fields(line);
+    let has_override = fields.len() == 4 && fields[3] == b"o";
+    if fields.len() != 3 && !has_override {
+        return Answer::Refused(Refusal::WrongFields);
+    }
+    table.question(fields[0], fields[1], fields[2], has_override)
+}
+
+/// "lines, accepted, skipped, refused, first refused line, its reason; 0 0
+/// where none".
+pub fn report_text(report: &Report) -> String {
+    format!(
+        "{} {} {} {} {} {}",
+        report.lines,
+        report.accepted,
+        report.skipped,
+        report.refused,
+        report.first_line,
+        report.first_reason
+    )
+}
+
+/// "`granted 6`, `granted 6 b`, `denied 7`, `override 7` or `refused 3`, with
+/// the number that applies".
+pub fn answer_text(answer: &Answer) -> String {
+    match answer {
+        Answer::Granted { rule, has_b: false } => format!("granted {rule}"),
+        Answer::Granted { rule, has_b: true } => format!("granted {rule} b"),
+        Answer::Denied { rule } => format!("denied {rule}"),
+        Answer::Override { rule } => format!("override {rule}"),
+        Answer::Refused(refusal) => format!("refused {}", refusal.number()),
+    }
+}

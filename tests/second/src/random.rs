@@ -1,0 +1,1247 @@
+//! Random call scripts, the same for the same seed.
+//!
+//! A script is a chain of short episodes. Each begins with fresh memory, brings
+//! the table to some interesting place (empty, well filled, at a limit, odd, or
+//! damaged) and then makes a run of random calls there. The calls are also made
+//! on a machine of the generator's own, so that it can aim: at stored labels, at
+//! the exact length of a listing, at an entry below a count.
+//!
+//! An episode with a `resize` in it goes on to the next `fresh`, which always
+//! stands with a `freshloader`; so a reader that cannot lend a part of another
+//! size may leave out all lines from a `resize` up to the next `fresh`.
+//! Label numbers and levels in a run stay within a byte, and the loader's
+//! numbers are poked so that "no line was refused yet" is said by all three of
+//! refused, first line and first reason, or by none.
+
+use std::io::{self, Write};
+
+use crate::plain::Table;
+use crate::raw;
+use crate::script::{write_hex, Machine};
+
+/// A xorshift generator with a multiplied output.
+pub struct Xorshift {
+    state: u64,
+}
+
+impl Xorshift {
+    pub fn new(seed: u64) -> Xorshift {
+        let mixed = seed
+            .wrapping_add(0x9e37_79b9_7f4a_7c15)
+            .wrapping_mul(0xbf58_476d_1ce4_e5b9);
+        // The state must not be zero.
+        let mut random = Xorshift { state: mixed | 1 };
+        for _ in 0..8 {
+            random.next_number();
+        }
+        random
+    }
+
+    pub fn next_number(&mut self) -> u64 {
+        let mut x = self.state;
+        x ^= x << 13;
+        x ^= x >> 7;
+        x ^= x << 17;
+        self.state = x;
+        x.wrapping_mul(0x2545_f491_4f6c_dd1d)
+    }
+
+    /// A number from 0 to `limit` - 1.
+    pub fn below(&mut self, limit: u64) -> u64 {
+        (self.next_number() >> 20) % limit
+    }
+
+    pub fn chance(&mut self, percent: u64) -> bool {
+        self.below(100) < percent
+    }
+
+    pub fn pick<T: Copy>(&mut self, choices: &[T]) -> T {
+        choices[self.below(choices.len() as u64) as usize]
+    }
+
+    fn byte(&mut self) -> u8 {
+        self.below(256) as u8
+    }
+}
+
+/// Writes a script of `count` calls.
+pub fn write_script(seed: u64, count: u64, output: &mut dyn Write) -> io::Result<()> {
+    let mut generator = Generator {
+        random: Xorshift::new(seed),
+        machine: Machine::new(),
+        output,
+        error: None,
+        left: count,
+        pool: Vec::new(),
+        new_percent: 5,
+        next_name: 0,
+        pending: Vec::new(),
+    };
+    while generator.left > 0 && generator.error.is_none() {
+        generator.episode();
+    }
+    match generator.error {
+        Some(error) => Err(error),
+        None => Ok(()),
+    }
+}
+
+struct Generator<'a> {
+    random: Xorshift,
+    machine: Machine,
+    output: &'a mut dyn Write,
+    error: Option<io::Error>,
+    /// How many calls are still to be written.
+    left: u64,
+    /// The labels that this episode likes to use.
+    pool: Vec<Vec<u8>>,
+    /// How often, of a hundred, a label is one that was never used before.
+    new_percent: u64,
+    next_name: u64,
+    /// Rule text that is made but not yet handed over in pieces.
+    pending: Vec<u8>,
+}
+
+impl Generator<'_> {
+    /// Writes one call and makes it.
+    fn emit(&mut self, call: &str) {
+        if self.left == 0 || self.error.is_some() {
+            return;
+        }
+        self.left -= 1;
+        let answer = self.machine.execute(call);
+        debug_assert!(
+            answer.as_deref().is_some_and(|text| text != "bad line"),
+            "{call}"
+        );
+        if let Err(error) = writeln!(self.output, "{call}") {
+            self.error = Some(error);
+        }
+    }
+
+    /// The model of the machine's table, where it is undamaged.
+    fn table(&self) -> Option<Table> {
+        raw::table_of(&self.machine.state).ok()
+    }
+
+    // -----------------------------------------------------------------------
+    // Episodes
+    // -----------------------------------------------------------------------
+
+    fn episode(&mut self) {
+        self.emit("fresh");
+        self.emit("freshloader");
+        self.pending.clear();
+        self.make_pool();
+        self.new_percent = 5;
+        match self.random.below(12) {
+            0 | 1 => self.calls(40),
+            2 => self.at_label_limit(),
+            3 => self.at_rule_limit(),
+            4 => self.at_mapping_limit(),
+            5 => {
+                self.fill_labels_to(64);
+                self.fill_rules_to(256);
+                self.fill_mappings_to(32);
+                self.new_percent = 20;
+                self.calls(40);
+            }
+            6 | 7 => self.damaged_episode(),
+            8 | 9 => self.odd_episode(),
+            10 => self.loader_episode(),
+            _ => self.override_episode(),
+        }
+    }
+
+    fn at_label_limit(&mut self) {
+        let target = self.random.pick(&[60, 61, 62, 63, 63, 64]);
+        self.fill_labels_to(target);
+        self.new_percent = 35;
+        self.calls(30);
+    }
+
+    fn at_rule_limit(&mut self) {
+        let labels = self.random.pick(&[20, 30, 63]);
+        self.fill_labels_to(labels);
+        let target = self.random.pick(&[254, 255, 255, 256]);
+        self.fill_rules_to(target);
+        self.new_percent = 15;
+        self.calls(30);
+    }
+
+    fn at_mapping_limit(&mut self) {
+        let labels = self.random.pick(&[32, 40, 63, 64]);
+        self.fill_labels_to(labels);
+        let target = self.random.pick(&[30, 31, 31, 32]);
+        self.fill_mappings_to(target);
+        self.new_percent = 15;
+        for _ in 0..15 {
+            self.mapping_call();
+            self.some_dump();
+        }
+        self.calls(15);
+    }
+
+    fn override_episode(&mut self) {
+        self.base_state();
+        let target = self.random.pick(&[20, 56, 60, 63]);
+        self.fill_labels_to(target);
+        self.new_percent = 15;
+        for _ in 0..12 {
+            self.override_call();
+            self.some_dump();
+            self.question_call();
+            self.question_call();
+        }
+    }
+
+    fn damaged_episode(&mut self) {
+        if self.random.chance(70) {
+            self.base_state();
+        }
+        if self.random.chance(20) {
+            self.fill_labels_to(64);
+        }
+        if self.random.chance(15) {
+            self.fill_rules_to(256);
+        }
+        self.calls(4);
+        if self.random.chance(25) {
+            self.resize_part();
+            self.every_call();
+            self.calls(6);
+            return;
+        }
+        let times = 1 + self.random.below(3);
+        for _ in 0..times {
+            let undo = self.damage();
+            self.emit("dump");
+            self.every_call();
+            self.calls(5);
+            if self.random.chance(60) {
+                for call in undo {
+                    self.emit(&call);
+                }
+                self.emit("dump");
+                self.calls(6);
+            }
+        }
+    }
+
+    fn odd_episode(&mut self) {
+        if self.random.chance(80) {
+            self.base_state();
+        }
+        let times = 1 + self.random.below(4);
+        for _ in 0..times {
+            self.oddity();
+        }
+        self.emit("dump");
+        self.every_call();
+        self.calls(20);
+    }
+
+    fn loader_episode(&mut self) {
+        if self.random.chance(50) {
+            self.base_state();
+        }
+        for _ in 0..4 {
+            self.odd_loader();
+            for _ in 0..4 {
+                self.piece_call();
+                self.some_dump();
+            }
+            if self.random.chance(60) {
+                self.emit("end");
+            }
+            self.emit("dump");
+        }
+        self.calls(6);
+    }
+
+    /// A handful of rules, mappings and override labels.
+    fn base_state(&mut self) {
+        let mut text = Vec::new();
+        let rules = 2 + self.random.below(8);
+        for _ in 0..rules {
+            let line = self.good_rule_line();
+            text.extend_from_slice(&line);
+            text.push(b'\n');
+        }
+        self.emit(&format!("piece {}", write_hex(&text)));
+        let mappings = 1 + self.random.below(4);
+        for _ in 0..mappings {
+            let label = self.pool_label();
+            let mut write = label;
+            write.extend_from_slice(b" 9 1 63");
+            self.emit(&format!("mapping {}", write_hex(&write)));
+        }
+        let overrides = 1 + self.random.below(3);
+        let mut write = Vec::new();
+        for _ in 0..overrides {
+            let label = self.pool_label();
+            write.extend_from_slice(&label);
+            write.push(b' ');
+        }
+        self.emit(&format!("override {}", write_hex(&write)));
+        if self.random.chance(50) {
+            self.emit("freshloader");
+        }
+    }
+
+    /// New labels come in, by override lists of eight or by rules.
+    fn fill_labels_to(&mut self, target: usize) {
+        let Some(table) = self.table() else { return };
+        let mut missing = target.saturating_sub(table.labels.len());
+        while missing > 0 && self.left > 0 {
+            if self.random.chance(70) {
+                let count = missing.min(8);
+                let mut write = Vec::new();
+                for _ in 0..count {
+                    write.extend_from_slice(&self.new_name());
+                    write.push(b' ');
+                }
+                self.emit(&format!("override {}", write_hex(&write)));
+                missing -= count;
+            } else {
+                let mut write = self.new_name();
+                write.extend_from_slice(b" _ rwa -");
+                self.emit(&format!("change {}", write_hex(&write)));
+                missing -= 1;
+            }
+        }
+        if self.random.chance(50) {
+            self.emit("override 2d");
+        }
+    }
+
+    /// Rules of stored labels come in, in one piece or a few.
+    fn fill_rules_to(&mut self, target: usize) {
+        let Some(mut table) = self.table() else {
+            return;
+        };
+        if table.labels.len() < 20 {
+            self.fill_labels_to(20);
+            match self.table() {
+                Some(larger) => table = larger,
+                None => return,
+            }
+        }
+        let mut missing = target.saturating_sub(table.rules.len());
+        let mut text = Vec::new();
+        for subject in 0..table.labels.len() {
+            for object in 0..table.labels.len() {
+                let has_rule = table.rules.iter().any(|r| r.0 == subject && r.1 == object);
+                if missing == 0 || subject == object || has_rule {
+                    continue;
+                }
+                text.extend_from_slice(&table.labels[subject]);
+                text.push(b' ');
+                text.extend_from_slice(&table.labels[object]);
+                text.push(b' ');
+                text.extend_from_slice(&self.access());
+                text.push(b'\n');
+                missing -= 1;
+            }
+        }
+        while !text.is_empty() && self.left > 0 {
+            let length = match self.random.below(3) {
+                0 => 1 + self.random.below(text.len() as u64) as usize,
+                _ => text.len(),
+            };
+            let rest = text.split_off(length);
+            self.emit(&format!("piece {}", write_hex(&text)));
+            text = rest;
+        }
+        self.emit("end");
+    }
+
+    fn fill_mappings_to(&mut self, target: usize) {
+        let Some(table) = self.table() else { return };
+        let mut missing = target.saturating_sub(table.mappings.len());
+        for (number, label) in table.labels.iter().enumerate() {
+            let is_mapped = table.mappings.iter().any(|m| m.label == number);
+            if missing == 0 || is_mapped {
+                continue;
+            }
+            let mut write = label.clone();
+            write.push(b' ');
+            write.extend_from_slice(
+                self.random
+                    .pick(&["9 1 63", "9", "0 5", "7 7 7 8"])
+                    .as_bytes(),
+            );
+            self.emit(&format!("mapping {}", write_hex(&write)));
+            missing -= 1;
+        }
+    }
+
+    // -----------------------------------------------------------------------
+    // Damage: refusal 0
+    // -----------------------------------------------------------------------
+
+    /// A part gets another size.
+    fn resize_part(&mut self) {
+        let (part, size) = match self.random.below(4) {
+            0 => ("labels", self.random.pick(&[0, 256, 16383, 16385, 20000])),
+            1 => ("entries", self.random.pick(&[0, 256, 839, 841])),
+            2 => ("words", self.random.pick(&[0, 3, 4, 35, 37])),
+            _ => ("line", self.random.pick(&[0, 1, 599, 601])),
+        };
+        self.emit(&format!("resize {part} {size}"));
+    }
+
+    /// Damages something below the counts; gives the calls that undo it.
+    fn damage(&mut self) -> Vec<String> {
+        let counts: Vec<u64> = self.machine.state.words[..4].to_vec();
+        let no_label = self.random.pick(&[counts[0].min(255), 64, 128, 255]);
+        match self.random.below(13) {
+            0 => {
+                let value = self.over_limit(64);
+                self.poke_word(raw::LABEL_COUNT, value)
+            }
+            1 => {
+                let value = self.over_limit(256);
+                self.poke_word(raw::RULE_COUNT, value)
+            }
+            2 => {
+                let value = self.over_limit(32);
+                self.poke_word(raw::MAPPING_COUNT, value)
+            }
+            3 => {
+                let value = self.over_limit(8);
+                self.poke_word(raw::OVERRIDE_COUNT, value)
+            }
+            // Fewer labels, so that numbers may lose theirs.
+            4 => {
+                let value = self.random.below(counts[0].min(64) + 1);
+                self.poke_word(raw::LABEL_COUNT, value)
+            }
+            5 => self.poke_below(raw::SUBJECTS, counts[1], 256, no_label as u8),
+            6 => self.poke_below(raw::OBJECTS, counts[1], 256, no_label as u8),
+            7 => {
+                let modes = self.random.pick(&[64, 128, 192, 255, 96, 65]);
+                self.poke_below(raw::MODES, counts[1], 256, modes)
+            }
+            8 => self.poke_below(raw::MAPPING_LABELS, counts[2], 32, no_label as u8),
+            9 => {
+                let place = self.random.below(counts[2].min(32) + 1).min(31) as usize;
+                let old = self.machine.state.words[raw::SETS + place];
+                let value = self.random.pick(&[1, 3, u64::MAX, old | 1]);
+                self.poke_word(raw::SETS + place, value)
+            }
+            10 => self.poke_below(raw::OVERRIDES, counts[3], 8, no_label as u8),
+            11 => {
+                let value = self.random.pick(&[602, 603, 1000, 65536, u32::MAX]);
+                self.poke_loader(raw::KEPT, value)
+            }
+            // Counts up to their limits, over places that hold zeros or old bytes.
+            _ => {
+                let index = self.random.below(4) as usize;
+                let limit = [64, 256, 32, 8][index];
+                let room = limit - counts[index].min(limit);
+                let value = counts[index].min(limit) + self.random.below(room + 1);
+                self.poke_word(index, value)
+            }
+        }
+    }
+
+    fn over_limit(&mut self, limit: u64) -> u64 {
+        self.random
+            .pick(&[limit + 1, limit + 2, 1000, 1 << 32, u64::MAX])
+    }
+
+    /// Pokes one byte of a row, at a place below its count or just at it.
+    fn poke_below(&mut self, row: usize, count: u64, places: u64, value: u8) -> Vec<String> {
+        let place = self.random.below(count.min(places) + 1).min(places - 1);
+        let at = row + place as usize;
+        let old = self.machine.state.entries[at];
+        self.emit(&format!("poke entries {at} {}", write_hex(&[value])));
+        vec![format!("poke entries {at} {}", write_hex(&[old]))]
+    }
+
+    fn poke_word(&mut self, index: usize, value: u64) -> Vec<String> {
+        let old = self.machine.state.words[index];
+        self.emit(&format!("poke words {index} {value}"));
+        vec![format!("poke words {index} {old}")]
+    }
+
+    fn poke_loader(&mut self, index: usize, value: u32) -> Vec<String> {
+        let old = self.machine.loader.numbers[index];
+        self.emit(&format!("poke loader {index} {value}"));
+        vec![format!("poke loader {index} {old}")]
+    }
+
+    // -----------------------------------------------------------------------
+    // Oddities: strange, but not damage
+    // -----------------------------------------------------------------------
+
+    fn oddity(&mut self) {
+        let Some(table) = self.table() else { return };
+        let labels = table.labels.len() as u64;
+        match self.random.below(12) {
+            // A label stored twice.
+            0 | 1 if labels >= 2 => {
+                let from = self.random.below(labels);
+                let to = self.random.below(labels);
+                self.copy_label(from as usize, to as usize);
+            }
+            // An ill-formed label: empty, or with a strange byte, or very long.
+            2 if labels >= 1 => {
+                let at = self.random.below(labels) as usize * raw::PLACE;
+                let length = self.random.pick(&[0, 1, 2, 255]);
+                self.emit(&format!("poke labels {at} {}", write_hex(&[length])));
+            }
+            3 if labels >= 1 => {
+                let at = self.random.below(labels) as usize * raw::PLACE + 1;
+                let byte = self.random.pick(&[0, 10, 32, b'-', b'/', 127, 255]);
+                self.emit(&format!("poke labels {at} {}", write_hex(&[byte])));
+            }
+            // Other labels than the five at 0 to 4, or none.
+            4 => {
+                let places = self.random.below(5) as usize;
+                let name = self.new_name();
+                let mut bytes = vec![name.len() as u8];
+                bytes.extend_from_slice(&name);
+                let at = places * raw::PLACE;
+                self.emit(&format!("poke labels {at} {}", write_hex(&bytes)));
+            }
+            5 => {
+                for index in [1, 2, 3] {
+                    self.emit(&format!("poke words {index} 0"));
+                }
+                let count = self.random.below(5);
+                self.emit(&format!("poke words 0 {count}"));
+            }
+            // A pair stored twice, or with subject equal to object.
+            6 | 7 if !table.rules.is_empty() => {
+                let from = self.random.below(table.rules.len() as u64) as usize;
+                let to = self.random.below(table.rules.len() as u64) as usize;
+                let (subject, object, _) = table.rules[from];
+                let object = if self.random.chance(15) {
+                    subject
+                } else {
+                    object
+                };
+                let (at, value) = (raw::SUBJECTS + to, write_hex(&[subject as u8]));
+                self.emit(&format!("poke entries {at} {value}"));
+                let (at, value) = (raw::OBJECTS + to, write_hex(&[object as u8]));
+                self.emit(&format!("poke entries {at} {value}"));
+            }
+            // A label mapped twice, with a level of its own.
+            8 if !table.mappings.is_empty() => {
+                let from = self.random.below(table.mappings.len() as u64) as usize;
+                let to = self.random.below(table.mappings.len() as u64) as usize;
+                let label = table.mappings[from].label as u8;
+                let at = raw::MAPPING_LABELS + to;
+                self.emit(&format!("poke entries {at} {}", write_hex(&[label])));
+                let level = self.random.pick(&[8, 9, 255]);
+                let at = raw::LEVELS + to;
+                self.emit(&format!("poke entries {at} {}", write_hex(&[level])));
+            }
+            // An override label twice, or another one.
+            9 if !table.override_list.is_empty() => {
+                let to = self.random.below(table.override_list.len() as u64) as usize;
+                let value = match self.random.below(2) {
+                    0 => table.override_list[0] as u8,
+                    _ => self.random.below(labels) as u8,
+                };
+                let at = raw::OVERRIDES + to;
+                self.emit(&format!("poke entries {at} {}", write_hex(&[value])));
+            }
+            // Strange bytes where nothing is stored.
+            10 => self.fill_unused(&table),
+            _ => self.odd_loader(),
+        }
+    }
+
+    fn copy_label(&mut self, from: usize, to: usize) {
+        let place = from * raw::PLACE;
+        let length = usize::from(self.machine.state.label_store[place]);
+        let bytes = self.machine.state.label_store[place..=place + length].to_vec();
+        let at = to * raw::PLACE;
+        self.emit(&format!("poke labels {at} {}", write_hex(&bytes)));
+    }
+
+    fn fill_unused(&mut self, table: &Table) {
+        let filler = self.random.pick(&[0xff, 0x41, 0x80]);
+        let rows = [
+            (raw::SUBJECTS, table.rules.len(), 256),
+            (raw::OBJECTS, table.rules.len(), 256),
+            (raw::MODES, table.rules.len(), 256),
+            (raw::MAPPING_LABELS, table.mappings.len(), 32),
+            (raw::LEVELS, table.mappings.len(), 32),
+            (raw::OVERRIDES, table.override_list.len(), 8),
+        ];
+        for (row, used, places) in rows {
+            if used < places {
+                let bytes = vec![filler; places - used];
+                let at = row + used;
+                self.emit(&format!("poke entries {at} {}", write_hex(&bytes)));
+            }
+        }
+        if table.mappings.len() < 32 {
+            let index = raw::SETS + table.mappings.len();
+            self.emit(&format!("poke words {index} {}", u64::MAX));
+        }
+        if table.labels.len() < 64 {
+            let at = table.labels.len() * raw::PLACE;
+            let bytes = vec![filler; 600.min(raw::STORE_SIZE - at)];
+            self.emit(&format!("poke labels {at} {}", write_hex(&bytes)));
+        }
+    }
+
+    /// A kept line of some length and content, and numbers near their limit.
+    fn odd_loader(&mut self) {
+        match self.random.below(3) {
+            0 => {
+                let kept = self.random.pick(&[0, 1, 5, 17, 598, 599, 600, 601]);
+                let filler = self.random.pick(b" \t\nA-\0\xff");
+                let bytes = vec![filler; 600];
+                self.emit(&format!("poke line 0 {}", write_hex(&bytes)));
+                if self.random.chance(60) {
+                    let line = self.rule_line();
+                    let length = line.len().min(600);
+                    self.emit(&format!("poke line 0 {}", write_hex(&line[..length])));
+                }
+                self.emit(&format!("poke loader 0 {kept}"));
+            }
+            1 => {
+                for index in [raw::LINES, raw::ACCEPTED, raw::SKIPPED] {
+                    let value = self.near_saturation();
+                    self.emit(&format!("poke loader {index} {value}"));
+                }
+            }
+            _ => {
+                let value = self.near_saturation();
+                self.emit(&format!("poke loader {} {value}", raw::LINES));
+                let refused = self.random.pick(&[0, 1, 7, 4294967294, 4294967295u32]);
+                let (line, reason) = match refused {
+                    0 => (0, 0),
+                    _ => (1 + self.near_saturation() / 2, 1 + self.random.below(7)),
+                };
+                self.emit(&format!("poke loader {} {refused}", raw::REFUSED));
+                self.emit(&format!("poke loader {} {line}", raw::FIRST_LINE));
+                self.emit(&format!("poke loader {} {reason}", raw::FIRST_REASON));
+            }
+        }
+    }
+
+    fn near_saturation(&mut self) -> u32 {
+        self.random
+            .pick(&[0, 1, 4294967290, 4294967293, 4294967294, 4294967295])
+    }
+
+    // -----------------------------------------------------------------------
+    // Labels and letters
+    // -----------------------------------------------------------------------
+
+    fn make_pool(&mut self) {
+        self.pool.clear();
+        let long = self.random.pick(&[22, 23, 24, 40, 254]);
+        for k in 0..6u8 {
+            // Labels that share a long beginning.
+            let mut label = vec![b'L'; long as usize];
+            label.push(b'a' + k);
+            self.pool.push(label);
+        }
+        for name in [
+            "A", "B", "a", "Probe3", "Air", "Alarm", "Desk", "Door", "Vault7", "r", "rw", "o",
+        ] {
+            self.pool.push(name.as_bytes().to_vec());
+        }
+        for mark in [
+            "_", "^", "*", "?", "@", "!", "#", "~", ".", "a-", "**", "__",
+        ] {
+            self.pool.push(mark.as_bytes().to_vec());
+        }
+        let mut longest = vec![b'Z'; 255];
+        self.pool.push(longest.clone());
+        longest[254] = b'z';
+        self.pool.push(longest);
+        // Not always the whole pool, so that pairs come again.
+        let kept = 6 + self.random.below(self.pool.len() as u64 - 6) as usize;
+        while self.pool.len() > kept {
+            let out = self.random.below(self.pool.len() as u64) as usize;
+            self.pool.remove(out);
+        }
+    }
+
+    fn pool_label(&mut self) -> Vec<u8> {
+        let at = self.random.below(self.pool.len() as u64) as usize;
+        self.pool[at].clone()
+    }
+
+    /// A short label that was not used before.
+    fn new_name(&mut self) -> Vec<u8> {
+        self.next_name += 1;
+        format!("N{}", self.next_name).into_bytes()
+    }
+
+    fn stored_label(&mut self) -> Vec<u8> {
+        match self.table() {
+            Some(table) if !table.labels.is_empty() => {
+                let at = self.random.below(table.labels.len() as u64) as usize;
+                table.labels[at].clone()
+            }
+            _ => self.pool_label(),
+        }
+    }
+
+    /// A label that has a mapping, where there is one.
+    fn mapped_label(&mut self) -> Vec<u8> {
+        match self.table() {
+            Some(table) if !table.mappings.is_empty() => {
+                let at = self.random.below(table.mappings.len() as u64) as usize;
+                table.labels[table.mappings[at].label].clone()
+            }
+            _ => self.label(),
+        }
+    }
+
+    /// A label that is the subject of a rule, where there is one.
+    fn ruling_label(&mut self) -> Vec<u8> {
+        match self.table() {
+            Some(table) if !table.rules.is_empty() => {
+                let at = self.random.below(table.rules.len() as u64) as usize;
+                table.labels[table.rules[at].0].clone()
+            }
+            _ => self.label(),
+        }
+    }
+
+    /// Mostly a well-formed label.
+    fn label(&mut self) -> Vec<u8> {
+        if self.random.chance(self.new_percent) {
+            return self.new_name();
+        }
+        match self.random.below(20) {
+            0..=9 => self.pool_label(),
+            10..=16 => self.stored_label(),
+            17 => self
+                .random
+                .pick(&["_", "^", "*", "?", "@"])
+                .as_bytes()
+                .to_vec(),
+            18 => {
+                let mut label = self.pool_label();
+                let at = self.random.below(label.len() as u64) as usize;
+                label[at] ^= 0x20;
+                label
+            }
+            _ => self.bad_label(),
+        }
+    }
+
+    fn bad_label(&mut self) -> Vec<u8> {
+        match self.random.below(6) {
+            0 => self
+                .random
+                .pick(&["-", "--", "-A", "-CIPSO"])
+                .as_bytes()
+                .to_vec(),
+            1 => vec![b'M'; self.random.pick(&[256, 257, 300])],
+            2 => {
+                let mut label = self.pool_label();
+                let byte = self.random.pick(b"/\\'\"\x7f\x80\xff\0\r\n\x0b\x1f");
+                let at = self.random.below(label.len() as u64 + 1) as usize;
+                label.insert(at, byte);
+                label
+            }
+            3 => {
+                let mut label = self.pool_label();
+                let at = self.random.below(label.len() as u64) as usize;
+                label[at] = self.random.byte();
+                label
+            }
+            4 => self.random_bytes(12),
+            _ => vec![self.random.byte()],
+        }
+    }
+
+    fn random_bytes(&mut self, limit: u64) -> Vec<u8> {
+        let length = self.random.below(limit + 1);
+        (0..length).map(|_| self.random.byte()).collect()
+    }
+
+    fn letters(&mut self, choices: &[u8], limit: u64) -> Vec<u8> {
+        let length = 1 + self.random.below(limit);
+        (0..length).map(|_| self.random.pick(choices)).collect()
+    }
+
+    fn access(&mut self) -> Vec<u8> {
+        self.letters(b"rwxatbRWXATB-rwxa", 5)
+    }
+
+    fn any_access(&mut self) -> Vec<u8> {
+        if self.random.chance(8) {
+            let mut field = self.access();
+            let byte = self.random.pick(b"lqy+0/\r\n\xff\x80\0_");
+            let at = self.random.below(field.len() as u64 + 1) as usize;
+            field.insert(at, byte);
+            return field;
+        }
+        self.access()
+    }
+
+    fn change_access(&mut self) -> Vec<u8> {
+        if self.random.chance(12) {
+            return self.any_access();
+        }
+        self.letters(b"rwxatRWXAT-", 4)
+    }
+
+    fn request(&mut self) -> Vec<u8> {
+        match self.random.below(20) {
+            0 => Vec::new(),
+            1 => self.letters(b"rwxatb-lRq \n", 3),
+            2 => self.letters(b"rwxaRWXA", 700),
+            3 => self.random_bytes(4),
+            _ => self.letters(b"rwxaRWXA", 3),
+        }
+    }
+
+    fn blanks(&mut self, least: u64) -> Vec<u8> {
+        let more = match self.random.below(6) {
+            0 => 1,
+            1 => self.random.below(4),
+            _ => 0,
+        };
+        (0..least + more)
+            .map(|_| self.random.pick(b"  \t"))
+            .collect()
+    }
+
+    /// Fields with blanks between, sometimes before and after.
+    fn join(&mut self, fields: &[Vec<u8>]) -> Vec<u8> {
+        let mut text = self.blanks(0);
+        for (k, field) in fields.iter().enumerate() {
+            if k > 0 {
+                let between = self.blanks(1);
+                text.extend_from_slice(&between);
+            }
+            text.extend_from_slice(field);
+        }
+        let after = self.blanks(0);
+        text.extend_from_slice(&after);
+        text
+    }
+
+    /// More blanks, so that the text comes to just under or over 600 bytes.
+    fn pad(&mut self, mut text: Vec<u8>) -> Vec<u8> {
+        let target = self.random.pick(&[599, 600, 600, 601, 601, 602]);
+        let at = match text.iter().position(|&byte| byte == b' ' || byte == b'\t') {
+            Some(at) if self.random.chance(50) => at,
+            _ if self.random.chance(50) => 0,
+            _ => text.len(),
+        };
+        while text.len() < target {
+            text.insert(at, self.random.pick(b" \t"));
+        }
+        text
+    }
+
+    // -----------------------------------------------------------------------
+    // Lines and writes
+    // -----------------------------------------------------------------------
+
+    /// A rule line of pool labels that is accepted where there is room.
+    fn good_rule_line(&mut self) -> Vec<u8> {
+        let subject = self.pool_label();
+        let mut object = self.pool_label();
+        if object == subject {
+            object = b"Other".to_vec();
+        }
+        let access = self.access();
+        self.join(&[subject, object, access])
+    }
+
+    fn rule_line(&mut self) -> Vec<u8> {
+        match self.random.below(30) {
+            0..=6 => self.good_rule_line(),
+            7..=17 => {
+                let fields = [self.label(), self.label(), self.any_access()];
+                self.join(&fields)
+            }
+            18 | 19 => {
+                let count = self.random.pick(&[1, 2, 4, 5]);
+                let mut fields = Vec::new();
+                for _ in 0..count {
+                    fields.push(self.label());
+                }
+                self.join(&fields)
+            }
+            20 => {
+                let label = self.label();
+                let fields = [label.clone(), label, self.any_access()];
+                self.join(&fields)
+            }
+            21 => {
+                let length = self.random.below(4);
+                (0..length).map(|_| self.random.pick(b" \t")).collect()
+            }
+            22 => vec![b' '; self.random.pick(&[599, 600, 601, 602])],
+            23 | 24 => {
+                let line = self.good_rule_line();
+                self.pad(line)
+            }
+            25 => self.random_bytes(40),
+            26 => {
+                let mut line = self.good_rule_line();
+                line.push(b'\r');
+                line
+            }
+            27 => {
+                let mut subject = vec![b'Z'; 255];
+                let mut object = vec![b'Y'; 255];
+                subject[254] = self.random.pick(b"ab");
+                object[254] = self.random.pick(b"ab");
+                let access = self.access();
+                self.join(&[subject, object, access])
+            }
+            28 => vec![b'Q'; self.random.pick(&[600, 601, 1000, 1500])],
+            _ => Vec::new(),
+        }
+    }
+
+    fn rule_text(&mut self) -> Vec<u8> {
+        let mut text = Vec::new();
+        let lines = 1 + self.random.below(6);
+        for _ in 0..lines {
+            let line = self.rule_line();
+            text.extend_from_slice(&line);
+            text.push(b'\n');
+        }
+        if self.random.chance(25) {
+            text.pop();
+        }
+        text
+    }
+
+    /// A write of these fields: mostly as it is, sometimes spoilt.
+    fn write_of(&mut self, mut fields: Vec<Vec<u8>>) -> Vec<u8> {
+        if self.random.chance(5) {
+            fields.pop();
+        }
+        if self.random.chance(4) {
+            fields.push(self.label());
+        }
+        let mut text = self.join(&fields);
+        if self.random.chance(5) {
+            text = self.pad(text);
+        }
+        if self.random.chance(5) {
+            text.push(b'\n');
+        }
+        if self.random.chance(4) && !text.is_empty() {
+            let at = self.random.below(text.len() as u64) as usize;
+            text[at] = self.random.byte();
+        }
+        if self.random.chance(2) {
+            text = self
+                .random
+                .pick(&["", " ", "-", "\n", "\t \t"])
+                .as_bytes()
+                .to_vec();
+        }
+        text
+    }
+
+    fn digits(&mut self, usual: &[&str]) -> Vec<u8> {
+        let odd = [
+            "0", "00", "000", "0000", "0001", "001", "63", "063", "64", "255", "256", "999", "+1",
+            "-1", "-", "1a", "a", "1.", "\n", "1\r",
+        ];
+        if self.random.chance(10) {
+            return self.random.pick(&odd).as_bytes().to_vec();
+        }
+        self.random.pick(usual).as_bytes().to_vec()
+    }
+
+    // -----------------------------------------------------------------------
+    // Calls
+    // -----------------------------------------------------------------------
+
+    /// A run of calls of all kinds.
+    fn calls(&mut self, count: u64) {
+        let count = count / 2 + self.random.below(count + 1);
+        for _ in 0..count {
+            self.any_call();
+        }
+    }
+
+    fn any_call(&mut self) {
+        match self.random.below(100) {
+            0..=21 => self.piece_call(),
+            22..=26 => self.emit("end"),
+            27..=35 => self.change_call(),
+            36..=40 => self.revoke_call(),
+            41..=46 => self.override_call(),
+            47..=54 => self.mapping_call(),
+            55..=59 => self.by_label_call(),
+            60..=64 => self.by_level_call(),
+            65..=69 => self.run_call(),
+            70..=84 => self.question_call(),
+            85..=91 => self.list_call(),
+            92..=95 => self.label_call(),
+            _ => self.emit("dump"),
+        }
+        self.some_dump();
+    }
+
+    fn some_dump(&mut self) {
+        if self.random.chance(25) {
+            self.emit("dump");
+        }
+    }
+
+    /// One call of each kind.
+    fn every_call(&mut self) {
+        self.piece_call();
+        self.emit("end");
+        self.change_call();
+        self.revoke_call();
+        self.override_call();
+        self.mapping_call();
+        self.by_label_call();
+        self.by_level_call();
+        self.run_call();
+        self.question_call();
+        self.list_call();
+        self.label_call();
+        self.emit("dump");
+    }
+
+    /// The next few bytes of the rule text, cut anywhere.
+    fn piece_call(&mut self) {
+        if self.pending.is_empty() {
+            self.pending = self.rule_text();
+        }
+        let all = self.pending.len();
+        let length = match self.random.below(8) {
+            0 => 0,
+            1 => 1,
+            2 => self.random.below(8) as usize,
+            3 | 4 => self.random.below(all as u64 + 1) as usize,
+            _ => all,
+        };
+        let rest = self.pending.split_off(length.min(all));
+        let piece = write_hex(&self.pending);
+        self.pending = rest;
+        self.emit(&format!("piece {piece}"));
+    }
+
+    fn change_call(&mut self) {
+        let fields = vec![
+            self.label(),
+            self.label(),
+            self.change_access(),
+            self.change_access(),
+        ];
+        let write = self.write_of(fields);
+        self.emit(&format!("change {}", write_hex(&write)));
+    }
+
+    fn revoke_call(&mut self) {
+        let write = match self.random.below(12) {
+            0 => {
+                let label = self.label();
+                self.join(&[label])
+            }
+            1 => vec![b'R'; self.random.pick(&[255, 256, 599, 600, 601])],
+            2 => Vec::new(),
+            3..=7 => self.ruling_label(),
+            _ => self.label(),
+        };
+        self.emit(&format!("revoke {}", write_hex(&write)));
+    }
+
+    fn override_call(&mut self) {
+        let fields = match self.random.below(12) {
+            0 | 1 => vec![b"-".to_vec()],
+            2 => match self.random.below(3) {
+                0 => vec![b"-".to_vec(), b"-".to_vec()],
+                1 => vec![b"A".to_vec(), b"-".to_vec()],
+                _ => Vec::new(),
+            },
+            3 => {
+                // Many fields, few labels.
+                let count = self.random.pick(&[20, 100, 290, 300]);
+                let spread = self.random.pick(&[1, 8, 9]);
+                (0..count)
+                    .map(|k| vec![b'a' + (k % spread) as u8])
+                    .collect()
+            }
+            4 | 5 => {
+                // Just eight or nine different ones.
+                let count = self.random.pick(&[7, 8, 8, 9, 10]);
+                let mut fields: Vec<Vec<u8>> =
+                    (0..count).map(|k| format!("V{k}").into_bytes()).collect();
+                if self.random.chance(50) {
+                    fields.push(b"V0".to_vec());
+                }
+                fields
+            }
+            _ => {
+                let count = 1 + self.random.below(9);
+                (0..count).map(|_| self.label()).collect()
+            }
+        };
+        let write = if self.random.chance(80) {
+            self.join(&fields)
+        } else {
+            self.write_of(fields)
+        };
+        self.emit(&format!("override {}", write_hex(&write)));
+    }
+
+    fn mapping_call(&mut self) {
+        let mut fields = vec![self.label(), self.digits(&["0", "9", "255", "7"])];
+        let count = match self.random.below(10) {
+            0 => self.random.pick(&[20, 63, 100]),
+            _ => self.random.below(4),
+        };
+        for _ in 0..count {
+            let category = match count {
+                0..=3 => self.digits(&["1", "2", "62", "63", "5", "05"]),
+                _ => (1 + self.random.below(63)).to_string().into_bytes(),
+            };
+            fields.push(category);
+        }
+        let write = self.write_of(fields);
+        self.emit(&format!("mapping {}", write_hex(&write)));
+    }
+
+    fn by_label_call(&mut self) {
+        let label = match self.random.below(12) {
+            0 => Vec::new(),
+            1 => vec![b'M'; self.random.pick(&[255, 256, 600, 601, 700])],
+            2 => {
+                let label = self.label();
+                self.join(&[label])
+            }
+            3..=7 => self.mapped_label(),
+            _ => self.label(),
+        };
+        self.emit(&format!("bylabel {}", write_hex(&label)));
+    }
+
+    /// A level and a set: of a stored mapping, or near one, or any.
+    fn level_and_set(&mut self) -> (u64, u64) {
+        let mut level = self.random.pick(&[0, 7, 8, 9, 255]);
+        let mut set = self.random.pick(&[0, 2, 1 << 63, (1 << 63) | 2, 1 << 59]);
+        if let Some(table) = self.table() {
+            if !table.mappings.is_empty() && self.random.chance(60) {
+                let at = self.random.below(table.mappings.len() as u64) as usize;
+                level = u64::from(table.mappings[at].level);
+                set = table.mappings[at].set;
+            }
+        }
+        match self.random.below(14) {
+            0 => {
+                level = self
+                    .random
+                    .pick(&[256, 257, 1000, 1 << 32, u64::MAX, level + 256])
+            }
+            1 => set |= 1,
+            2 => set = self.random.next_number(),
+            3 => set = u64::MAX - 1,
+            _ => {}
+        }
+        (level, set)
+    }
+
+    fn by_level_call(&mut self) {
+        let (level, set) = self.level_and_set();
+        self.emit(&format!("bylevel {level} {set}"));
+    }
+
+    fn run_call(&mut self) {
+        let (level, set) = self.level_and_set();
+        let mut call = format!("run {level} {set}");
+        let count = match self.random.below(12) {
+            0 => 0,
+            1 => self.random.below(200),
+            _ => self.random.below(8),
+        };
+        for _ in 0..count {
+            let label = self.random.pick(&[0, 1, 5, 63, 64, 200, 255]);
+            let other_level = self.random.pick(&[0, 9, 255]);
+            let record_level = if self.random.chance(70) {
+                level.min(255)
+            } else {
+                other_level
+            };
+            let other_set = self.random.pick(&[0, 1, set | 1, u64::MAX, set ^ 2]);
+            let record_set = if self.random.chance(70) {
+                set
+            } else {
+                other_set
+            };
+            call.push_str(&format!(" {label},{record_level},{record_set}"));
+        }
+        self.emit(&call);
+    }
+
+    fn question_call(&mut self) {
+        let mut subject = self.label();
+        let mut object = self.label();
+        // Often a pair that has a rule.
+        if let Some(table) = self.table() {
+            if !table.rules.is_empty() && self.random.chance(50) {
+                let at = self.random.below(table.rules.len() as u64) as usize;
+                subject = table.labels[table.rules[at].0].clone();
+                object = table.labels[table.rules[at].1].clone();
+            }
+        }
+        if self.random.chance(3) {
+            object = Vec::new();
+        }
+        if self.random.chance(3) {
+            subject = vec![b'S'; self.random.pick(&[255, 256, 700])];
+        }
+        if self.random.chance(4) {
+            object = subject.clone();
+        }
+        let request = self.request();
+        let capability = self.random.below(2);
+        self.emit(&format!(
+            "question {} {} {} {capability}",
+            write_hex(&subject),
+            write_hex(&object),
+            write_hex(&request)
+        ));
+    }
+
+    fn list_call(&mut self) {
+        let mut k = self.random.pick(&[0, 1, 255, 256, 257, 1 << 32, u64::MAX]);
+        let mut length = self.random.below(60);
+        if let Some(table) = self.table() {
+            if self.random.chance(85) {
+                k = self.random.below(table.rules.len() as u64 + 2);
+            }
+            let mut space = [0; 600];
+            if let Ok(exact) = table.list(k, &mut space) {
+                length = match self.random.below(5) {
+                    0 => 0,
+                    1 => exact as u64 - 1,
+                    2 => exact as u64,
+                    3 => exact as u64 + 1,
+                    _ => exact as u64 + self.random.below(40),
+                };
+            }
+        }
+        let buffer: Vec<u8> = (0..length).map(|_| self.random.byte()).collect();
+        self.emit(&format!("list {k} {}", write_hex(&buffer)));
+    }
+
+    fn label_call(&mut self) {
+        let mut k = self.random.pick(&[0, 4, 5, 63, 64, 256, 1 << 32, u64::MAX]);
+        if let Some(table) = self.table() {
+            if self.random.chance(75) {
+                k = self.random.below(table.labels.len() as u64 + 2);
+            }
+        }
+        self.emit(&format!("label {k}"));
+    }
+}

@@ -1,0 +1,389 @@
+//! The same calls over lent memory, which "may be damaged: see refusal 0".
+//!
+//! How the memory is laid out:
+//!
+//! | part          | size        | what is in it |
+//! |---------------|-------------|---------------|
+//! | `label_store` | 16384 bytes | 64 places of 256 bytes: the label's length, then its bytes |
+//! | `entries`     | 840 bytes   | rule subjects 0..256, rule objects 256..512, rule modes 512..768, mapping labels 768..800, mapping levels 800..832, override labels 832..840 |
+//! | `words`       | 36 words    | counts of labels, rules, mappings, override labels 0..4, category sets of the mappings 4..36 |
+//! | `line`        | 600 bytes   | the kept line |
+//! | `numbers`     | 7 numbers   | kept, lines, accepted, skipped, refused, first line, first reason |
+//!
+//! `kept` is the length of the kept line, or 601 for a line of over 600 bytes.
+//!
+//! Each call is: refusal 0 if the state is damaged; else make the plain model,
+//! make the plain call, and write the model back. Only what lies below the
+//! counts is ever written back, so an entry that did not change gets its own
+//! bytes again, and every other byte stays.
+
+use crate::plain::{
+    limited, search_run, Answer, Found, Loader, Mapping, Record, Refusal, Report, Table,
+    LABEL_PLACES, LINE_LIMIT, MAPPING_PLACES, OVERRIDE_PLACES, RULE_LETTERS, RULE_PLACES,
+    UNKNOWN_CATEGORY_BIT,
+};
+
+/// A label's place: one byte of length and up to 255 bytes of label.
+pub const PLACE: usize = 256;
+pub const STORE_SIZE: usize = LABEL_PLACES * PLACE;
+
+pub const SUBJECTS: usize = 0;
+pub const OBJECTS: usize = 256;
+pub const MODES: usize = 512;
+pub const MAPPING_LABELS: usize = 768;
+pub const LEVELS: usize = 800;
+pub const OVERRIDES: usize = 832;
+pub const ENTRIES_SIZE: usize = 840;
+
+pub const LABEL_COUNT: usize = 0;
+pub const RULE_COUNT: usize = 1;
+pub const MAPPING_COUNT: usize = 2;
+pub const OVERRIDE_COUNT: usize = 3;
+pub const SETS: usize = 4;
+pub const WORDS_SIZE: usize = 36;
+
+pub const KEPT: usize = 0;
+pub const LINES: usize = 1;
+pub const ACCEPTED: usize = 2;
+pub const SKIPPED: usize = 3;
+pub const REFUSED: usize = 4;
+pub const FIRST_LINE: usize = 5;
+pub const FIRST_REASON: usize = 6;
+
+/// `kept` where the kept line has over 600 bytes.
+pub const OVER: u32 = 601;
+
+/// The lent tables.
+#[derive(Clone, PartialEq, Eq, Debug)]
+pub struct RawState {
+    pub label_store: Vec<u8>,
+    pub entries: Vec<u8>,
+    pub words: Vec<u64>,
+}
+
+/// The lent loader.
+#[derive(Clone, PartialEq, Eq, Debug)]
+pub struct RawLoader {
+    pub line: Vec<u8>,
+    pub numbers: [u32; 7],
+}
+
+impl RawState {
+    /// New memory, zero everywhere, with a fresh table written into it.
+    pub fn fresh() -> RawState {
+        let mut state = RawState {
+            label_store: vec![0; STORE_SIZE],
+            entries: vec![0; ENTRIES_SIZE],
+            words: vec![0; WORDS_SIZE],
+        };
+        write_table(&Table::fresh(), &mut state);
+        state
+    }
+}
+
+impl RawLoader {
+    /// New memory, zero everywhere: an empty kept line and a report of zeros.
+    pub fn fresh() -> RawLoader {
+        RawLoader {
+            line: vec![0; LINE_LIMIT],
+            numbers: [0; 7],
+        }
+    }
+}
+
+// ---------------------------------------------------------------------------
+// Refusal 0
+// ---------------------------------------------------------------------------
+
+/// Refusal 0 of the tables: "the lent state has a part not of its full size, a
+/// count or length over its limit, a number that names no stored label, or an
+/// unknown mode or category bit". Only what is stored below the counts is
+/// looked at. A label's length is one byte, so it is never over 255.
+pub fn raw_is_damaged(state: &RawState) -> bool {
+    // "a part not of its full size"
+    if state.label_store.len() != STORE_SIZE
+        || state.entries.len() != ENTRIES_SIZE
+        || state.words.len() != WORDS_SIZE
+    {
+        return true;
+    }
+    // "a count ... over its limit"
+    if state.words[LABEL_COUNT] > LABEL_PLACES as u64
+        || state.words[RULE_COUNT] > RULE_PLACES as u64
+        || state.words[MAPPING_COUNT] > MAPPING_PLACES as u64
+        || state.words[OVERRIDE_COUNT] > OVERRIDE_PLACES as u64
+    {
+        return true;
+    }
+    let names_no_label = |number: u8| u64::from(number) >= state.words[LABEL_COUNT];
+    for k in 0..state.words[RULE_COUNT] as usize {
+        // "a number that names no stored label"
+        if names_no_label(state.entries[SUBJECTS + k]) || names_no_label(state.entries[OBJECTS + k])
+        {
+            return true;
+        }
+        // "an unknown mode ... bit"
+        if state.entries[MODES + k] & !RULE_LETTERS != 0 {
+            return true;
+        }
+    }
+    for k in 0..state.words[MAPPING_COUNT] as usize {
+        if names_no_label(state.entries[MAPPING_LABELS + k]) {
+            return true;
+        }
+        // "an unknown ... category bit"
+        if state.words[SETS + k] & UNKNOWN_CATEGORY_BIT != 0 {
+            return true;
+        }
+    }
+    for k in 0..state.words[OVERRIDE_COUNT] as usize {
+        if names_no_label(state.entries[OVERRIDES + k]) {
+            return true;
+        }
+    }
+    false
+}
+
+/// Refusal 0 of the loader, for the calls that take one: "a part not of its
+/// full size, a ... length over its limit". Numbers that do not add up and
+/// strange bytes in the kept line are not damage.
+pub fn raw_loader_is_damaged(loader: &RawLoader) -> bool {
+    loader.line.len() != LINE_LIMIT || loader.numbers[KEPT] > OVER
+}
+
+// ---------------------------------------------------------------------------
+// From lent memory to the model
+// ---------------------------------------------------------------------------
+
+/// The model of an undamaged lent table; else refusal 0.
+pub fn table_of(state: &RawState) -> Result<Table, Refusal> {
+    if raw_is_damaged(state) {
+        return Err(Refusal::Damaged);
+    }
+    let mut table = Table {
+        labels: Vec::new(),
+        rules: Vec::new(),
+        mappings: Vec::new(),
+        override_list: Vec::new(),
+    };
+    for k in 0..state.words[LABEL_COUNT] as usize {
+        table.labels.push(stored_label(state, k).to_vec());
+    }
+    for k in 0..state.words[RULE_COUNT] as usize {
+        table.rules.push((
+            usize::from(state.entries[SUBJECTS + k]),
+            usize::from(state.entries[OBJECTS + k]),
+            state.entries[MODES + k],
+        ));
+    }
+    for k in 0..state.words[MAPPING_COUNT] as usize {
+        table.mappings.push(Mapping {
+            label: usize::from(state.entries[MAPPING_LABELS + k]),
+            level: state.entries[LEVELS + k],
+            set: state.words[SETS + k],
+        });
+    }
+    for k in 0..state.words[OVERRIDE_COUNT] as usize {
+        table
+            .override_list
+            .push(usize::from(state.entries[OVERRIDES + k]));
+    }
+    Ok(table)
+}
+
+/// The part of the lent label store that holds label k.
+fn stored_label(state: &RawState, k: usize) -> &[u8] {
+    let place = k * PLACE;
+    let length = usize::from(state.label_store[place]);
+    &state.label_store[place + 1..place + 1 + length]
+}
+
+/// The model of an undamaged lent loader; else refusal 0. Of a line that is
+/// over 600 bytes only that much is known, so one more byte stands for the rest.
+pub fn loader_of(loader: &RawLoader) -> Result<Loader, Refusal> {
+    if raw_loader_is_damaged(loader) {
+        return Err(Refusal::Damaged);
+    }
+    let mut line = loader.line.clone();
+    if loader.numbers[KEPT] == OVER {
+        line.push(0);
+    } else {
+        line.truncate(loader.numbers[KEPT] as usize);
+    }
+    Ok(Loader {
+        line,
+        lines: u64::from(loader.numbers[LINES]),
+        accepted: u64::from(loader.numbers[ACCEPTED]),
+        skipped: u64::from(loader.numbers[SKIPPED]),
+        refused: u64::from(loader.numbers[REFUSED]),
+        first_line: u64::from(loader.numbers[FIRST_LINE]),
+        first_reason: u64::from(loader.numbers[FIRST_REASON]),
+    })
+}
+
+// ---------------------------------------------------------------------------
+// From the model back to lent memory
+// ---------------------------------------------------------------------------
+
+/// Writes every stored entry and the four counts, and no other byte.
+pub fn write_table(table: &Table, state: &mut RawState) {
+    for (k, label) in table.labels.iter().enumerate() {
+        let place = k * PLACE;
+        state.label_store[place] = label.len() as u8;
+        state.label_store[place + 1..place + 1 + label.len()].copy_from_slice(label);
+    }
+    for (k, rule) in table.rules.iter().enumerate() {
+        state.entries[SUBJECTS + k] = rule.0 as u8;
+        state.entries[OBJECTS + k] = rule.1 as u8;
+        state.entries[MODES + k] = rule.2;
+    }
+    for (k, mapping) in table.mappings.iter().enumerate() {
+        state.entries[MAPPING_LABELS + k] = mapping.label as u8;
+        state.entries[LEVELS + k] = mapping.level;
+        state.words[SETS + k] = mapping.set;
+    }
+    for (k, label) in table.override_list.iter().enumerate() {
+        state.entries[OVERRIDES + k] = *label as u8;
+    }
+    state.words[LABEL_COUNT] = table.labels.len() as u64;
+    state.words[RULE_COUNT] = table.rules.len() as u64;
+    state.words[MAPPING_COUNT] = table.mappings.len() as u64;
+    state.words[OVERRIDE_COUNT] = table.override_list.len() as u64;
+}
+
+/// Writes the seven numbers. The kept line's bytes are `store_bytes`' affair.
+pub fn write_numbers(model: &Loader, loader: &mut RawLoader) {
+    loader.numbers[KEPT] = model.line.len().min(OVER as usize) as u32;
+    loader.numbers[LINES] = limited(model.lines);
+    loader.numbers[ACCEPTED] = limited(model.accepted);
+    loader.numbers[SKIPPED] = limited(model.skipped);
+    loader.numbers[REFUSED] = limited(model.refused);
+    loader.numbers[FIRST_LINE] = limited(model.first_line);
+    loader.numbers[FIRST_REASON] = limited(model.first_reason);
+}
+
+/// The kept line's bytes are stored at 0..kept as they come and are never
+/// cleared; after 600 bytes a further byte only makes the line over-long.
+pub fn store_bytes(loader: &mut RawLoader, bytes: &[u8]) {
+    let mut kept = loader.numbers[KEPT] as usize;
+    for &byte in bytes {
+        if byte == b'\n' {
+            kept = 0;
+        } else if kept < LINE_LIMIT {
+            loader.line[kept] = byte;
+            kept += 1;
+        } else {
+            kept = OVER as usize;
+        }
+    }
+    loader.numbers[KEPT] = kept as u32;
+}
+
+// ---------------------------------------------------------------------------
+// The calls
+// ---------------------------------------------------------------------------
+
+/// A piece of rule text. Refusal 0, else done.
+pub fn piece(state: &mut RawState, loader: &mut RawLoader, bytes: &[u8]) -> Result<(), Refusal> {
+    let mut table = table_of(state)?;
+    let mut model = loader_of(loader)?;
+    model.piece(&mut table, bytes);
+    write_table(&table, state);
+    store_bytes(loader, bytes);
+    assert_eq!(
+        loader.numbers[KEPT] as usize,
+        model.line.len().min(OVER as usize)
+    );
+    write_numbers(&model, loader);
+    Ok(())
+}
+
+/// The end call. Refusal 0, else the report. The bytes of the line stay.
+pub fn end(state: &mut RawState, loader: &mut RawLoader) -> Result<Report, Refusal> {
+    let mut table = table_of(state)?;
+    let mut model = loader_of(loader)?;
+    let report = model.end(&mut table);
+    write_table(&table, state);
+    write_numbers(&model, loader);
+    Ok(report)
+}
+
+/// A change. Refusals 0 1 2 3 4 5 6 7.
+pub fn change(state: &mut RawState, write: &[u8]) -> Result<(), Refusal> {
+    let mut table = table_of(state)?;
+    table.change(write)?;
+    write_table(&table, state);
+    Ok(())
+}
+
+/// A revoke. Refusals 0 1 3.
+pub fn revoke(state: &mut RawState, write: &[u8]) -> Result<usize, Refusal> {
+    let mut table = table_of(state)?;
+    let count = table.revoke(write)?;
+    write_table(&table, state);
+    Ok(count)
+}
+
+/// A write of the override list. Refusals 0 1 2 3 11 6.
+pub fn override_write(state: &mut RawState, write: &[u8]) -> Result<(), Refusal> {
+    let mut table = table_of(state)?;
+    table.override_write(write)?;
+    write_table(&table, state);
+    Ok(())
+}
+
+/// A mapping. Refusals 0 1 2 3 9 6 10.
+pub fn mapping(state: &mut RawState, write: &[u8]) -> Result<(), Refusal> {
+    let mut table = table_of(state)?;
+    table.mapping(write)?;
+    write_table(&table, state);
+    Ok(())
+}
+
+/// A mapping looked up by label. Refusals 0 3.
+pub fn by_label(state: &RawState, label: &[u8]) -> Result<Option<Found>, Refusal> {
+    table_of(state)?.by_label(label)
+}
+
+/// A mapping looked up by level and set. Refusals 0 9.
+pub fn by_level(state: &RawState, level: u64, set: u64) -> Result<Option<usize>, Refusal> {
+    table_of(state)?.by_level(level, set)
+}
+
+/// The search of a lent run. Refusal 9; it takes no state, so never 0.
+pub fn by_run(run: &[Record], level: u64, set: u64) -> Result<Option<u64>, Refusal> {
+    search_run(run, level, set)
+}
+
+/// A question. Refusals 0 3 8.
+pub fn question(
+    state: &RawState,
+    subject: &[u8],
+    object: &[u8],
+    request: &[u8],
+    has_override: bool,
+) -> Answer {
+    match table_of(state) {
+        Ok(table) => table.question(subject, object, request, has_override),
+        Err(refusal) => Answer::Refused(refusal),
+    }
+}
+
+/// The listing of rule k. Refusals 0 13 12.
+pub fn list(state: &RawState, k: u64, buffer: &mut [u8]) -> Result<usize, Refusal> {
+    table_of(state)?.list(k, buffer)
+}
+
+/// Label k: "the very part of the lent label store that holds it, empty on a
+/// refusal".
+pub fn label(state: &RawState, k: u64) -> &[u8] {
+    match label_check(state, k) {
+        Ok(()) => stored_label(state, k as usize),
+        Err(_) => &[],
+    }
+}
+
+/// The call beside it. Refusals 0 13, else done.
+pub fn label_check(state: &RawState, k: u64) -> Result<(), Refusal> {
+    table_of(state)?.label_check(k)
+}

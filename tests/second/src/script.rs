@@ -1,0 +1,325 @@
+//! Call scripts: one call a line in, one answer a line out.
+//!
+//! Bytes are written in hex, two digits a byte, and `-` for no bytes at all.
+//! Numbers are decimal. Words are separated by spaces. An empty line and a line
+//! that begins with `#` are passed over and get no answer. A line that is none
+//! of these calls gets `bad line` and does nothing.
+//!
+//! | call | answer |
+//! |---|---|
+//! | `fresh` | `done` (new zero-filled memory with a fresh table) |
+//! | `freshloader` | `done` (new zero-filled memory, a fresh loader) |
+//! | `piece HEX` | `done` or `refused N` |
+//! | `end` | `report LINES ACCEPTED SKIPPED REFUSED FIRSTLINE REASON` or `refused N` |
+//! | `change HEX` | `done` or `refused N` |
+//! | `revoke HEX` | `revoked COUNT` or `refused N` |
+//! | `override HEX` | `done` or `refused N` |
+//! | `mapping HEX` | `done` or `refused N` |
+//! | `bylabel HEX` | `mapping LEVEL SET COUNT`, `none` or `refused N` |
+//! | `bylevel LEVEL SET` | `label NUMBER`, `none` or `refused N` |
+//! | `run LEVEL SET n,l,s n,l,s ...` | `label NUMBER`, `none` or `refused N` |
+//! | `question SUBJECT OBJECT REQUEST 0` or `1` | `granted R`, `granted 6 b`, `denied R`, `override R` or `refused N` |
+//! | `list K HEX` | `length N HEX` or `refused N HEX`: the whole buffer afterwards |
+//! | `label K` | `done HEX` or `refused N -` |
+//! | `poke labels OFFSET HEX` | `done`: the bytes from OFFSET on |
+//! | `poke entries OFFSET HEX` | `done` |
+//! | `poke words INDEX VALUE` | `done`: one word |
+//! | `poke line OFFSET HEX` | `done` |
+//! | `poke loader INDEX VALUE` | `done`: one of the seven numbers |
+//! | `resize labels N`, `entries`, `words`, `line` | `done`: cut at the end, or zeros added |
+//! | `dump` | `dump labels H entries H words H line H counts L R M O loader K L A S R F N` |
+//!
+//! In a dump H is the 64-bit FNV-1a hash of a part as 16 hex digits; a word
+//! counts as its eight bytes, lowest first. A count whose word has been cut off
+//! is written `-`. Before the first call there are a fresh table and a fresh
+//! loader.
+
+use crate::plain::{Record, Refusal};
+use crate::program::{answer_text, report_text};
+use crate::raw::{self, RawLoader, RawState};
+
+/// The longest part that `resize` makes.
+const RESIZE_LIMIT: u64 = 1 << 20;
+
+/// The lent memory that a script works on.
+pub struct Machine {
+    pub state: RawState,
+    pub loader: RawLoader,
+}
+
+impl Machine {
+    pub fn new() -> Machine {
+        Machine {
+            state: RawState::fresh(),
+            loader: RawLoader::fresh(),
+        }
+    }
+
+    /// Makes the call on this line. None where the line is passed over.
+    pub fn execute(&mut self, line: &str) -> Option<String> {
+        let words: Vec<&str> = line.split_ascii_whitespace().collect();
+        if words.is_empty() || words[0].starts_with('#') {
+            return None;
+        }
+        match self.call(&words) {
+            Some(answer) => Some(answer),
+            None => Some("bad line".to_string()),
+        }
+    }
+
+    /// None where the words are no call.
+    fn call(&mut self, words: &[&str]) -> Option<String> {
+        match words {
+            ["fresh"] => {
+                self.state = RawState::fresh();
+                Some("done".to_string())
+            }
+            ["freshloader"] => {
+                self.loader = RawLoader::fresh();
+                Some("done".to_string())
+            }
+            ["piece", bytes] => {
+                let bytes = read_hex(bytes)?;
+                let answer = raw::piece(&mut self.state, &mut self.loader, &bytes);
+                Some(done_text(answer))
+            }
+            ["end"] => Some(match raw::end(&mut self.state, &mut self.loader) {
+                Ok(report) => format!("report {}", report_text(&report)),
+                Err(refusal) => refused_text(refusal),
+            }),
+            ["change", bytes] => {
+                let bytes = read_hex(bytes)?;
+                Some(done_text(raw::change(&mut self.state, &bytes)))
+            }
+            ["revoke", bytes] => {
+                let bytes = read_hex(bytes)?;
+                Some(match raw::revoke(&mut self.state, &bytes) {
+                    Ok(count) => format!("revoked {count}"),
+                    Err(refusal) => refused_text(refusal),
+                })
+            }
+            ["override", bytes] => {
+                let bytes = read_hex(bytes)?;
+                Some(done_text(raw::override_write(&mut self.state, &bytes)))
+            }
+            ["mapping", bytes] => {
+                let bytes = read_hex(bytes)?;
+                Some(done_text(raw::mapping(&mut self.state, &bytes)))
+            }
+            ["bylabel", label] => {
+                let label = read_hex(label)?;
+                Some(match raw::by_label(&self.state, &label) {
+                    Ok(Some(found)) => {
+                        format!("mapping {} {} {}", found.level, found.set, found.count)
+                    }
+                    Ok(None) => "none".to_string(),
+                    Err(refusal) => refused_text(refusal),
+                })
+            }
+            ["bylevel", level, set] => {
+                let level = read_u64(level)?;
+                let set = read_u64(set)?;
+                Some(match raw::by_level(&self.state, level, set) {
+                    Ok(Some(number)) => format!("label {number}"),
+                    Ok(None) => "none".to_string(),
+                    Err(refusal) => refused_text(refusal),
+                })
+            }
+            ["run", level, set, records @ ..] => {
+                let level = read_u64(level)?;
+                let set = read_u64(set)?;
+                let mut run = Vec::new();
+                for record in records {
+                    run.push(read_record(record)?);
+                }
+                Some(match raw::by_run(&run, level, set) {
+                    Ok(Some(number)) => format!("label {number}"),
+                    Ok(None) => "none".to_string(),
+                    Err(refusal) => refused_text(refusal),
+                })
+            }
+            ["question", subject, object, request, capability] => {
+                let subject = read_hex(subject)?;
+                let object = read_hex(object)?;
+                let request = read_hex(request)?;
+                let has_override = match *capability {
+                    "0" => false,
+                    "1" => true,
+                    _ => return None,
+                };
+                let answer = raw::question(&self.state, &subject, &object, &request, has_override);
+                Some(answer_text(&answer))
+            }
+            ["list", k, buffer] => {
+                let k = read_u64(k)?;
+                let mut buffer = read_hex(buffer)?;
+                let answer = match raw::list(&self.state, k, &mut buffer) {
+                    Ok(length) => format!("length {length}"),
+                    Err(refusal) => refused_text(refusal),
+                };
+                Some(format!("{answer} {}", write_hex(&buffer)))
+            }
+            ["label", k] => {
+                let k = read_u64(k)?;
+                let answer = done_text(raw::label_check(&self.state, k));
+                let part = raw::label(&self.state, k);
+                Some(format!("{answer} {}", write_hex(part)))
+            }
+            ["poke", part, at, value] => self.poke(part, read_u64(at)?, value),
+            ["resize", part, size] => self.resize(part, read_u64(size)?),
+            ["dump"] => Some(self.dump()),
+            _ => None,
+        }
+    }
+
+    /// Writes into one part of the lent memory. None where it does not fit.
+    fn poke(&mut self, part: &str, at: u64, value: &str) -> Option<String> {
+        let at = usize::try_from(at).ok()?;
+        match part {
+            "labels" => poke_bytes(&mut self.state.label_store, at, &read_hex(value)?)?,
+            "entries" => poke_bytes(&mut self.state.entries, at, &read_hex(value)?)?,
+            "line" => poke_bytes(&mut self.loader.line, at, &read_hex(value)?)?,
+            "words" => *self.state.words.get_mut(at)? = read_u64(value)?,
+            "loader" => {
+                let value = u32::try_from(read_u64(value)?).ok()?;
+                *self.loader.numbers.get_mut(at)? = value;
+            }
+            _ => return None,
+        }
+        Some("done".to_string())
+    }
+
+    /// Gives one part of the lent memory another size.
+    fn resize(&mut self, part: &str, size: u64) -> Option<String> {
+        if size > RESIZE_LIMIT {
+            return None;
+        }
+        let size = size as usize;
+        match part {
+            "labels" => self.state.label_store.resize(size, 0),
+            "entries" => self.state.entries.resize(size, 0),
+            "words" => self.state.words.resize(size, 0),
+            "line" => self.loader.line.resize(size, 0),
+            _ => return None,
+        }
+        Some("done".to_string())
+    }
+
+    /// The hash of each part, the four counts and the loader's seven numbers.
+    fn dump(&self) -> String {
+        let mut word_bytes = Vec::new();
+        for word in &self.state.words {
+            word_bytes.extend_from_slice(&word.to_le_bytes());
+        }
+        let mut text = format!(
+            "dump labels {:016x} entries {:016x} words {:016x} line {:016x} counts",
+            fnv1a(&self.state.label_store),
+            fnv1a(&self.state.entries),
+            fnv1a(&word_bytes),
+            fnv1a(&self.loader.line),
+        );
+        for index in 0..4 {
+            match self.state.words.get(index) {
+                Some(count) => text.push_str(&format!(" {count}")),
+                None => text.push_str(" -"),
+            }
+        }
+        text.push_str(" loader");
+        for number in self.loader.numbers {
+            text.push_str(&format!(" {number}"));
+        }
+        text
+    }
+}
+
+impl Default for Machine {
+    fn default() -> Machine {
+        Machine::new()
+    }
+}
+
+fn poke_bytes(part: &mut [u8], at: usize, bytes: &[u8]) -> Option<()> {
+    let end = at.checked_add(bytes.len())?;
+    part.get_mut(at..end)?.copy_from_slice(bytes);
+    Some(())
+}
+
+fn refused_text(refusal: Refusal) -> String {
+    format!("refused {}", refusal.number())
+}
+
+fn done_text(answer: Result<(), Refusal>) -> String {
+    match answer {
+        Ok(()) => "done".to_string(),
+        Err(refusal) => refused_text(refusal),
+    }
+}
+
+/// A decimal number: digits alone.
+fn read_u64(word: &str) -> Option<u64> {
+    if !word.bytes().all(|byte| byte.is_ascii_digit()) {
+        return None;
+    }
+    word.parse().ok()
+}
+
+/// `n,l,s`: a label number, a level and a set.
+fn read_record(word: &str) -> Option<Record> {
+    let numbers: Vec<&str> = word.split(',').collect();
+    if numbers.len() != 3 {
+        return None;
+    }
+    Some(Record {
+        label: read_u64(numbers[0])?,
+        level: read_u64(numbers[1])?,
+        set: read_u64(numbers[2])?,
+    })
+}
+
+/// Bytes in hex; `-` for none.
+pub fn read_hex(word: &str) -> Option<Vec<u8>> {
+    if word == "-" {
+        return Some(Vec::new());
+    }
+    let digits = word.as_bytes();
+    if !digits.len().is_multiple_of(2) {
+        return None;
+    }
+    let mut bytes = Vec::with_capacity(digits.len() / 2);
+    for pair in digits.chunks(2) {
+        bytes.push(hex_digit(pair[0])? * 16 + hex_digit(pair[1])?);
+    }
+    Some(bytes)
+}
+
+fn hex_digit(digit: u8) -> Option<u8> {
+    match digit {
+        b'0'..=b'9' => Some(digit - b'0'),
+        b'a'..=b'f' => Some(digit - b'a' + 10),
+        b'A'..=b'F' => Some(digit - b'A' + 10),
+        _ => None,
+    }
+}
+
+/// Bytes in hex; `-` for none.
+pub fn write_hex(bytes: &[u8]) -> String {
+    if bytes.is_empty() {
+        return "-".to_string();
+    }
+    let mut text = String::with_capacity(bytes.len() * 2);
+    for byte in bytes {
+        text.push(char::from(b"0123456789abcdef"[usize::from(byte / 16)]));
+        text.push(char::from(b"0123456789abcdef"[usize::from(byte % 16)]));
+    }
+    text
+}
+
+/// The 64-bit FNV-1a hash.
+pub fn fnv1a(bytes: &[u8]) -> u64 {
+    let mut hash: u64 = 0xcbf2_9ce4_8422_2325;
+    for &byte in bytes {
+        hash ^= u64::from(byte);
+        hash = hash.wrapping_mul(0x0000_0100_0000_01b3);
+    }
+    hash
+}

@@ -1,0 +1,299 @@
+//! The script's forms, and the scripts that the generator writes.
+
+use second::plain::{Loader, Refusal, Table};
+use second::random::{write_script, Xorshift};
+use second::raw;
+use second::script::{fnv1a, read_hex, write_hex, Machine};
+
+/// Makes the calls and compares the answers.
+fn check(calls: &[(&str, &str)]) {
+    let mut machine = Machine::new();
+    for (call, answer) in calls {
+        assert_eq!(machine.execute(call).as_deref(), Some(*answer), "{call}");
+    }
+}
+
+fn hex(text: &str) -> String {
+    write_hex(text.as_bytes())
+}
+
+#[test]
+fn every_form() {
+    let piece = format!("piece {}", hex("Alarm Air rxb\nA A r\nX"));
+    let change = format!("change {}", hex("Alarm Air w -"));
+    let revoke = format!("revoke {}", hex("Alarm"));
+    let overrides = format!("override {}", hex("Alarm"));
+    let mapping = format!("mapping {}", hex("Air 9 1 63"));
+    let by_label = format!("bylabel {}", hex("Air"));
+    let unmapped = format!("bylabel {}", hex("Alarm"));
+    let question =
+        |s: &str, o: &str, r: &str, c: u8| format!("question {} {} {} {c}", hex(s), hex(o), hex(r));
+    let listed = format!("length 15 {}ff", hex("Alarm Air rwxb\n"));
+    let air = format!("done {}", hex("Air"));
+    check(&[
+        ("fresh", "done"),
+        ("freshloader", "done"),
+        (&piece, "done"),
+        ("end", "report 3 1 0 2 2 5"),
+        ("end", "report 0 0 0 0 0 0"),
+        (&change, "done"),
+        // One byte too short for the listing.
+        (
+            "list 0 0102030405060708090a0b0c0d0e",
+            "refused 12 0102030405060708090a0b0c0d0e",
+        ),
+        ("list 0 000000000000000000000000000000ff", &listed),
+        ("list 1 -", "refused 13 -"),
+        (&question("Alarm", "Air", "r", 0), "granted 6 b"),
+        (&question("Alarm", "Air", "a", 0), "denied 7"),
+        (&question("Alarm", "Air", "a", 1), "override 7"),
+        (&question("Alarm", "Air", "", 1), "refused 8"),
+        (&overrides, "done"),
+        (&question("Air", "Alarm", "a", 1), "denied 7"),
+        ("override 2d", "done"),
+        ("override -", "refused 2"),
+        (&mapping, "done"),
+        (&by_label, "mapping 9 9223372036854775810 2"),
+        (&unmapped, "none"),
+        ("bylabel -", "refused 3"),
+        ("bylevel 9 9223372036854775810", "label 6"),
+        ("bylevel 9 0", "none"),
+        ("bylevel 256 0", "refused 9"),
+        ("run 9 2 7,9,2 3,9,2 1,9,4", "label 3"),
+        ("run 9 2", "none"),
+        ("run 9 3 1,9,3", "refused 9"),
+        (&revoke, "revoked 1"),
+        ("label 6", &air),
+        ("label 7", "refused 13 -"),
+        ("poke words 0 65", "done"),
+        ("label 6", "refused 0 -"),
+        ("end", "refused 0"),
+        ("poke words 0 7", "done"),
+        ("label 6", &air),
+        ("resize line 599", "done"),
+        ("piece -", "refused 0"),
+        ("freshloader", "done"),
+        ("piece -", "done"),
+        ("poke loader 0 602", "done"),
+        ("end", "refused 0"),
+        ("poke loader 0 0", "done"),
+        ("poke line 599 ff", "done"),
+        ("poke labels 16383 ff", "done"),
+        ("poke entries 839 ff", "done"),
+    ]);
+}
+
+#[test]
+fn lines_that_are_no_calls() {
+    let mut machine = Machine::new();
+    assert_eq!(machine.execute(""), None);
+    assert_eq!(machine.execute("  "), None);
+    assert_eq!(machine.execute("# words"), None);
+    for line in [
+        "frsh",
+        "fresh 1",
+        "piece",
+        "piece 1",
+        "piece xy",
+        "end 1",
+        "label",
+        "label -1",
+        "label 18446744073709551616",
+        "bylevel 1",
+        "run 1",
+        "run 1 2 3",
+        "run 1 2 3,4",
+        "question 41 42 72 2",
+        "question 41 42 72",
+        "poke words 36 0",
+        "poke line 600 00",
+        "poke line 599 0000",
+        "poke loader 7 0",
+        "poke loader 0 4294967296",
+        "poke other 0 00",
+        "resize other 3",
+        "resize line 99999999999",
+        "list 0",
+    ] {
+        assert_eq!(machine.execute(line).as_deref(), Some("bad line"), "{line}");
+    }
+    // They did nothing.
+    let dump = machine.execute("dump");
+    assert_eq!(dump, Machine::new().execute("dump"));
+}
+
+#[test]
+fn a_dump() {
+    assert_eq!(fnv1a(b""), 0xcbf29ce484222325);
+    assert_eq!(fnv1a(b"a"), 0xaf63dc4c8601ec8c);
+    assert_eq!(fnv1a(b"foobar"), 0x85944171f73967e8);
+    let mut machine = Machine::new();
+    let zeros = format!("{:016x}", fnv1a(&[0; 600]));
+    let dump = machine.execute("dump").unwrap();
+    assert!(dump.contains(&format!(
+        " line {zeros} counts 5 0 0 0 loader 0 0 0 0 0 0 0"
+    )));
+    machine.execute("resize words 2");
+    let dump = machine.execute("dump").unwrap();
+    assert!(dump.contains(" counts 5 0 - - loader "), "{dump}");
+}
+
+#[test]
+fn hex_there_and_back() {
+    let all: Vec<u8> = (0..=255).collect();
+    assert_eq!(read_hex(&write_hex(&all)), Some(all));
+    assert_eq!(read_hex("-"), Some(Vec::new()));
+    assert_eq!(write_hex(b""), "-");
+    assert_eq!(read_hex("fF"), Some(vec![255]));
+    assert_eq!(read_hex("f"), None);
+    assert_eq!(read_hex("fg"), None);
+}
+
+// --- The generator -------------------------------------------------------------
+
+fn random_script(seed: u64, count: u64) -> Vec<String> {
+    let mut text = Vec::new();
+    write_script(seed, count, &mut text).unwrap();
+    let text = String::from_utf8(text).unwrap();
+    text.lines().map(str::to_string).collect()
+}
+
+#[test]
+fn the_same_seed_gives_the_same_script() {
+    assert_eq!(random_script(7, 500), random_script(7, 500));
+    assert_ne!(random_script(7, 500), random_script(8, 500));
+    // A shorter script is the beginning of a longer one.
+    assert_eq!(random_script(7, 300), random_script(7, 500)[..300]);
+    assert!(random_script(7, 0).is_empty());
+}
+
+#[test]
+fn random_calls_are_calls_and_refusals_leave_every_byte() {
+    for seed in 0..6 {
+        let mut machine = Machine::new();
+        let script = random_script(seed, 4000);
+        assert_eq!(script.len(), 4000);
+        for call in script {
+            let state = machine.state.clone();
+            let loader = machine.loader.clone();
+            let damaged = raw::raw_is_damaged(&state);
+            let answer = machine.execute(&call).unwrap();
+            assert_ne!(answer, "bad line", "{call}");
+            let kind = call.split(' ').next().unwrap();
+            let is_setter = ["fresh", "freshloader", "poke", "resize"].contains(&kind);
+            if answer.starts_with("refused") {
+                assert_eq!(machine.state, state, "{call}");
+                assert_eq!(machine.loader, loader, "{call}");
+            }
+            if damaged && !is_setter && kind != "dump" && kind != "run" {
+                assert!(answer.starts_with("refused 0"), "{call}");
+            }
+            // No call damages a state.
+            if !damaged && !is_setter {
+                assert!(!raw::raw_is_damaged(&machine.state), "{call}");
+            }
+            // Questions and look-ups change nothing.
+            let reads = [
+                "bylabel", "bylevel", "run", "question", "list", "label", "dump",
+            ];
+            if reads.contains(&kind) {
+                assert_eq!(machine.state, state, "{call}");
+                assert_eq!(machine.loader, loader, "{call}");
+            }
+        }
+    }
+}
+
+#[test]
+fn random_scripts_reach_every_refusal_of_every_call() {
+    let orders: [(&str, &[u8]); 11] = [
+        ("piece", &[0]),
+        ("end", &[0]),
+        ("change", &[0, 1, 2, 3, 4, 5, 6, 7]),
+        ("revoke", &[0, 1, 3]),
+        ("override", &[0, 1, 2, 3, 11, 6]),
+        ("mapping", &[0, 1, 2, 3, 9, 6, 10]),
+        ("bylabel", &[0, 3]),
+        ("bylevel", &[0, 9]),
+        ("run", &[9]),
+        ("question", &[0, 3, 8]),
+        ("list", &[0, 13, 12]),
+    ];
+    let mut seen = std::collections::BTreeSet::new();
+    let mut reasons = std::collections::BTreeSet::new();
+    for seed in 0..10 {
+        let mut machine = Machine::new();
+        for call in random_script(seed, 3000) {
+            let kind = call.split(' ').next().unwrap().to_string();
+            let answer = machine.execute(&call).unwrap();
+            let words: Vec<&str> = answer.split(' ').collect();
+            if words[0] == "refused" {
+                seen.insert((kind, words[1].parse::<u8>().unwrap()));
+            } else if words[0] == "report" {
+                reasons.insert(words[6].parse::<u8>().unwrap());
+            }
+        }
+    }
+    for (kind, numbers) in orders {
+        for number in numbers {
+            assert!(
+                seen.contains(&(kind.to_string(), *number)),
+                "{kind} {number}"
+            );
+        }
+    }
+    assert!(seen.contains(&("label".to_string(), Refusal::NoSuchNumber.number())));
+    assert_eq!(reasons, (0..=7).collect());
+    // And no other refusal of any call.
+    let label: (&str, &[u8]) = ("label", &[0, 13]);
+    for (kind, number) in seen {
+        let allowed = orders
+            .iter()
+            .chain([&label])
+            .any(|order| order.0 == kind && order.1.contains(&number));
+        assert!(allowed, "{kind} {number}");
+    }
+}
+
+/// Demand 3: the same bytes and end calls, whatever the cuts and questions.
+#[test]
+fn random_cuts_do_not_matter() {
+    let mut random = Xorshift::new(99);
+    for _ in 0..200 {
+        let mut text = Vec::new();
+        for _ in 0..random.below(30) {
+            let choices: [&[u8]; 10] = [
+                b"A B r\n",
+                b"C D",
+                b"\n",
+                b" ",
+                b"\t",
+                b"A A r\n",
+                b"x\n",
+                b"/ B r\n",
+                b"E F q\n",
+                b"G H -wb\n",
+            ];
+            text.extend_from_slice(random.pick(&choices));
+            if random.chance(3) {
+                text.extend_from_slice(&[b' '; 597]);
+            }
+        }
+        let mut table = Table::fresh();
+        let mut loader = Loader::fresh();
+        loader.piece(&mut table, &text);
+        let report = loader.end(&mut table);
+
+        let mut machine = Machine::new();
+        let mut rest = &text[..];
+        while !rest.is_empty() {
+            let length = random.below(rest.len() as u64 + 1) as usize;
+            machine.execute(&format!("piece {}", write_hex(&rest[..length])));
+            machine.execute("question 41 42 72 0");
+            rest = &rest[length..];
+        }
+        let again = raw::end(&mut machine.state, &mut machine.loader).unwrap();
+        assert_eq!(again, report);
+        assert_eq!(raw::table_of(&machine.state).unwrap(), table);
+    }
+}
