@@ -1,35 +1,33 @@
 -- The session follows the plain reader: what each step of the lent state says and leaves, 01's words say of what that state stands for.
 -- Assumes nothing.
 use mathlib.Core.Path.{_≡_, refl, sym, ap, _∙_, subst}
-use mathlib.Core.Bool.{Bool, true, false, cond, not, _&&_}
-use mathlib.Core.List.{List, [], _∷_, _++_, append-assoc, append-nil, foldl, foldl-append}
+use mathlib.Core.Bool.{Bool, true, false, cond, not}
+use mathlib.Core.List.{List, [], _∷_, _++_, append-assoc, append-nil, foldl-append}
 use Prim.Native.Nat.{ℕ, zero, suc, _+_, _<_, _≤_, min}
 use native.Mathlib.Numerals.{add-one}
 use native.Mathlib.Omega.{arith}
-use lib.Dec.{ltb, leb, eqb}
-use borrow.Author.Tests.{lt-ltb, le-ltb, ltb-true, ltb-false, eq-eqb, ne-eqb, eqb-true, eqb-false, not-true}
+use lib.Dec.{ltb, eqb}
+use borrow.Author.Tests.{lt-ltb, ltb-true, ltb-false, not-true}
 use lib.ListN.{length, take, set, length-append, length-set}
 use lib.Seq.{take-all, take-suc-set, take-append-le, length-take-le}
 use Rattle.search.specs.Search.{all}
 use Rattle.search.specs.Bytes.{sameBytes}
 use Rattle.search.proofs.Laws.{same-lengths, all-snoc, and-both}
 use Rattle.alphabet.specs.Alphabet.{fields}
-use Rattle.lines.specs.Lines.{Said, ruleOf, refused}
-use Rattle.store.specs.Table.{Table, fresh}
-use Rattle.store.specs.Layout.{Store, tableOf, undamagedOf}
-use Rattle.writes.specs.Writes.{Judged, judged, tableAfter}
+use Rattle.lines.specs.Lines.{ruleOf, refused}
+use Rattle.store.specs.Table.{Table}
 use Rattle.access.specs.Access.{answer, questionOf}
 use Rattle.access.specs.declared.Answer.{Answer}
 use Rattle.access.specs.declared.Answer.the-variants.{Refused}
 use Rattle.load.specs.declared.Ended.{Ended}
 use Rattle.load.specs.declared.Ended.the-variants as e
 use Rattle.load.specs.Loader.{Load, load, pieceAnswer, pieceAfter, endAnswer, endAfter}
-use Rattle.load.specs.Reader.{Counts, Reader, startOn, endLine, takeByte, takePiece, counted, finish, limitedCounts, Call, piece, end-call, Reply, done, report, answered, refusal, after, says}
+use Rattle.load.specs.Reader.{Counts, Reader, startOn, endLine, takeByte, takePiece, finish, limitedCounts, Reply, done, report, answered, refusal, says}
 use Rattle.load.proofs.Follows.{Holds}
-use Rattle.load.proofs.Trace.{counts-of, end-reply}
-use Rattle.load.proofs.Undivided.{Follows, piece-law, end-law, question-law}
+use Rattle.load.proofs.Trace.{end-reply}
+use Rattle.load.proofs.Undivided.{piece-law, end-law, question-law}
 use Rattle.session.specs.Program.{isMark, asked, answerTo, answerLine, reportLine}
-use Rattle.session.specs.Session.{State, keptLine, lineLoaded, textEnded, endedText, lineAsked, askedText, lineAfter, lineSays, keepByte, stepByte, sayByte}
+use Rattle.session.specs.Session.{State, keptLine, lineLoaded, textEnded, endedText, lineAfter, lineSays, keepByte}
 
 -- ---- what is still to be read: rule text, by a plain reader, or questions, of a table
 
@@ -129,7 +127,7 @@ all-take (suc n) (b ∷ bs) h =
     rw (both .0) (all-take n bs (both .1))
 
 -- a line of rule text with its newline
-line-ends : (p : Reader) (line : List ℕ) → all (λ (b : ℕ). not (eqb b 10)) line ≡ true → takePiece p (line ++ (10 ∷ [])) ≡ endLine (record { table = p .table; kept = p .kept ++ line; counts = p .counts })
+pub line-ends : (p : Reader) (line : List ℕ) → all (λ (b : ℕ). not (eqb b 10)) line ≡ true → takePiece p (line ++ (10 ∷ [])) ≡ endLine (record { table = p .table; kept = p .kept ++ line; counts = p .counts })
 unfolding takeByte
 line-ends p line h = foldl-append takeByte p line (10 ∷ []) ∙ ap (λ (q : Reader). takeByte q 10) (kept-more p line h)
 

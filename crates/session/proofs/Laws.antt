@@ -1,13 +1,13 @@
 -- Laws of what is written: bytes put one behind the other, decimal numbers, and the parts of a session's state. Assumes nothing.
 use mathlib.Core.Path.{_≡_, refl, sym, ap, _∙_, subst}
 use mathlib.Core.Bool.{Bool, true, false, cond, _&&_}
-use mathlib.Core.List.{List, [], _∷_, _++_, append-assoc, append-nil, foldl, foldl-append}
+use mathlib.Core.List.{List, [], _∷_, _++_, append-assoc, append-nil, foldl-append}
 use Prim.Native.Nat.{ℕ, zero, suc, _+_, _*_, _/_, _%_, _<_, _≤_}
 use native.Mathlib.Numerals.{add-one}
 use native.Mathlib.Omega.{arith}
 use lib.Dec.{ltb, leb, eqb}
 use borrow.Author.Tests.{lt-ltb, le-ltb, ltb-true, ltb-false, eq-eqb, ne-eqb, eqb-true, leb-true, le-leb, lt-leb}
-use lib.ListN.{length, take, drop, set, getD, length-append, length-take, length-drop, length-set, take-append-drop}
+use lib.ListN.{length, take, drop, set, getD, length-append, length-set, take-append-drop}
 use lib.Seq.{take-at, drop-append-add, drop-drop, set-split, take-suc, take-suc-set, length-take-le}
 use Rattle.search.specs.Bytes.{written, sameBytes}
 use Rattle.search.proofs.Laws.{length-written, and-both}
@@ -19,7 +19,7 @@ use Rattle.access.specs.Access.{shown}
 use Rattle.access.specs.declared.Shown.{Shown}
 use Rattle.access.specs.declared.Answer.{Answer}
 use Rattle.access.specs.declared.Answer.the-variants.{Refused}
-use Rattle.store.specs.Layout.{Store, store}
+use Rattle.store.specs.Layout.{Store}
 use Rattle.load.specs.declared.Loader.{Loader}
 use Rattle.load.specs.Loader.{Load, load, ready, pieceAfter, endAfter, endAnswer}
 use Rattle.session.specs.declared.Session.{Session}

@@ -1,3 +1,4 @@
 pub mod Laws
 pub mod Follows
 pub mod Whole
+pub mod RuleText

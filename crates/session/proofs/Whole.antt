@@ -2,21 +2,21 @@
 -- the whole input. Nothing here says what a function does: that comes from each function's own `Reads`, which Rattle makes of its
 -- `requires` and `ensures`. Assumes nothing.
 use mathlib.Core.Path.{_≡_, refl, sym, ap, _∙_, subst}
-use mathlib.Core.Bool.{Bool, true, false, cond, _&&_}
-use mathlib.Core.List.{List, [], _∷_, _++_, append-assoc, append-nil, foldl, foldl-append}
-use Prim.Native.Nat.{ℕ, _+_, _*_, _<_, _≤_, min}
+use mathlib.Core.Bool.{Bool, true, false, cond}
+use mathlib.Core.List.{List, [], _∷_, _++_, append-assoc, append-nil, foldl-append}
+use Prim.Native.Nat.{ℕ, _+_, _*_, _<_, _≤_}
 use native.Mathlib.Omega.{arith}
-use lib.Dec.{ltb, leb, eqb}
+use lib.Dec.{ltb, eqb}
 use borrow.Author.Tests.{lt-ltb, le-ltb, ltb-true, ltb-false, eq-eqb, le-leb}
 use lib.ListN.{length, take}
 use lib.Seq.{take-append-seam}
 use denote.Ref.{now}
 use Rattle.search.specs.Bytes.{written}
 use Rattle.store.specs.Table.{Table, fresh}
-use Rattle.store.specs.Layout.{Store, store, tableOf, Sizes, freshStore}
+use Rattle.store.specs.Layout.{Store, store, Sizes, freshStore}
 use Rattle.store.proofs.Laws.{fresh-is, fresh-undamaged}
 use Rattle.access.specs.Access.{answer}
-use Rattle.load.specs.Loader.{Load, load, ready, endAnswer, endAfter, freshLoader}
+use Rattle.load.specs.Loader.{load, ready, endAnswer, endAfter, freshLoader}
 use Rattle.load.specs.Reader.{Reader, startOn, takeByte, takePiece, finish, limitedCounts}
 use Rattle.load.proofs.Laws.{is-ready}
 use Rattle.load.proofs.Follows.{Holds, fresh-holds}
@@ -30,11 +30,10 @@ use Rattle.session.proofs.finish.Kinds as finish-kinds
 use Rattle.session.proofs.finish.Reads as finish-reads
 use Rattle.session.specs.declared.Session.{Session}
 use Rattle.session.specs.declared.Turn.{Turn}
-use Rattle.session.specs.declared.Turn.the-variants.{Went, Refused}
 use Rattle.session.specs.Program.{linesFrom, lines, isMark, ruleLines, questionLines, textOf, answerTo, answerLine, answerLines, reportLine, output}
-use Rattle.session.specs.Session.{State, state, freshSession, readyAll, sessionOf, lineAfter, lineSays, keepByte, stepByte, sayByte, stepInput, sayInput, lastAfter, lastSays, closeAfter, closeSays, textEnded, endedText, feedTest, feedAnswer, feedAfter, feedSays, finishTest, finishAnswer, finishAfter, finishSays, wentSession, wentCount, Front}
+use Rattle.session.specs.Session.{State, state, freshSession, readyAll, lineAfter, lineSays, keepByte, stepByte, sayByte, stepInput, sayInput, lastAfter, lastSays, closeSays, feedAnswer, feedAfter, feedSays, finishAnswer, finishSays, wentSession, wentCount}
 use Rattle.session.proofs.Laws.{feed-fine, finish-fine}
-use Rattle.session.proofs.Follows.{Phase, loads, asks, phaseBy, saidBy, lineTo, lineSaid, SameLine, InPhase, Stands, Kept, line-follows, keep-follows, report-text, empty-line}
+use Rattle.session.proofs.Follows.{Phase, loads, asks, phaseBy, saidBy, lineTo, lineSaid, InPhase, Stands, Kept, line-follows, keep-follows, report-text, empty-line}
 
 -- ---- what 01 has written, by the lines that are still to be read
 

@@ -7,9 +7,8 @@ use mathlib.Core.List.{List, [], _∷_, _++_, foldl}
 use lib.ListN.{length, take, set}
 use lib.Dec.{ltb, leb, eqb}
 use Rattle.search.specs.Bytes.{written}
-use Rattle.store.specs.Layout.{Store, store}
+use Rattle.store.specs.Layout.{Store}
 use Rattle.access.specs.Access.{questionOf}
-use Rattle.load.specs.declared.Loader.{Loader}
 use Rattle.load.specs.declared.Report.{Report}
 use Rattle.load.specs.declared.Ended.{Ended}
 use Rattle.load.specs.declared.Ended.the-variants as e

@@ -371,9 +371,11 @@ pub fn begin(labels: &mut [u8], entries: &[u8], words: &mut [u64]) -> Session
     ensures { λ _. ⌜ store (now (labels .exit)) (now (entries .entry)) (now (words .exit)) ≡ freshStore (store (now (labels .entry)) (now (entries .entry)) (now (words .entry))) ⌝ }
 {
     store::fresh_table(labels, entries, words);
+    let loading = true;
+    let kept = 0;
     Session {
-        loading: true,
-        kept: 0,
+        loading,
+        kept,
         loader: load::fresh(),
     }
 }

@@ -1,8 +1,8 @@
 -- `session::write_number` meets its contract: a number of one digit is that digit, and a longer one is its tenth and then its last digit. The
 -- measure is the number. Assumes nothing.
-use mathlib.Core.Path.{_≡_, sym, _∙_, ap}
+use mathlib.Core.Path.{sym}
 use Prim.Native.Nat.{ℕ, _<_, _+_, _≤_, _/_, _%_}
-use lib.ListN.{length, length-set}
+use lib.ListN.{length}
 use borrow.Author.Needs.{needs}
 use native.Mathlib.Omega.{arith}
 use Rattle.session.specs.Program.{decimal}

@@ -1,10 +1,10 @@
 -- `session::feed` meets its contract: after i turns the state and the output are those that the first i bytes leave. Assumes nothing.
-use Prim.Native.Nat.{ℕ, _≤_, _<_, _-_, _+_, _*_}
+use Prim.Native.Nat.{ℕ, _≤_, _-_, _+_, _*_}
 use mathlib.Core.Path.{_≡_, refl, sym, _∙_, ap, subst}
 use mathlib.Core.Bool.{true}
 use mathlib.Core.List.{List}
 use borrow.Author.Tests.{not-true, not-false}
-use lib.ListN.{length, take, getD}
+use lib.ListN.{length, take}
 use lib.Seq.{take-length}
 use Rattle.store.specs.Layout.{store}
 use Rattle.session.specs.Session.{State, state, readyAll, stepInput, sayInput, Put}

@@ -1,13 +1,12 @@
 -- `session::finish` meets its contract: the last line ends where it has a byte, and then the rule text where it has not. Assumes nothing.
-use mathlib.Core.Path.{_≡_, refl, sym, _∙_, ap}
+use mathlib.Core.Path.{refl, sym, _∙_, ap}
 use mathlib.Core.List.{List, _++_}
-use Prim.Native.Nat.{ℕ, _<_, _≤_}
+use Prim.Native.Nat.{ℕ, _<_}
 use native.Mathlib.Omega.{arith}
 use borrow.Author.Tests.{not-true, not-false}
-use lib.ListN.{length}
 use Rattle.store.specs.Layout.{store}
-use Rattle.session.specs.Session.{State, state, closeAfter, closeSays, lastAfter, lastSays}
-use Rattle.session.proofs.Laws.{Fits, ready-fits, finish-damaged, finish-short, finish-refused, finish-went, last-none, last-silent, last-some, last-says, put-next, put-said}
+use Rattle.session.specs.Session.{State, state, closeAfter, closeSays, lastAfter}
+use Rattle.session.proofs.Laws.{ready-fits, finish-damaged, finish-short, finish-refused, finish-went, last-none, last-silent, last-some, last-says, put-next, put-said}
 use borrow.Author.Needs.{needs}
 use Rattle.session.proofs.finish.Statement.{statement}
 use Rattle.session.proofs.finish.Tie as tie

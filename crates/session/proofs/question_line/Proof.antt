@@ -1,5 +1,5 @@
 -- `session::question_line` meets its contract: each answer is the definition's, by the fields that were read. Assumes nothing.
-use mathlib.Core.Path.{_≡_, sym, _∙_}
+use mathlib.Core.Path.{sym, _∙_}
 use native.Mathlib.Omega.{arith}
 use Rattle.lines.proofs.Answers.{One, Two, Three, Four, in-one, in-two, in-three, in-four}
 use Rattle.session.proofs.Laws.{asks-long, asks-none, asks-one, asks-two, asks-three, asks-four, asks-five}
