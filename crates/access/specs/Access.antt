@@ -69,7 +69,7 @@ answer t s o request capable =
 unfoldable pub questionOf : Store → List ℕ → List ℕ → List ℕ → Bool → Answer
 questionOf st s o request capable = cond (undamagedOf st) (answer (tableOf st) s o request capable) (Refused 0)
 
--- 01's number and values for each case. Kind 0 is granted, 1 denied, 2 granted by override, 3 refused; the number is the rule's, or the
+-- 01's number and values for each case. The kinds are numbered here and not by 01: 0 is granted, 1 denied, 2 granted by override, 3 refused; the number is the rule's, or the
 -- refusal's
 abbrev pub denialNumber : Denial → ℕ
 denialNumber StarSubject = 1

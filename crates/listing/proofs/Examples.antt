@@ -1,5 +1,5 @@
--- The worked example of 01, Listing, on the definitions: after `Probe3 Air w`, `Alarm Air Rx` and `Desk Alarm -` in a fresh table. Assumes
--- nothing.
+-- The worked example of 01, Listing, on the definitions: the table that has the rules `Probe3 Air w`, `Alarm Air Rx` and `Desk Alarm -`, written
+-- out here and not loaded. Assumes nothing.
 use Prim.Native.Nat.{ℕ}
 use mathlib.Core.Path.{_≡_, refl}
 use mathlib.Core.List.{List, [], _∷_, _++_}

@@ -28,7 +28,8 @@ pub struct Numbered {
     pub count: usize,
 }
 
-// Who calls it has a count of a tested store, which is at most 256, or one more.
+// The number of an entry that was sought, and how many there then are. Who calls it has a count of a tested store, which is at most 256, or one
+// more; 300 leaves room for that.
 pub fn number_for(found: Found, count: usize) -> Numbered
     requires { ⌜ count ≤ 300 ⌝ }
     ensures { λ r. ⌜ r ≡ record { number = placeOf found count; count = countOf found count } ⌝ }

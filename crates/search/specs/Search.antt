@@ -1,5 +1,5 @@
--- The first entry of a list that passes a test, and a list with an entry put where a search says. Every search of the library, "the first
--- counts" of 01, and every "in its place, or last" are stated by these. Assumes nothing.
+-- The first entry of a list that passes a test, and a list with an entry put where a search says. The searches for a label, a pair and a
+-- mapping, "the first counts" of 01, and "in its place, or last" are stated by these. Assumes nothing.
 use Prim.Native.Nat.{ℕ, zero, suc, _+_}
 use mathlib.Core.Bool.{Bool, true, false, cond, _&&_}
 use mathlib.Core.List.{List, [], _∷_, _++_}

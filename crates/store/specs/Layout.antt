@@ -54,7 +54,7 @@ tableOf s =
       onlycap = entries (onlycapAt (s .entries)) (getD (s .words) 3 0);
     }
 
--- refusal 0 is given exactly when this is false: each part has its full size, no count is over its limit, and what is stored is sound. (A
+-- the tables' part of refusal 0, which is given when this is false (a call that takes a loader tests that too): each part has its full size, no count is over its limit, and what is stored is sound. (A
 -- label's length is a byte, so none is over 255.)
 unfoldable pub undamagedOf : Store → Bool
 undamagedOf s =
