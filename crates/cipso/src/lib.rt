@@ -34,6 +34,7 @@ pub enum Label {
 }
 
 // A record of a run: a label number, a level and a set, of any content.
+#[repr(C)]
 pub struct Record {
     pub label: u64,
     pub level: u64,

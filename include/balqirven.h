@@ -1,0 +1,226 @@
+/* Balqirven: Smack labels, access rules and CIPSO mappings in memory that the host lends.
+ *
+ * Link target/staticlib/libhost.a (rt staticlib host). x86-64 only.
+ *
+ * What is lent. The tables stand in three parts of fixed size, the line of rule text under way in a fourth. A part goes to a call as a pointer
+ * and a length in elements. A part of another size is no error of the host's: the call answers refusal 0 and changes nothing. Three things
+ * are the host's duty, since no callee can test them:
+ *   - a pointer is not NULL, also where its length is 0, and that many elements can be read there (and written, where the call takes it
+ *     without const); a pointer to 64-bit words is a multiple of 8;
+ *   - parts that one call gets do not overlap, unless it gets both with const;
+ *   - nobody else writes a part during a call.
+ * No call keeps a pointer. No call allocates, prints, or waits.
+ *
+ * What comes back. Each answer is a struct. Where `refused` is true, or `kind` says so, `number` is one of the refusal numbers below, and
+ * the tables, the line, the loader and every lent buffer are as they were. Otherwise `number` is 0, but for a question, where it is the
+ * rule's number. What a field of an answer does not speak of is 0.
+ *
+ *    0  the lent state has a part not of its full size, a count or length over its limit, a number that names no stored label, or an
+ *       unknown mode or category bit. It comes before every other number.
+ *    1  a write has over 600 bytes           2  wrong number of fields           3  a label is not well formed
+ *    4  an access field has a byte that is not allowed there                     5  subject equals object
+ *    6  more new labels than free places     7  256 rules are stored, and the pair has none
+ *    8  the request is empty or has another byte than r w x a, either case
+ *    9  a level is not 0 to 255, or a category not 1 to 63
+ *   10  32 mappings are stored, and the label has none                          11  over 8 different labels in an override list
+ *   12  the lent output is too short        13  no rule or label of that number
+ *
+ * Text is bytes with a length and no closing zero. A label has 1 to 255 bytes, each from 33 to 126, none of / \ ' ", and does not begin
+ * with a dash.
+ */
+#ifndef BALQIRVEN_H
+#define BALQIRVEN_H
+
+#include <stdbool.h>
+#include <stddef.h>
+#include <stdint.h>
+
+#ifdef __cplusplus
+extern "C" {
+#endif
+
+/* The sizes of the lent parts, in elements: bytes, bytes, 64-bit words, bytes. */
+#define BQ_LABELS 16384
+#define BQ_ENTRIES 840
+#define BQ_WORDS 36
+#define BQ_LINE 600
+
+/* A category n, 1 to 63, as the bit that it has in a set. */
+#define BQ_CATEGORY(n) ((uint64_t)1 << (64 - (n)))
+
+/* The loader between two calls: how many bytes of the line under way are kept (601: it has over 600), and the report so far. */
+typedef struct {
+    size_t kept;
+    uint32_t lines, accepted, skipped, refused, first;
+    uint8_t reason;
+} bq_loader;
+
+/* The report: lines read, accepted, skipped and refused; the number (from 1) and the reason of the first refused line, 0 and 0 where
+ * none is. Each is the true number or 4294967295, whichever is smaller. */
+typedef struct {
+    uint32_t lines, accepted, skipped, refused, first;
+    uint8_t reason;
+} bq_report;
+
+/* A record of a run: a label number, a level and a set, of any content. */
+typedef struct {
+    uint64_t label, level, set;
+} bq_record;
+
+/* What a write answers. */
+typedef struct {
+    bool refused;
+    uint8_t number;
+} bq_written;
+
+/* What revoke answers: how many rules have that subject. */
+typedef struct {
+    bool refused;
+    uint8_t number;
+    size_t count;
+} bq_counted;
+
+/* What a piece answers: the loader for the next call. On a refusal it is the one that was handed in. */
+typedef struct {
+    bool refused;
+    uint8_t number;
+    bq_loader loader;
+} bq_taken;
+
+/* What the end call answers: the report (zeros on a refusal), and the loader for the next call: a fresh one, or on a refusal the one that
+ * was handed in. */
+typedef struct {
+    bool refused;
+    uint8_t number;
+    bq_report report;
+    bq_loader loader;
+} bq_finished;
+
+/* What the listing of a rule answers: how many bytes it wrote. */
+typedef struct {
+    bool refused;
+    uint8_t number;
+    size_t length;
+} bq_length;
+
+/* What a look-up by label answers. */
+enum { BQ_MAPPED = 0, BQ_UNMAPPED = 1, BQ_LOOKUP_REFUSED = 2 };
+typedef struct {
+    uint8_t kind;
+    uint8_t number;
+    uint8_t level;
+    uint32_t count; /* how many categories are in the set */
+    uint64_t set;
+} bq_mapped;
+
+/* What a look-up by level and set answers. */
+enum { BQ_LABEL = 0, BQ_NO_LABEL = 1, BQ_SEARCH_REFUSED = 2 };
+typedef struct {
+    uint8_t kind;
+    uint8_t number;
+    size_t label;
+} bq_lowest;
+
+/* What a question answers: granted, with the rule's number, 2 to 6, and under rule 6 whether the rule has b; denied, with 1 or 7; granted
+ * by override, with the rule that would have denied; refused, with its number. */
+enum { BQ_GRANTED = 0, BQ_DENIED = 1, BQ_OVERRIDE = 2, BQ_REFUSED = 3 };
+typedef struct {
+    uint8_t kind;
+    uint8_t number;
+    bool bringup;
+} bq_decision;
+
+/* Where a label stands in the lent label store: `length` bytes from labels + start on. */
+typedef struct {
+    bool refused;
+    uint8_t number;
+    size_t start;
+    size_t length;
+} bq_part;
+
+/* ---- a fresh table and a fresh loader */
+
+/* Makes a fresh table, the labels _ ^ * ? @ alone, of three parts with any contents. Bytes that no entry holds stay as they were.
+ * Refusals: 0, only for a part not of its full size. */
+bq_written bq_fresh_table(uint8_t *labels, size_t labels_len, const uint8_t *entries, size_t entries_len, uint64_t *words, size_t words_len);
+
+/* A fresh loader: no byte kept, a report of zeros. */
+bq_loader bq_fresh_loader(void);
+
+/* ---- rule text */
+
+/* Takes a piece of rule text, cut anywhere, of any length. Each line (subject, object, access) is judged at its newline, whole, against
+ * the tables as they then are. A refused line does nothing but enter the report; the piece is done all the same.
+ * Refusals: 0, also for a line part that is not 600 bytes and for `kept` over 601. */
+bq_taken bq_piece(uint8_t *labels, size_t labels_len, uint8_t *entries, size_t entries_len, uint64_t *words, size_t words_len,
+                  uint8_t *line, size_t line_len, bq_loader loader, const uint8_t *text, size_t text_len);
+
+/* Ends the text: bytes after the last newline are one more line. Answers the report; the loader that comes back is fresh, the tables stay.
+ * Refusals: as bq_piece. */
+bq_finished bq_end(uint8_t *labels, size_t labels_len, uint8_t *entries, size_t entries_len, uint64_t *words, size_t words_len,
+                   uint8_t *line, size_t line_len, bq_loader loader);
+
+/* ---- single writes: each is a whole buffer of at most 600 bytes, fields with blanks between */
+
+/* Change: subject, object, modes to allow, modes to deny. Refusals: 0 1 2 3 4 5 6 7. */
+bq_written bq_change(uint8_t *labels, size_t labels_len, uint8_t *entries, size_t entries_len, uint64_t *words, size_t words_len,
+                     const uint8_t *text, size_t text_len);
+
+/* Revoke: every rule with this subject gets no modes and keeps its place; the count of these rules is answered, 0 for an unknown label.
+ * Refusals: 0 1 3. */
+bq_counted bq_revoke(const uint8_t *labels, size_t labels_len, uint8_t *entries, size_t entries_len, const uint64_t *words,
+                     size_t words_len, const uint8_t *label, size_t label_len);
+
+/* Override list (onlycap): 1 to 8 different labels that replace the list, or a lone dash that clears it. Refusals: 0 1 2 3 11 6. */
+bq_written bq_onlycap(uint8_t *labels, size_t labels_len, uint8_t *entries, size_t entries_len, uint64_t *words, size_t words_len,
+                      const uint8_t *text, size_t text_len);
+
+/* Mapping (CIPSO): label, level, then no or more categories. Refusals: 0 1 2 3 9 6 10. */
+bq_written bq_mapping(uint8_t *labels, size_t labels_len, uint8_t *entries, size_t entries_len, uint64_t *words, size_t words_len,
+                      const uint8_t *text, size_t text_len);
+
+/* ---- look-ups of mappings */
+
+/* The mapping of a label. Refusals: 0 3. */
+bq_mapped bq_by_label(const uint8_t *labels, size_t labels_len, const uint8_t *entries, size_t entries_len, const uint64_t *words,
+                      size_t words_len, const uint8_t *label, size_t label_len);
+
+/* The lowest-numbered label whose mapping has this level and this set. Refusals: 0; 9 for a level over 255 or the bit 1 in the set. */
+bq_lowest bq_by_level(const uint8_t *labels, size_t labels_len, const uint8_t *entries, size_t entries_len, const uint64_t *words,
+                      size_t words_len, uint64_t level, uint64_t set);
+
+/* The lowest label number of a run's records whose level and set are these. A run has any length and content and is no part of the state.
+ * Refusals: 9, as bq_by_level. */
+bq_lowest bq_lowest_in_run(const bq_record *records, size_t records_len, uint64_t level, uint64_t set);
+
+/* The same with each field of the records in an array of its own; there are as many records as the shortest has elements. */
+bq_lowest bq_lowest_of(const uint64_t *run_labels, size_t run_labels_len, const uint64_t *run_levels, size_t run_levels_len,
+                       const uint64_t *run_sets, size_t run_sets_len, uint64_t level, uint64_t set);
+
+/* ---- questions */
+
+/* May subject have the access that request asks for, to object? `capable`: the asker has the override capability. Nothing changes.
+ * Refusals: 0 3 8. */
+bq_decision bq_question(const uint8_t *labels, size_t labels_len, const uint8_t *entries, size_t entries_len, const uint64_t *words,
+                        size_t words_len, const uint8_t *subject, size_t subject_len, const uint8_t *object, size_t object_len,
+                        const uint8_t *request, size_t request_len, bool capable);
+
+/* ---- listing */
+
+/* Rule k, from 0, as a line: subject, space, object, space, modes or a dash, newline. It goes to the front of `out`; the rest of `out`
+ * stays. 519 bytes are enough for any rule. Refusals: 0 13 12. */
+bq_length bq_list_rule(const uint8_t *labels, size_t labels_len, const uint8_t *entries, size_t entries_len, const uint64_t *words,
+                       size_t words_len, size_t k, uint8_t *out, size_t out_len);
+
+/* Label k, from 0: the very part of the lent label store that holds it, or start 0 and length 0 on a refusal. A label never leaves its
+ * place. bq_label_check answers the same refusals alone. Refusals: 0 13. */
+bq_part bq_label(const uint8_t *labels, size_t labels_len, const uint8_t *entries, size_t entries_len, const uint64_t *words,
+                 size_t words_len, size_t k);
+bq_written bq_label_check(const uint8_t *labels, size_t labels_len, const uint8_t *entries, size_t entries_len, const uint64_t *words,
+                          size_t words_len, size_t k);
+
+#ifdef __cplusplus
+}
+#endif
+
+#endif
