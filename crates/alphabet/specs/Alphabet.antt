@@ -5,7 +5,7 @@ use mathlib.Core.Bool.{Bool, true, false, cond, not, _&&_, _||_}
 use mathlib.Core.List.{List, [], _∷_}
 use lib.ListN.{length, take, drop, getD}
 use lib.Dec.{eqb, leb, ltb}
-use Rattle.search.specs.Search.{first, all}
+use Rattle.search.specs.Search.{first, all, entries}
 use Rattle.search.specs.declared.Found.{Found}
 use Rattle.search.specs.declared.Found.the-variants.{At, Nothing}
 use Rattle.alphabet.specs.declared.Field.{Field}
@@ -23,6 +23,11 @@ labelByte b = leb 33 b && (leb b 126 && not (eqb b 47 || (eqb b 92 || (eqb b 39 
 unfoldable pub classOf : ℕ → ℕ
 unfolding isBlank labelByte
 classOf b = cond (labelByte b) 0 (cond (isBlank b) 1 (cond (eqb b 10) 2 3))
+
+-- the classes of the 256 byte values, in order
+unfoldable pub classTable : List ℕ
+unfolding classOf
+classTable = entries classOf 256
 
 -- a label has 1 to 255 bytes, each a label byte, and doesn't begin with - (45)
 unfoldable pub wellFormed : List ℕ → Bool

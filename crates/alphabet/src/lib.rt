@@ -3,7 +3,7 @@ use search::Found;
 ghost use mathlib.Core.Path.{_≡_};
 ghost use Prim.Native.Nat.{_+_};
 ghost use lib.ListN.{drop};
-ghost use Rattle.alphabet.specs.Alphabet.{classOf, faultOf, run, fieldAt};
+ghost use Rattle.alphabet.specs.Alphabet.{classOf, classTable, faultOf, run, fieldAt};
 
 // The numbers of the four classes in the table below.
 pub const LABEL: u8 = 0;
@@ -279,11 +279,12 @@ const CLASSES: [u8; 256] = [
     3,
 ];
 
-// The class of a byte.
-pub fn class(b: u8) -> u8
+// The class of a byte. Who calls it hands in the table above: a function that looks at many bytes has it at hand once, not once a byte.
+fn class(classes: &[u8], b: u8) -> u8
+    requires { ⌜ now classes ≡ classTable ⌝ }
     ensures { λ r. ⌜ r ≡ classOf b ⌝ }
 {
-    CLASSES[b as usize]
+    classes[b as usize]
 }
 
 // The place of the first fault of a label, or nothing where it is well formed: 0 for an empty label and for a leading dash, 255 for one
@@ -297,12 +298,13 @@ pub fn label_fault(label: &[u8]) -> Found
     if label[0] == DASH {
         return Found::At(0);
     }
+    let classes = CLASSES;
     let mut i = 0;
     while i < label.len() {
         if i == LONGEST {
             return Found::At(LONGEST);
         }
-        if class(label[i]) != LABEL {
+        if class(&classes, label[i]) != LABEL {
             return Found::At(i);
         }
         i += 1;
@@ -317,12 +319,13 @@ pub enum Field {
 }
 
 // The first index from `from` on whose byte is no blank (or, with `blanks` false, is one), or the end of the line.
-fn skip(line: &[u8], from: usize, blanks: bool) -> usize
+fn skip(classes: &[u8], line: &[u8], from: usize, blanks: bool) -> usize
+    requires { ⌜ now classes ≡ classTable ⌝ }
     ensures { λ r. ⌜ r ≡ from + run blanks (drop from (now (line .entry))) ⌝ }
 {
     let mut i = from;
     while i < line.len() {
-        if (class(line[i]) == BLANK) != blanks {
+        if (class(classes, line[i]) == BLANK) != blanks {
             return i;
         }
         i += 1;
@@ -334,10 +337,11 @@ fn skip(line: &[u8], from: usize, blanks: bool) -> usize
 pub fn next_field(line: &[u8], from: usize) -> Field
     ensures { λ r. ⌜ r ≡ fieldAt (now (line .entry)) from ⌝ }
 {
-    let start = skip(line, from, true);
+    let classes = CLASSES;
+    let start = skip(&classes, line, from, true);
     if line.len() <= start {
         return Field::End;
     }
-    let end = skip(line, start, false);
+    let end = skip(&classes, line, start, false);
     Field::Part { start, end }
 }

@@ -9,9 +9,8 @@
 //! An episode with a `resize` in it goes on to the next `fresh`, which always
 //! stands with a `freshloader`; so a reader that cannot lend a part of another
 //! size may leave out all lines from a `resize` up to the next `fresh`.
-//! Label numbers and levels in a run stay within a byte, and the loader's
-//! numbers are poked so that "no line was refused yet" is said by all three of
-//! refused, first line and first reason, or by none.
+//! The loader's numbers are poked so that "no line was refused yet" is said by
+//! all three of refused, first line and first reason, or by none.
 
 use std::io::{self, Write};
 
@@ -134,21 +133,22 @@ impl Generator<'_> {
         self.pending.clear();
         self.make_pool();
         self.new_percent = 5;
-        match self.random.below(12) {
-            0 | 1 => self.calls(40),
-            2 => self.at_label_limit(),
-            3 => self.at_rule_limit(),
-            4 => self.at_mapping_limit(),
-            5 => {
+        match self.random.below(24) {
+            0..=3 => self.calls(40),
+            4 | 5 => self.at_label_limit(),
+            6 | 7 => self.at_rule_limit(),
+            8 | 9 => self.at_mapping_limit(),
+            10 => {
                 self.fill_labels_to(64);
                 self.fill_rules_to(256);
                 self.fill_mappings_to(32);
                 self.new_percent = 20;
                 self.calls(40);
             }
-            6 | 7 => self.damaged_episode(),
-            8 | 9 => self.odd_episode(),
-            10 => self.loader_episode(),
+            11 => self.noise_episode(),
+            12..=15 => self.damaged_episode(),
+            16..=19 => self.odd_episode(),
+            20 | 21 => self.loader_episode(),
             _ => self.override_episode(),
         }
     }
@@ -210,6 +210,8 @@ impl Generator<'_> {
             self.resize_part();
             self.every_call();
             self.calls(6);
+            self.emit("freshen");
+            self.emit("dump");
             return;
         }
         let times = 1 + self.random.below(3);
@@ -239,6 +241,67 @@ impl Generator<'_> {
         self.emit("dump");
         self.every_call();
         self.calls(20);
+    }
+
+    /// Memory of random contents: labels of few different bytes, so that some
+    /// are stored twice, and numbers of any kind, mostly below their limits. Now
+    /// and then a fresh table is made of it.
+    fn noise_episode(&mut self) {
+        let labels = self.random.pick(&[0, 1, 4, 5, 20, 63, 64, 64]);
+        let mut store = Vec::new();
+        for _ in 0..64 {
+            let length = match self.random.below(10) {
+                0 => 0,
+                1 => self.random.byte(),
+                _ => 1 + self.random.below(2) as u8,
+            };
+            store.push(length);
+            for _ in 0..255 {
+                store.push(self.random.pick(b"abAB_^*?@- /\xff"));
+            }
+        }
+        self.emit(&format!("poke labels 0 {}", write_hex(&store)));
+        let mut entries = Vec::new();
+        let any_number = self.random.chance(10);
+        let any_modes = self.random.chance(10);
+        for at in 0..raw::ENTRIES_SIZE {
+            let is_modes = (raw::MODES..raw::MAPPING_LABELS).contains(&at);
+            let is_level = (raw::LEVELS..raw::OVERRIDES).contains(&at);
+            entries.push(match (is_modes, is_level) {
+                (true, _) if any_modes => self.random.byte(),
+                (true, _) => self.random.byte() & 63,
+                (_, true) => self.random.pick(&[0, 7, 9, 255]),
+                _ if any_number => self.random.byte(),
+                _ => self.random.below(labels.max(1)) as u8,
+            });
+        }
+        self.emit(&format!("poke entries 0 {}", write_hex(&entries)));
+        for place in 0..32 {
+            let set = match self.random.below(100) {
+                0 => self.random.next_number(),
+                _ => self.random.pick(&[0, 2, 1 << 63, (1 << 63) | 2]),
+            };
+            let index = raw::SETS + place;
+            self.emit(&format!("poke words {index} {set}"));
+        }
+        self.emit(&format!("poke words 0 {labels}"));
+        for (index, limit) in [(1, 256), (2, 32), (3, 8)] {
+            let count = match self.random.below(4) {
+                0 => 0,
+                1 => limit,
+                2 => 1 + self.random.below(3),
+                _ => self.random.below(limit + 1),
+            };
+            self.emit(&format!("poke words {index} {count}"));
+        }
+        self.emit("dump");
+        self.every_call();
+        self.calls(30);
+        if self.random.chance(50) {
+            self.emit("freshen");
+            self.emit("dump");
+            self.calls(10);
+        }
     }
 
     fn loader_episode(&mut self) {
@@ -432,7 +495,17 @@ impl Generator<'_> {
             }
             10 => self.poke_below(raw::OVERRIDES, counts[3], 8, no_label as u8),
             11 => {
-                let value = self.random.pick(&[602, 603, 1000, 65536, u32::MAX]);
+                let value = self.random.pick(&[
+                    602,
+                    603,
+                    1000,
+                    65536,
+                    u64::from(u32::MAX),
+                    1 << 32,
+                    (1 << 32) + 5,
+                    1 << 63,
+                    u64::MAX,
+                ]);
                 self.poke_loader(raw::KEPT, value)
             }
             // Counts up to their limits, over places that hold zeros or old bytes.
@@ -466,7 +539,7 @@ impl Generator<'_> {
         vec![format!("poke words {index} {old}")]
     }
 
-    fn poke_loader(&mut self, index: usize, value: u32) -> Vec<String> {
+    fn poke_loader(&mut self, index: usize, value: u64) -> Vec<String> {
         let old = self.machine.loader.numbers[index];
         self.emit(&format!("poke loader {index} {value}"));
         vec![format!("poke loader {index} {old}")]
@@ -1165,10 +1238,10 @@ impl Generator<'_> {
             _ => self.random.below(8),
         };
         for _ in 0..count {
-            let label = self.random.pick(&[0, 1, 5, 63, 64, 200, 255]);
-            let other_level = self.random.pick(&[0, 9, 255]);
+            let label = self.random.pick(&[0, 1, 5, 63, 64, 255, 256, 1 << 32, u64::MAX]);
+            let other_level = self.random.pick(&[0, 9, 255, 256, level | 256, u64::MAX]);
             let record_level = if self.random.chance(70) {
-                level.min(255)
+                level
             } else {
                 other_level
             };

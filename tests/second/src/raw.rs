@@ -51,7 +51,7 @@ pub const FIRST_LINE: usize = 5;
 pub const FIRST_REASON: usize = 6;
 
 /// `kept` where the kept line has over 600 bytes.
-pub const OVER: u32 = 601;
+pub const OVER: u64 = 601;
 
 /// The lent tables.
 #[derive(Clone, PartialEq, Eq, Debug)]
@@ -65,7 +65,9 @@ pub struct RawState {
 #[derive(Clone, PartialEq, Eq, Debug)]
 pub struct RawLoader {
     pub line: Vec<u8>,
-    pub numbers: [u32; 7],
+    /// `kept` may be any 64-bit number, the five counts any of 32 bits, the
+    /// reason any byte.
+    pub numbers: [u64; 7],
 }
 
 impl RawState {
@@ -95,16 +97,20 @@ impl RawLoader {
 // Refusal 0
 // ---------------------------------------------------------------------------
 
+/// Each of the three parts has its full size.
+fn has_full_size(state: &RawState) -> bool {
+    state.label_store.len() == STORE_SIZE
+        && state.entries.len() == ENTRIES_SIZE
+        && state.words.len() == WORDS_SIZE
+}
+
 /// Refusal 0 of the tables: "the lent state has a part not of its full size, a
 /// count or length over its limit, a number that names no stored label, or an
 /// unknown mode or category bit". Only what is stored below the counts is
 /// looked at. A label's length is one byte, so it is never over 255.
 pub fn raw_is_damaged(state: &RawState) -> bool {
     // "a part not of its full size"
-    if state.label_store.len() != STORE_SIZE
-        || state.entries.len() != ENTRIES_SIZE
-        || state.words.len() != WORDS_SIZE
-    {
+    if !has_full_size(state) {
         return true;
     }
     // "a count ... over its limit"
@@ -212,12 +218,12 @@ pub fn loader_of(loader: &RawLoader) -> Result<Loader, Refusal> {
     }
     Ok(Loader {
         line,
-        lines: u64::from(loader.numbers[LINES]),
-        accepted: u64::from(loader.numbers[ACCEPTED]),
-        skipped: u64::from(loader.numbers[SKIPPED]),
-        refused: u64::from(loader.numbers[REFUSED]),
-        first_line: u64::from(loader.numbers[FIRST_LINE]),
-        first_reason: u64::from(loader.numbers[FIRST_REASON]),
+        lines: loader.numbers[LINES],
+        accepted: loader.numbers[ACCEPTED],
+        skipped: loader.numbers[SKIPPED],
+        refused: loader.numbers[REFUSED],
+        first_line: loader.numbers[FIRST_LINE],
+        first_reason: loader.numbers[FIRST_REASON],
     })
 }
 
@@ -253,13 +259,13 @@ pub fn write_table(table: &Table, state: &mut RawState) {
 
 /// Writes the seven numbers. The kept line's bytes are `store_bytes`' affair.
 pub fn write_numbers(model: &Loader, loader: &mut RawLoader) {
-    loader.numbers[KEPT] = model.line.len().min(OVER as usize) as u32;
-    loader.numbers[LINES] = limited(model.lines);
-    loader.numbers[ACCEPTED] = limited(model.accepted);
-    loader.numbers[SKIPPED] = limited(model.skipped);
-    loader.numbers[REFUSED] = limited(model.refused);
-    loader.numbers[FIRST_LINE] = limited(model.first_line);
-    loader.numbers[FIRST_REASON] = limited(model.first_reason);
+    loader.numbers[KEPT] = model.line.len().min(OVER as usize) as u64;
+    loader.numbers[LINES] = u64::from(limited(model.lines));
+    loader.numbers[ACCEPTED] = u64::from(limited(model.accepted));
+    loader.numbers[SKIPPED] = u64::from(limited(model.skipped));
+    loader.numbers[REFUSED] = u64::from(limited(model.refused));
+    loader.numbers[FIRST_LINE] = u64::from(limited(model.first_line));
+    loader.numbers[FIRST_REASON] = u64::from(limited(model.first_reason));
 }
 
 /// The kept line's bytes are stored at 0..kept as they come and are never
@@ -276,12 +282,23 @@ pub fn store_bytes(loader: &mut RawLoader, bytes: &[u8]) {
             kept = OVER as usize;
         }
     }
-    loader.numbers[KEPT] = kept as u32;
+    loader.numbers[KEPT] = kept as u64;
 }
 
 // ---------------------------------------------------------------------------
 // The calls
 // ---------------------------------------------------------------------------
+
+/// "A fresh table has the five labels alone", made in lent memory of any
+/// contents. Only "a part not of its full size" is refused with 0 here: what the
+/// memory holds is not looked at. Bytes of no label and no count stay.
+pub fn fresh_table(state: &mut RawState) -> Result<(), Refusal> {
+    if !has_full_size(state) {
+        return Err(Refusal::Damaged);
+    }
+    write_table(&Table::fresh(), state);
+    Ok(())
+}
 
 /// A piece of rule text. Refusal 0, else done.
 pub fn piece(state: &mut RawState, loader: &mut RawLoader, bytes: &[u8]) -> Result<(), Refusal> {

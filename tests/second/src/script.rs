@@ -1,6 +1,8 @@
 //! Call scripts: one call a line in, one answer a line out.
 //!
-//! Bytes are written in hex, two digits a byte, and `-` for no bytes at all.
+//! Bytes are written in hex, two digits a byte, and `-` for no bytes at all. In
+//! a call they may also be written as they are behind a `=`, if each is from 33
+//! to 126.
 //! Numbers are decimal. Words are separated by spaces. An empty line and a line
 //! that begins with `#` are passed over and get no answer. A line that is none
 //! of these calls gets `bad line` and does nothing.
@@ -8,6 +10,7 @@
 //! | call | answer |
 //! |---|---|
 //! | `fresh` | `done` (new zero-filled memory with a fresh table) |
+//! | `freshen` | `done` or `refused N` (a fresh table in the memory as it is) |
 //! | `freshloader` | `done` (new zero-filled memory, a fresh loader) |
 //! | `piece HEX` | `done` or `refused N` |
 //! | `end` | `report LINES ACCEPTED SKIPPED REFUSED FIRSTLINE REASON` or `refused N` |
@@ -74,6 +77,7 @@ impl Machine {
                 self.state = RawState::fresh();
                 Some("done".to_string())
             }
+            ["freshen"] => Some(done_text(raw::fresh_table(&mut self.state))),
             ["freshloader"] => {
                 self.loader = RawLoader::fresh();
                 Some("done".to_string())
@@ -181,7 +185,15 @@ impl Machine {
             "line" => poke_bytes(&mut self.loader.line, at, &read_hex(value)?)?,
             "words" => *self.state.words.get_mut(at)? = read_u64(value)?,
             "loader" => {
-                let value = u32::try_from(read_u64(value)?).ok()?;
+                let value = read_u64(value)?;
+                let limit = match at {
+                    raw::KEPT => u64::MAX,
+                    raw::FIRST_REASON => u64::from(u8::MAX),
+                    _ => u64::from(u32::MAX),
+                };
+                if value > limit {
+                    return None;
+                }
                 *self.loader.numbers.get_mut(at)? = value;
             }
             _ => return None,
@@ -276,10 +288,15 @@ fn read_record(word: &str) -> Option<Record> {
     })
 }
 
-/// Bytes in hex; `-` for none.
+/// Bytes in hex; `-` for none; or `=` and one or more bytes from 33 to 126 as
+/// they are.
 pub fn read_hex(word: &str) -> Option<Vec<u8>> {
     if word == "-" {
         return Some(Vec::new());
+    }
+    if let Some(plain) = word.strip_prefix('=') {
+        let is_plain = !plain.is_empty() && plain.bytes().all(|byte| (33..=126).contains(&byte));
+        return is_plain.then(|| plain.as_bytes().to_vec());
     }
     let digits = word.as_bytes();
     if !digits.len().is_multiple_of(2) {

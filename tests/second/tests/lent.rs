@@ -177,7 +177,7 @@ fn a_damaged_loader() {
         loader.line.resize(size, 0);
         broken.push(loader);
     }
-    for kept in [602, 1000, u32::MAX] {
+    for kept in [602, 1000, u64::from(u32::MAX), 1 << 32, u64::MAX] {
         let mut loader = RawLoader::fresh();
         loader.numbers[KEPT] = kept;
         broken.push(loader);
@@ -458,7 +458,7 @@ fn a_newline_in_a_lent_kept_line_is_a_bad_byte_of_its_field() {
     ] {
         let mut loader = RawLoader::fresh();
         loader.line[..line.len()].copy_from_slice(line);
-        loader.numbers[KEPT] = line.len() as u32;
+        loader.numbers[KEPT] = line.len() as u64;
         let report = raw::end(&mut state, &mut loader).unwrap();
         assert_eq!((report.lines, report.refused), (1, 1));
         assert_eq!(report.first_reason, reason, "{line:?}");
@@ -469,7 +469,7 @@ fn a_newline_in_a_lent_kept_line_is_a_bad_byte_of_its_field() {
 fn the_lent_numbers_stop_at_their_limit() {
     let mut state = RawState::fresh();
     let mut loader = RawLoader::fresh();
-    let most = u32::MAX;
+    let most = u64::from(u32::MAX);
     loader.numbers = [0, most, most - 1, most, 0, 0, 0];
     raw::piece(&mut state, &mut loader, b"A B r\nA B w\n\nA A r\n").unwrap();
     assert_eq!(loader.numbers, [0, most, most, most, 1, most, 5]);
@@ -507,4 +507,41 @@ fn the_raw_calls_and_the_model_agree() {
     );
     assert_eq!(table_of(&state).unwrap(), table);
     assert_eq!(loader_of(&loader).unwrap(), model);
+}
+
+#[test]
+fn a_fresh_table_in_memory_of_any_contents() {
+    let mut state = RawState {
+        label_store: vec![0xaa; 16384],
+        entries: vec![0xbb; 840],
+        words: vec![u64::MAX; 36],
+    };
+    raw::fresh_table(&mut state).unwrap();
+    assert_eq!(raw::table_of(&state).unwrap(), Table::fresh());
+    // The five labels and the four counts are written, and no other byte.
+    assert_eq!(state.words[..4], [5, 0, 0, 0]);
+    assert!(state.words[4..].iter().all(|&word| word == u64::MAX));
+    assert!(state.entries.iter().all(|&byte| byte == 0xbb));
+    for (at, &byte) in state.label_store.iter().enumerate() {
+        let is_of_a_label = at / 256 < 5 && at % 256 < 2;
+        assert_eq!(byte != 0xaa, is_of_a_label, "{at}");
+    }
+    // Refused with 0 only where a part has another size; then nothing changes.
+    for part in 0..3 {
+        for larger in [false, true] {
+            let mut state = RawState::fresh();
+            state.words[0] = 65;
+            match (part, larger) {
+                (0, false) => state.label_store.truncate(16383),
+                (0, true) => state.label_store.push(0),
+                (1, false) => state.entries.truncate(839),
+                (1, true) => state.entries.push(0),
+                (_, false) => state.words.truncate(35),
+                (_, true) => state.words.push(0),
+            }
+            let before = state.clone();
+            assert_eq!(raw::fresh_table(&mut state), Err(Refusal::Damaged));
+            assert_eq!(state, before);
+        }
+    }
 }

@@ -77,6 +77,17 @@ fn every_form() {
         ("poke loader 0 602", "done"),
         ("end", "refused 0"),
         ("poke loader 0 0", "done"),
+        ("poke loader 0 18446744073709551615", "done"),
+        ("end", "refused 0"),
+        ("poke loader 0 0", "done"),
+        ("run 9 2 18446744073709551615,9,2 256,9,2 1,265,2", "label 256"),
+        ("poke words 0 65", "done"),
+        ("freshen", "done"),
+        ("label 4", "done 40"),
+        ("label 5", "refused 13 -"),
+        ("resize entries 841", "done"),
+        ("freshen", "refused 0"),
+        ("resize entries 840", "done"),
         ("poke line 599 ff", "done"),
         ("poke labels 16383 ff", "done"),
         ("poke entries 839 ff", "done"),
@@ -109,7 +120,10 @@ fn lines_that_are_no_calls() {
         "poke line 600 00",
         "poke line 599 0000",
         "poke loader 7 0",
-        "poke loader 0 4294967296",
+        "poke loader 0 18446744073709551616",
+        "poke loader 1 4294967296",
+        "poke loader 6 256",
+        "freshen 1",
         "poke other 0 00",
         "resize other 3",
         "resize line 99999999999",
@@ -147,6 +161,12 @@ fn hex_there_and_back() {
     assert_eq!(read_hex("fF"), Some(vec![255]));
     assert_eq!(read_hex("f"), None);
     assert_eq!(read_hex("fg"), None);
+    assert_eq!(read_hex("=Air"), Some(b"Air".to_vec()));
+    assert_eq!(read_hex("=="), Some(b"=".to_vec()));
+    assert_eq!(read_hex("=!~"), Some(b"!~".to_vec()));
+    assert_eq!(read_hex("="), None);
+    assert_eq!(read_hex("=\u{7f}"), None);
+    assert_eq!(read_hex("=\u{e4}"), None);
 }
 
 // --- The generator -------------------------------------------------------------
@@ -180,7 +200,7 @@ fn random_calls_are_calls_and_refusals_leave_every_byte() {
             let answer = machine.execute(&call).unwrap();
             assert_ne!(answer, "bad line", "{call}");
             let kind = call.split(' ').next().unwrap();
-            let is_setter = ["fresh", "freshloader", "poke", "resize"].contains(&kind);
+            let is_setter = ["fresh", "freshen", "freshloader", "poke", "resize"].contains(&kind);
             if answer.starts_with("refused") {
                 assert_eq!(machine.state, state, "{call}");
                 assert_eq!(machine.loader, loader, "{call}");
@@ -206,7 +226,8 @@ fn random_calls_are_calls_and_refusals_leave_every_byte() {
 
 #[test]
 fn random_scripts_reach_every_refusal_of_every_call() {
-    let orders: [(&str, &[u8]); 11] = [
+    let orders: [(&str, &[u8]); 12] = [
+        ("freshen", &[0]),
         ("piece", &[0]),
         ("end", &[0]),
         ("change", &[0, 1, 2, 3, 4, 5, 6, 7]),

@@ -1,0 +1,823 @@
+/* Times the library, through its static library, beside a second implementation and three forms of a kernel's lookup, in one run: see run and docs/BENCHMARKS.md.
+ *
+ *   bench ROUNDS MEGABYTES DIRECTORY [PROGRAM SECOND]     all operations; DIRECTORY takes the rule text for the two programs
+ *   bench profile question|damage|text|fresh|blank|change LAYOUT [LONG]     one operation of the library alone, for a profiler: LAYOUT is 0 (spread), 1
+ *                                                                     (one subject, lent) or 2 (one subject, grown), LONG is 0 or 1
+ *
+ * Time is the processor time of this thread, so that other work on the machine counts as little as can be. Each round does every operation
+ * once on every implementation, one after the other; of the rounds the best and the median are told. */
+#define _GNU_SOURCE
+#include "kernel.h"
+
+#include "../include/balqirven.h"
+
+#include <fcntl.h>
+#include <stdio.h>
+#include <stdlib.h>
+#include <string.h>
+#include <sys/resource.h>
+#include <sys/wait.h>
+#include <time.h>
+#include <unistd.h>
+
+/* ---- the second implementation */
+
+struct second;
+typedef struct {
+    uint8_t kind, number;
+} second_shown;
+struct second *second_new(void);
+void second_free(struct second *s);
+void second_label(struct second *s, const uint8_t *text, size_t length);
+void second_push(struct second *s, size_t subject, size_t object, uint8_t modes);
+second_shown second_question(const struct second *s, const uint8_t *subject, size_t subject_len, const uint8_t *object, size_t object_len,
+                             const uint8_t *request, size_t request_len, bool capable);
+void second_piece(struct second *s, const uint8_t *text, size_t length);
+void second_end(struct second *s, uint32_t *out);
+int second_change(struct second *s, const uint8_t *text, size_t length);
+size_t second_list(const struct second *s, uint64_t k, uint8_t *out, size_t length);
+
+/* ---- common */
+
+enum { LIBRARY, KERNEL, KERNEL_TEXT, KERNEL_BYTES, SECOND, SIDES };
+static const char *const SIDE[SIDES] = {"library", "kernel", "kernel, rules by text", "kernel, byte compare", "second"};
+
+enum { QUESTIONS = 4096, PIECE = 65536, MOST_ROUNDS = 64 };
+
+static void fail(const char *why)
+{
+    fprintf(stderr, "bench: %s\n", why);
+    exit(1);
+}
+
+static uint64_t seed = 1;
+static uint32_t pick(uint32_t n)
+{
+    seed ^= seed << 13;
+    seed ^= seed >> 7;
+    seed ^= seed << 17;
+    return (uint32_t)((seed >> 33) % n);
+}
+
+static double now(void)
+{
+    struct timespec t;
+    clock_gettime(CLOCK_THREAD_CPUTIME_ID, &t);
+    return (double)t.tv_sec * 1e9 + (double)t.tv_nsec;
+}
+
+/* ---- labels and tables */
+
+/* 64 labels: the five that are always there, and 59 of 6 to 10 bytes, or 59 of 204 bytes that agree in their first 190. */
+static char label[2][64][256];
+static const char *const MODES[] = {"r", "rx", "rw", "rwxa", "rxa", "w", "rwx", "a"};
+
+static void make_labels(void)
+{
+    static const char *const first[5] = {"_", "^", "*", "?", "@"};
+    static const char letters[] = "abcdefghijklmnopqrstuvwxyzABCDEFGHIJKLMNOPQRSTUVWXYZ0123456789_.";
+    for (int kind = 0; kind < 2; kind++)
+        for (int i = 0; i < 64; i++) {
+            char *l = label[kind][i];
+            if (i < 5) {
+                strcpy(l, first[i]);
+                continue;
+            }
+            int same = kind ? 190 : 0, n = kind ? 204 : 6 + (int)pick(5);
+            for (int j = 0; j < same; j++)
+                l[j] = "ClimateProbe_StoreNorth_"[j % 24];
+            for (int j = same; j < n - 2; j++)
+                l[j] = letters[pick(64)];
+            l[n - 2] = (char)('A' + i / 8);
+            l[n - 1] = (char)('a' + i % 8);
+            l[n] = 0;
+        }
+}
+
+/* How the rules stand. SPREAD: 256 rules, four to each of the 64 labels as subject. ONE_256: 256 rules of one subject. With 64 labels a subject
+ * has only 63 other objects, and a table that was grown holds no pair twice; so this one is lent: the first 248 rules repeat 47 objects, and the
+ * last eight have eight objects that no rule before them has. These are asked for by rule 6, and eight objects without a rule by rule 7. ONE_63:
+ * the 63 rules that one subject can have in a table that was grown; rule 7 is asked for by a letter that the rule has not. */
+enum { SPREAD, ONE_256, ONE_63, LAYOUTS };
+static const char *const LAYOUT[LAYOUTS] = {"256 rules spread", "256 rules of one subject (lent)", "63 rules of one subject (grown)"};
+
+struct rule {
+    int subject, object;
+    unsigned modes;
+};
+static struct rule rules[LAYOUTS][256];
+static int count[LAYOUTS];
+static bool has_rule[LAYOUTS][64][64];
+
+enum { ONE = 40 }; /* the one subject */
+
+static unsigned bits_of(const char *modes)
+{
+    unsigned bits = 0;
+    for (; *modes; modes++)
+        bits |= 32u >> (strchr("rwxatb", *modes) - "rwxatb");
+    return bits;
+}
+
+static void make_rules(void)
+{
+    /* r and x are in every rule, so that a question for them is granted by 6, and w in none. */
+    for (int i = 0; i < 256; i++) {
+        struct rule r = {i % 64, (i % 64 + 1 + 13 * (i / 64) + i % 7) % 64, bits_of("rx")};
+        rules[SPREAD][i] = r;
+    }
+    count[SPREAD] = 256;
+    for (int i = 255; i > 0; i--) {
+        int j = (int)pick((uint32_t)i + 1);
+        struct rule t = rules[SPREAD][i];
+        rules[SPREAD][i] = rules[SPREAD][j];
+        rules[SPREAD][j] = t;
+    }
+    for (int i = 0; i < 256; i++) {
+        struct rule r = {ONE, i < 248 ? (i % 47 < ONE ? i % 47 : i % 47 + 1) : 48 + i - 248, bits_of("rx")};
+        rules[ONE_256][i] = r;
+    }
+    count[ONE_256] = 256;
+    for (int i = 0; i < 63; i++) {
+        struct rule r = {ONE, i < ONE ? i : i + 1, bits_of("rx")};
+        rules[ONE_63][i] = r;
+    }
+    count[ONE_63] = 63;
+    for (int l = 0; l < LAYOUTS; l++)
+        for (int i = 0; i < count[l]; i++)
+            has_rule[l][rules[l][i].subject][rules[l][i].object] = true;
+}
+
+/* The library's tables as they are lent. */
+struct lent {
+    uint64_t words[BQ_WORDS];
+    uint8_t labels[BQ_LABELS], entries[BQ_ENTRIES], line[BQ_LINE];
+};
+#define TABLES(t) (t)->labels, BQ_LABELS, (t)->entries, BQ_ENTRIES, (t)->words, BQ_WORDS
+
+static struct lent lent[LAYOUTS][2];
+static struct k_world *world[LAYOUTS][2], *world_bytes[LAYOUTS][2];
+static struct second *second[LAYOUTS][2];
+
+/* Those of the spread rules once more, for rule text, which sets their modes. */
+static struct lent lent_text[2];
+static struct k_world *world_text[2];
+static struct second *second_text[2];
+
+/* The same tables for all: the 64 labels in their order, then the rules. They are put down one by one and not by rule text, which only the table
+ * with a pair twice needs. */
+static struct k_world *make_world(struct k_world *w, int l, int kind, void (*enter)(struct k_world *, const char *),
+                                  void (*append)(struct k_world *, const char *, const char *, unsigned))
+{
+    for (int i = 5; i < 64; i++)
+        enter(w, label[kind][i]);
+    for (int i = 0; i < count[l]; i++)
+        append(w, label[kind][rules[l][i].subject], label[kind][rules[l][i].object], rules[l][i].modes);
+    return w;
+}
+
+static struct second *make_second(int l, int kind)
+{
+    struct second *s = second_new();
+    for (int i = 5; i < 64; i++)
+        second_label(s, (const uint8_t *)label[kind][i], strlen(label[kind][i]));
+    for (int i = 0; i < count[l]; i++)
+        second_push(s, (size_t)rules[l][i].subject, (size_t)rules[l][i].object, (uint8_t)rules[l][i].modes);
+    return s;
+}
+
+static void make_lent(struct lent *t, int l, int kind)
+{
+    char line[600];
+    bq_loader loader = bq_fresh_loader();
+    if (bq_fresh_table(TABLES(t)).refused)
+        fail("no fresh table");
+    for (int i = 5; i < 64; i++) {
+        int n = sprintf(line, "%s _ -\n", label[kind][i]);
+        loader = bq_piece(TABLES(t), t->line, BQ_LINE, loader, (const uint8_t *)line, (size_t)n).loader;
+    }
+    if (loader.accepted != 59 || t->words[0] != 64)
+        fail("the labels did not enter");
+    for (int i = 0; i < count[l]; i++) {
+        t->entries[i] = (uint8_t)rules[l][i].subject;
+        t->entries[256 + i] = (uint8_t)rules[l][i].object;
+        t->entries[512 + i] = (uint8_t)rules[l][i].modes;
+    }
+    t->words[1] = (uint64_t)count[l];
+}
+
+static void make_tables(void)
+{
+    for (int l = 0; l < LAYOUTS; l++)
+        for (int kind = 0; kind < 2; kind++) {
+            make_lent(&lent[l][kind], l, kind);
+            world[l][kind] = make_world(k_new(), l, kind, k_enter, k_append);
+            world_bytes[l][kind] = make_world(kb_new(), l, kind, kb_enter, kb_append);
+            second[l][kind] = make_second(l, kind);
+        }
+    for (int kind = 0; kind < 2; kind++) {
+        make_lent(&lent_text[kind], SPREAD, kind);
+        world_text[kind] = make_world(k_new(), SPREAD, kind, k_enter, k_append);
+        second_text[kind] = make_second(SPREAD, kind);
+    }
+}
+
+/* ---- questions */
+
+struct question {
+    const uint8_t *subject, *object, *request;
+    size_t subject_len, object_len, request_len;
+    uint8_t kind, number;
+};
+
+enum { BY_6, BY_7, BY_7_UNKNOWN, BY_2, BY_3, BY_4, BY_5, EMPTY, ASKED };
+static const char *const BY[ASKED] = {"rule 6",           "rule 7", "rule 7, object unknown", "rule 2", "rule 3", "rule 4", "rule 5",
+                                      "empty subject: the damage check alone"};
+
+static struct question asked[LAYOUTS][2][ASKED][QUESTIONS];
+
+static void make_questions(void)
+{
+    static char unknown[2][16][256];
+    for (int kind = 0; kind < 2; kind++)
+        for (int i = 0; i < 16; i++) {
+            strcpy(unknown[kind][i], label[kind][5 + i]);
+            unknown[kind][i][strlen(unknown[kind][i]) - 1] = '+';
+        }
+    for (int l = 0; l < LAYOUTS; l++)
+        for (int kind = 0; kind < 2; kind++)
+            for (int by = 0; by < ASKED; by++)
+                for (int i = 0; i < QUESTIONS; i++) {
+                    struct question *q = &asked[l][kind][by][i];
+                    static const char *const reading[] = {"r", "x", "rx", "xr", "R"};
+                    const char *request = reading[pick(5)], *object;
+                    int s = l == SPREAD ? 5 + (int)pick(59) : ONE, o = 5 + (int)pick(59);
+                    q->kind = BQ_GRANTED;
+                    q->number = 6;
+                    object = NULL;
+                    if (by == BY_6)
+                        do {
+                            const struct rule *r = &rules[l][l == ONE_256 ? 248 + pick(8) : pick((uint32_t)count[l])];
+                            s = r->subject;
+                            o = r->object;
+                        } while (s < 5 || o < 5);
+                    if (by == BY_7) {
+                        /* No rule for the pair; where each pair has one, the letter is not in it. */
+                        q->kind = BQ_DENIED;
+                        q->number = 7;
+                        if (l == ONE_63) {
+                            do
+                                o = 5 + (int)pick(59);
+                            while (o == s);
+                            request = "w";
+                        } else
+                            while (o == s || has_rule[l][s][o]) {
+                                if (l == SPREAD)
+                                    s = 5 + (int)pick(59);
+                                o = 5 + (int)pick(59);
+                            }
+                    }
+                    if (by == BY_7_UNKNOWN) {
+                        q->kind = BQ_DENIED;
+                        q->number = 7;
+                        object = unknown[kind][pick(16)];
+                    }
+                    if (by == BY_2) {
+                        s = 1;
+                        q->number = 2;
+                    }
+                    if (by == BY_3) {
+                        o = 0;
+                        q->number = 3;
+                    }
+                    if (by == BY_4) {
+                        o = 2;
+                        q->number = 4;
+                        request = MODES[pick(8)];
+                    }
+                    if (by == BY_5) {
+                        o = s;
+                        q->number = 5;
+                        request = MODES[pick(8)];
+                    }
+                    if (!object)
+                        object = label[kind][o];
+                    q->subject = (const uint8_t *)label[kind][s];
+                    q->subject_len = strlen(label[kind][s]);
+                    /* A copy, so that no side gains from the subject's text standing where the object's does. */
+                    q->object = (const uint8_t *)(by == BY_5 ? strdup(object) : object);
+                    q->object_len = strlen(object);
+                    q->request = (const uint8_t *)request;
+                    q->request_len = strlen(request);
+                    if (by == EMPTY) {
+                        q->subject_len = 0;
+                        q->kind = BQ_REFUSED;
+                        q->number = 3;
+                    }
+                }
+}
+
+static unsigned ask(int side, int l, int kind, const struct question *q, size_t n)
+{
+    unsigned sum = 0;
+    switch (side) {
+    case LIBRARY: {
+        struct lent *t = &lent[l][kind];
+        for (size_t i = 0; i < n; i++) {
+            bq_decision d = bq_question(TABLES(t), q[i].subject, q[i].subject_len, q[i].object, q[i].object_len, q[i].request,
+                                        q[i].request_len, false);
+            sum += d.kind * 16u + d.number;
+        }
+        break;
+    }
+#define KERNEL_SIDE(CALL, WORLD)                                                                                                             \
+    {                                                                                                                                        \
+        struct k_world *w = WORLD[l][kind];                                                                                                  \
+        for (size_t i = 0; i < n; i++) {                                                                                                     \
+            struct k_answer d = CALL(w, (const char *)q[i].subject, q[i].subject_len, (const char *)q[i].object, q[i].object_len,            \
+                                     (const char *)q[i].request, q[i].request_len);                                                          \
+            sum += d.kind * 16u + d.number;                                                                                                  \
+        }                                                                                                                                    \
+        break;                                                                                                                               \
+    }
+    case KERNEL:
+        KERNEL_SIDE(k_question, world)
+    case KERNEL_TEXT:
+        KERNEL_SIDE(k_question_text, world)
+    case KERNEL_BYTES:
+        KERNEL_SIDE(kb_question, world_bytes)
+    case SECOND: {
+        struct second *s = second[l][kind];
+        for (size_t i = 0; i < n; i++) {
+            second_shown d = second_question(s, q[i].subject, q[i].subject_len, q[i].object, q[i].object_len, q[i].request, q[i].request_len,
+                                             false);
+            sum += d.kind * 16u + d.number;
+        }
+        break;
+    }
+    }
+    return sum;
+}
+
+/* Every answer of every side is the one that the question was made for. */
+static void check_questions(void)
+{
+    for (int l = 0; l < LAYOUTS; l++)
+        for (int kind = 0; kind < 2; kind++)
+            for (int by = 0; by < ASKED; by++)
+                for (int i = 0; i < QUESTIONS; i++)
+                    for (int side = 0; side < SIDES; side++) {
+                        struct question *q = &asked[l][kind][by][i];
+                        unsigned got = ask(side, l, kind, q, 1);
+                        if (got != q->kind * 16u + q->number) {
+                            fprintf(stderr, "bench: %s answers %u/%u, not %u/%u: %s, %s, subject %.*s object %.*s\n", SIDE[side], got / 16,
+                                    got % 16, q->kind, q->number, LAYOUT[l], BY[by], (int)q->subject_len, (const char *)q->subject,
+                                    (int)q->object_len, (const char *)q->object);
+                            exit(1);
+                        }
+                    }
+}
+
+/* ---- rule text */
+
+enum { KNOWN, FRESH, REFUSED, BLANK, TEXTS };
+static char *text[TEXTS][2];
+static size_t text_len[TEXTS][2];
+static unsigned text_lines[TEXTS][2];
+
+static size_t put_rule(char *out, int kind, const struct rule *r, const char *modes)
+{
+    return (size_t)sprintf(out, "%s %s %s\n", label[kind][r->subject], label[kind][r->object], modes);
+}
+
+/* KNOWN: pairs of the spread table in any order. FRESH: the 256 rules of that table, in their order; a table is made anew after each. REFUSED: lines
+ * with refusals 2, 3, 4, 5, 6 and 7. BLANK: lines of 0 to 600 blanks. */
+static void make_text(int which, int kind, size_t bytes)
+{
+    char *t = malloc(bytes + 2048);
+    size_t n = 0;
+    unsigned lines = 0;
+    const struct rule *r = rules[SPREAD];
+    while (n < bytes) {
+        const struct rule *p = &r[pick(256)];
+        const char *a = label[kind][p->subject], *b = label[kind][p->object];
+        switch (which) {
+        case KNOWN:
+            n += put_rule(t + n, kind, p, MODES[pick(8)]);
+            break;
+        case FRESH:
+            n += put_rule(t + n, kind, &r[lines % 256], MODES[pick(8)]);
+            if (lines == 255)
+                bytes = n;
+            break;
+        case REFUSED:
+            switch (pick(6)) {
+            case 0:
+                n += (size_t)sprintf(t + n, "%s %s\n", a, b);
+                break;
+            case 1:
+                n += (size_t)sprintf(t + n, "%s %s/ r\n", a, b);
+                break;
+            case 2:
+                n += (size_t)sprintf(t + n, "%s %s rz\n", a, b);
+                break;
+            case 3:
+                n += (size_t)sprintf(t + n, "%s %s r\n", a, a);
+                break;
+            case 4:
+                n += (size_t)sprintf(t + n, "%s %s+ r\n", a, b);
+                break;
+            default: {
+                int s, o;
+                do {
+                    s = (int)pick(64);
+                    o = (int)pick(64);
+                } while (s == o || has_rule[SPREAD][s][o]);
+                n += (size_t)sprintf(t + n, "%s %s r\n", label[kind][s], label[kind][o]);
+            }
+            }
+            break;
+        case BLANK: {
+            size_t blanks = pick(4) ? pick(40) : pick(601);
+            memset(t + n, pick(2) ? ' ' : '\t', blanks);
+            n += blanks;
+            t[n++] = '\n';
+        }
+        }
+        lines++;
+    }
+    text[which][kind] = t;
+    text_len[which][kind] = n;
+    text_lines[which][kind] = lines;
+}
+
+/* Feeds a text of `total` bytes in pieces; what is counted of the lines comes back, for all sides the same. */
+static unsigned feed(int side, int which, int kind, size_t total)
+{
+    const char *t = text[which][kind];
+    size_t n = text_len[which][kind], done = 0;
+    unsigned counted = 0;
+    uint32_t report[6];
+    static struct lent fresh;
+    if (which != FRESH) {
+        if (side == LIBRARY) {
+            struct lent *own = &lent_text[kind];
+            bq_loader loader = bq_fresh_loader();
+            for (size_t at = 0; at < n; at += PIECE)
+                loader = bq_piece(TABLES(own), own->line, BQ_LINE, loader, (const uint8_t *)t + at, n - at < PIECE ? n - at : PIECE).loader;
+            bq_finished f = bq_end(TABLES(own), own->line, BQ_LINE, loader);
+            return f.refused ? 0 : which == KNOWN ? f.report.accepted : which == BLANK ? f.report.skipped : f.report.refused;
+        }
+        if (side == SECOND) {
+            struct second *s = second_text[kind];
+            for (size_t at = 0; at < n; at += PIECE)
+                second_piece(s, (const uint8_t *)t + at, n - at < PIECE ? n - at : PIECE);
+            second_end(s, report);
+            return which == KNOWN ? report[1] : which == BLANK ? report[2] : report[3];
+        }
+        return (unsigned)k_load(world_text[kind], t, n);
+    }
+    for (; done < total; done += n) {
+        if (side == LIBRARY) {
+            bq_fresh_table(TABLES(&fresh));
+            bq_taken taken = bq_piece(TABLES(&fresh), fresh.line, BQ_LINE, bq_fresh_loader(), (const uint8_t *)t, n);
+            counted += bq_end(TABLES(&fresh), fresh.line, BQ_LINE, taken.loader).report.accepted;
+        } else if (side == SECOND) {
+            struct second *s = second_new();
+            second_piece(s, (const uint8_t *)t, n);
+            second_end(s, report);
+            second_free(s);
+            counted += report[1];
+        } else {
+            struct k_world *w = k_new();
+            counted += (unsigned)k_load(w, t, n);
+            k_free(w);
+        }
+    }
+    return counted;
+}
+
+/* ---- change and listing */
+
+static char change[2][QUESTIONS][600];
+static size_t change_len[2][QUESTIONS];
+
+static void make_changes(void)
+{
+    for (int kind = 0; kind < 2; kind++)
+        for (int i = 0; i < QUESTIONS; i++) {
+            const struct rule *r = &rules[SPREAD][pick(256)];
+            /* In the end r and x are in every rule and w in none, as before. */
+            change_len[kind][i] = (size_t)sprintf(change[kind][i], "%s %s %s %s", label[kind][r->subject], label[kind][r->object],
+                                                  i % 2 ? "rx" : "rxat", i % 3 ? "w" : "wat");
+        }
+}
+
+static unsigned do_changes(int side, int kind)
+{
+    unsigned done = 0;
+    for (int i = 0; i < QUESTIONS; i++) {
+        const uint8_t *t = (const uint8_t *)change[kind][i];
+        size_t n = change_len[kind][i];
+        if (side == LIBRARY)
+            done += !bq_change(TABLES(&lent[SPREAD][kind]), t, n).refused;
+        else if (side == SECOND)
+            done += second_change(second[SPREAD][kind], t, n) == 0;
+        else
+            done += k_change(world[SPREAD][kind], (const char *)t, n) == 0;
+    }
+    return done;
+}
+
+static size_t do_listing(int side, int kind)
+{
+    static uint8_t out[256 * 600];
+    size_t n = 0;
+    if (side == LIBRARY)
+        for (size_t k = 0; k < 256; k++)
+            n += bq_list_rule(TABLES(&lent[SPREAD][kind]), k, out + n, sizeof out - n).length;
+    else if (side == SECOND)
+        for (size_t k = 0; k < 256; k++)
+            n += second_list(second[SPREAD][kind], k, out + n, sizeof out - n);
+    else
+        n = k_list(world[SPREAD][kind], (char *)out);
+    return n;
+}
+
+/* ---- the operations and their table */
+
+enum { ASK, FEED, CHANGE, LIST };
+struct operation {
+    int what, a, kind, by;
+    char name[120];
+    double scale; /* what one run does: calls, bytes or rules */
+    bool runs_on[SIDES];
+    unsigned repeat[SIDES];
+    double time[SIDES][MOST_ROUNDS]; /* ns for one call, one rule or one byte */
+};
+static struct operation ops[128];
+static int n_ops;
+static size_t total;
+
+static unsigned expected(const struct operation *o)
+{
+    unsigned sum = 0;
+    switch (o->what) {
+    case ASK:
+        for (int i = 0; i < QUESTIONS; i++)
+            sum += asked[o->a][o->kind][o->by][i].kind * 16u + asked[o->a][o->kind][o->by][i].number;
+        return sum;
+    case FEED:
+        return o->a == FRESH ? (unsigned)((total + text_len[FRESH][o->kind] - 1) / text_len[FRESH][o->kind]) * 256 : text_lines[o->a][o->kind];
+    case CHANGE:
+        return QUESTIONS;
+    default:
+        return (unsigned)do_listing(SECOND, o->kind);
+    }
+}
+
+static void run_once(const struct operation *o, int side, unsigned want)
+{
+    unsigned got = 0;
+    switch (o->what) {
+    case ASK:
+        got = ask(side, o->a, o->kind, asked[o->a][o->kind][o->by], QUESTIONS);
+        break;
+    case FEED:
+        got = feed(side, o->a, o->kind, total);
+        break;
+    case CHANGE:
+        got = do_changes(side, o->kind);
+        break;
+    case LIST:
+        got = (unsigned)do_listing(side, o->kind);
+        break;
+    }
+    if (got != want) {
+        fprintf(stderr, "bench: %s: %s comes to %u, not %u\n", o->name, SIDE[side], got, want);
+        exit(1);
+    }
+}
+
+static void add(int what, int a, int kind, int by, double scale, const char *name, unsigned sides)
+{
+    struct operation *o = &ops[n_ops++];
+    o->what = what;
+    o->a = a;
+    o->kind = kind;
+    o->by = by;
+    o->scale = scale;
+    snprintf(o->name, sizeof o->name, "%s", name);
+    for (int side = 0; side < SIDES; side++)
+        o->runs_on[side] = sides >> side & 1;
+}
+
+static void add_all(void)
+{
+    static const char *const size[2] = {"short", "long"};
+    static const char *const texts[TEXTS] = {"rule text, known pairs", "rule text, fresh tables", "rule text, refused lines", "rule text, blank lines"};
+    const unsigned all = (1u << SIDES) - 1, three = 1u << LIBRARY | 1u << KERNEL | 1u << SECOND, two = 1u << LIBRARY | 1u << SECOND;
+    char name[120];
+    for (int l = 0; l < LAYOUTS; l++)
+        for (int kind = 0; kind < 2; kind++)
+            for (int by = 0; by < ASKED; by++) {
+                snprintf(name, sizeof name, "question, %s; %s; %s", LAYOUT[l], size[kind], BY[by]);
+                add(ASK, l, kind, by, QUESTIONS, name, by == EMPTY ? 1u << LIBRARY : all);
+            }
+    for (int kind = 0; kind < 2; kind++) {
+        snprintf(name, sizeof name, "change of a known pair; %s", size[kind]);
+        add(CHANGE, 0, kind, 0, QUESTIONS, name, three);
+    }
+    for (int kind = 0; kind < 2; kind++) {
+        snprintf(name, sizeof name, "listing, each of 256 rules; %s", size[kind]);
+        add(LIST, 0, kind, 0, 256, name, three);
+    }
+    for (int t = 0; t < TEXTS; t++)
+        for (int kind = 0; kind < (t == BLANK ? 1 : 2); kind++) {
+            double bytes = (double)text_len[t][kind];
+            if (t == FRESH)
+                bytes *= (double)((total + text_len[t][kind] - 1) / text_len[t][kind]);
+            snprintf(name, sizeof name, t == BLANK ? "%s" : "%s; %s", texts[t], size[kind]);
+            add(FEED, t, kind, 0, bytes, name, t == KNOWN || t == FRESH ? three : two);
+        }
+}
+
+static void time_one(struct operation *o, int side, int round)
+{
+    if (!o->runs_on[side])
+        return;
+    unsigned want = expected(o);
+    if (!o->repeat[side]) {
+        /* As often as takes some 15 ms. It is a warm-up too. */
+        double t = now();
+        run_once(o, side, want);
+        t = now() - t;
+        o->repeat[side] = t > 15e6 ? 1 : (unsigned)(15e6 / t) + 1;
+    }
+    double t = now();
+    for (unsigned i = 0; i < o->repeat[side]; i++)
+        run_once(o, side, want);
+    o->time[side][round] = (now() - t) / o->repeat[side] / o->scale;
+}
+
+static int by_size(const void *a, const void *b)
+{
+    double x = *(const double *)a, y = *(const double *)b;
+    return x < y ? -1 : x > y;
+}
+
+static void print_all(int rounds)
+{
+    for (int text_part = 0; text_part < 2; text_part++) {
+        printf("\n%s\n\n", text_part ? "MB per second (10^6 bytes): best (median)" : "ns per call: best (median)");
+        printf("| operation | library | kernel | kernel, rules by text | kernel, byte compare | second | library / kernel | / by text | / byte compare | / second |\n");
+        printf("|---|--:|--:|--:|--:|--:|--:|--:|--:|--:|\n");
+        for (int i = 0; i < n_ops; i++) {
+            struct operation *o = &ops[i];
+            if ((o->what == FEED) != text_part)
+                continue;
+            double best[SIDES] = {0};
+            printf("| %s |", o->name);
+            for (int side = 0; side < SIDES; side++) {
+                if (!o->runs_on[side]) {
+                    printf(" |");
+                    continue;
+                }
+                qsort(o->time[side], (size_t)rounds, sizeof(double), by_size);
+                double median = o->time[side][rounds / 2];
+                best[side] = o->time[side][0];
+                if (text_part)
+                    printf(" %.0f (%.0f) |", 1e3 / best[side], 1e3 / median);
+                else
+                    printf(" %.1f (%.1f) |", best[side], median);
+            }
+            for (int side = 1; side < SIDES; side++)
+                if (o->runs_on[side])
+                    printf(" %.2f |", best[LIBRARY] / best[side]);
+                else
+                    printf(" |");
+            printf("\n");
+        }
+    }
+}
+
+/* ---- the two programs */
+
+/* Processor time of one run with the file as standard input, in ns; its output's first bytes go to `out`. */
+static double run_program(char *const argv[], const char *file, char *out, size_t room, double *wall)
+{
+    int pipe_ends[2], status;
+    struct rusage used;
+    struct timespec a, b;
+    size_t n = 0;
+    ssize_t got;
+    if (pipe(pipe_ends))
+        fail("no pipe");
+    clock_gettime(CLOCK_MONOTONIC, &a);
+    pid_t child = fork();
+    if (child == 0) {
+        int in = open(file, O_RDONLY);
+        dup2(in, 0);
+        dup2(pipe_ends[1], 1);
+        close(pipe_ends[0]);
+        execv(argv[0], argv);
+        _exit(127);
+    }
+    close(pipe_ends[1]);
+    while ((got = read(pipe_ends[0], out + n, room - 1 - n)) > 0)
+        n += (size_t)got;
+    out[n] = 0;
+    close(pipe_ends[0]);
+    wait4(child, &status, 0, &used);
+    clock_gettime(CLOCK_MONOTONIC, &b);
+    if (status)
+        fail("a program did not end well");
+    *wall = (double)(b.tv_sec - a.tv_sec) * 1e9 + (double)(b.tv_nsec - a.tv_nsec);
+    return ((double)used.ru_utime.tv_sec + (double)used.ru_stime.tv_sec) * 1e9 + ((double)used.ru_utime.tv_usec + (double)used.ru_stime.tv_usec) * 1e3;
+}
+
+static void programs(int rounds, const char *directory, char *ours, char *theirs)
+{
+    static const char *const size[2] = {"short", "long"};
+    char file[4096];
+    char *argv[2][3] = {{ours, NULL, NULL}, {theirs, "program", NULL}};
+    if (access(ours, X_OK) || access(theirs, X_OK)) {
+        printf("\nThe whole programs are left out: %s or %s is not there.\n", ours, theirs);
+        return;
+    }
+    printf("\nThe whole programs, rule text on standard input. MB per second of processor time (of time on the clock), best\n\n");
+    printf("| rule text | program | second program | program / second, processor time |\n|---|--:|--:|--:|\n");
+    for (int kind = 0; kind < 2; kind++) {
+        double best[2] = {1e30, 1e30}, best_wall[2] = {1e30, 1e30};
+        char out[2][256];
+        snprintf(file, sizeof file, "%s/text.%s", directory, size[kind]);
+        FILE *f = fopen(file, "w");
+        if (!f || fwrite(text[KNOWN][kind], 1, text_len[KNOWN][kind], f) != text_len[KNOWN][kind] || fclose(f))
+            fail("cannot write the rule text");
+        for (int round = 0; round < rounds; round++)
+            for (int p = 0; p < 2; p++) {
+                double wall, t = run_program(argv[p], file, out[p], sizeof out[p], &wall);
+                if (t < best[p])
+                    best[p] = t;
+                if (wall < best_wall[p])
+                    best_wall[p] = wall;
+            }
+        if (strcmp(out[0], out[1]))
+            fail("the two programs write different reports");
+        double bytes = (double)text_len[KNOWN][kind];
+        printf("| pairs of one table; %s | %.0f (%.0f) | %.0f (%.0f) | %.2f |\n", size[kind], bytes / best[0] * 1e3, bytes / best_wall[0] * 1e3,
+               bytes / best[1] * 1e3, bytes / best_wall[1] * 1e3, best[0] / best[1]);
+        unlink(file);
+    }
+}
+
+static void profile(const char *what, int l, int kind)
+{
+    if (!strcmp(what, "question"))
+        for (int i = 0; i < 25; i++)
+            ask(LIBRARY, l, kind, asked[l][kind][BY_6], QUESTIONS);
+    else if (!strcmp(what, "damage"))
+        for (int i = 0; i < 25; i++)
+            ask(LIBRARY, l, kind, asked[l][kind][EMPTY], QUESTIONS);
+    else if (!strcmp(what, "change"))
+        for (int i = 0; i < 25; i++)
+            do_changes(LIBRARY, kind);
+    else if (!strcmp(what, "fresh"))
+        feed(LIBRARY, FRESH, kind, total);
+    else if (!strcmp(what, "blank"))
+        feed(LIBRARY, BLANK, 0, total);
+    else
+        feed(LIBRARY, KNOWN, kind, total);
+}
+
+int main(int argc, char **argv)
+{
+    bool profiling = argc > 3 && !strcmp(argv[1], "profile");
+    int rounds = argc > 2 && !profiling ? atoi(argv[1]) : 1;
+    size_t megabytes = profiling ? 4 : argc > 2 ? (size_t)atoi(argv[2]) : 1;
+    if (argc < 4 || rounds < 1 || rounds > MOST_ROUNDS)
+        fail("usage: bench ROUNDS MEGABYTES DIRECTORY [PROGRAM SECOND]");
+    total = megabytes * 1000000;
+    make_labels();
+    make_rules();
+    make_tables();
+    make_questions();
+    make_changes();
+    for (int which = 0; which < TEXTS; which++)
+        for (int kind = 0; kind < (which == BLANK ? 1 : 2); kind++)
+            make_text(which, kind, which == FRESH ? 1 << 20 : total);
+    if (profiling) {
+        profile(argv[2], atoi(argv[3]), argc > 4 ? atoi(argv[4]) : 0);
+        return 0;
+    }
+    check_questions();
+    add_all();
+    for (int round = 0; round < rounds; round++)
+        for (int i = 0; i < n_ops; i++)
+            for (int side = 0; side < SIDES; side++)
+                time_one(&ops[i], side, round);
+    print_all(rounds);
+    if (argc > 5)
+        programs(rounds, argv[3], argv[4], argv[5]);
+    return 0;
+}

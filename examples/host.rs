@@ -1,0 +1,386 @@
+//! A host of the library in Rust: it loads a rule file in pieces, asks, changes, revokes, maps and lists.
+//!
+//!   rustc -O --edition 2021 -L target/staticlib examples/host.rs -o host && ./host examples/store_north.rules
+//!
+//! examples/host.c is the same in C; both write examples/host.expected. The module `balqirven` is the interface with safe functions:
+//! copy it. A slice gives what include/balqirven.h asks of a host (valid pointers, parts that do not overlap), so nothing else has to be tested.
+
+#[allow(dead_code)]
+mod balqirven {
+    pub const LABELS: usize = 16384;
+    pub const ENTRIES: usize = 840;
+    pub const WORDS: usize = 36;
+    pub const LINE: usize = 600;
+
+    /// The category n, 1 to 63, as the bit that it has in a set.
+    pub fn category(n: u32) -> u64 {
+        1 << (64 - n)
+    }
+
+    #[repr(C)]
+    #[derive(Clone, Copy)]
+    pub struct Loader {
+        pub kept: usize,
+        pub lines: u32,
+        pub accepted: u32,
+        pub skipped: u32,
+        pub refused: u32,
+        pub first: u32,
+        pub reason: u8,
+    }
+
+    #[repr(C)]
+    #[derive(Clone, Copy)]
+    pub struct Report {
+        pub lines: u32,
+        pub accepted: u32,
+        pub skipped: u32,
+        pub refused: u32,
+        pub first: u32,
+        pub reason: u8,
+    }
+
+    #[repr(C)]
+    #[derive(Clone, Copy)]
+    pub struct Record {
+        pub label: u64,
+        pub level: u64,
+        pub set: u64,
+    }
+
+    #[repr(C)]
+    struct Written {
+        refused: bool,
+        number: u8,
+    }
+
+    #[repr(C)]
+    struct Counted {
+        refused: bool,
+        number: u8,
+        count: usize,
+    }
+
+    #[repr(C)]
+    struct Taken {
+        refused: bool,
+        number: u8,
+        loader: Loader,
+    }
+
+    #[repr(C)]
+    struct Finished {
+        refused: bool,
+        number: u8,
+        report: Report,
+        loader: Loader,
+    }
+
+    #[repr(C)]
+    struct Length {
+        refused: bool,
+        number: u8,
+        length: usize,
+    }
+
+    #[repr(C)]
+    struct Mapped {
+        kind: u8,
+        number: u8,
+        level: u8,
+        count: u32,
+        set: u64,
+    }
+
+    #[repr(C)]
+    struct Lowest {
+        kind: u8,
+        number: u8,
+        label: usize,
+    }
+
+    #[repr(C)]
+    struct Shown {
+        kind: u8,
+        number: u8,
+        bringup: bool,
+    }
+
+    #[repr(C)]
+    struct Part {
+        refused: bool,
+        number: u8,
+        start: usize,
+        length: usize,
+    }
+
+    type Bytes = *const u8;
+
+    #[rustfmt::skip]
+    #[link(name = "host", kind = "static")]
+    extern "C" {
+        fn bq_fresh_table(l: *mut u8, ln: usize, e: Bytes, en: usize, w: *mut u64, wn: usize) -> Written;
+        fn bq_fresh_loader() -> Loader;
+        fn bq_piece(l: *mut u8, ln: usize, e: *mut u8, en: usize, w: *mut u64, wn: usize, line: *mut u8, line_n: usize, loader: Loader, text: Bytes, text_n: usize) -> Taken;
+        fn bq_end(l: *mut u8, ln: usize, e: *mut u8, en: usize, w: *mut u64, wn: usize, line: *mut u8, line_n: usize, loader: Loader) -> Finished;
+        fn bq_change(l: *mut u8, ln: usize, e: *mut u8, en: usize, w: *mut u64, wn: usize, text: Bytes, text_n: usize) -> Written;
+        fn bq_onlycap(l: *mut u8, ln: usize, e: *mut u8, en: usize, w: *mut u64, wn: usize, text: Bytes, text_n: usize) -> Written;
+        fn bq_mapping(l: *mut u8, ln: usize, e: *mut u8, en: usize, w: *mut u64, wn: usize, text: Bytes, text_n: usize) -> Written;
+        fn bq_revoke(l: Bytes, ln: usize, e: *mut u8, en: usize, w: *const u64, wn: usize, label: Bytes, label_n: usize) -> Counted;
+        fn bq_by_label(l: Bytes, ln: usize, e: Bytes, en: usize, w: *const u64, wn: usize, label: Bytes, label_n: usize) -> Mapped;
+        fn bq_by_level(l: Bytes, ln: usize, e: Bytes, en: usize, w: *const u64, wn: usize, level: u64, set: u64) -> Lowest;
+        fn bq_lowest_in_run(records: *const Record, n: usize, level: u64, set: u64) -> Lowest;
+        fn bq_question(l: Bytes, ln: usize, e: Bytes, en: usize, w: *const u64, wn: usize, subject: Bytes, subject_n: usize, object: Bytes, object_n: usize, request: Bytes, request_n: usize, capable: bool) -> Shown;
+        fn bq_list_rule(l: Bytes, ln: usize, e: Bytes, en: usize, w: *const u64, wn: usize, k: usize, out: *mut u8, out_n: usize) -> Length;
+        fn bq_label(l: Bytes, ln: usize, e: Bytes, en: usize, w: *const u64, wn: usize, k: usize) -> Part;
+    }
+
+    /// A refusal, by 01's number.
+    #[derive(Clone, Copy, Debug, PartialEq)]
+    pub struct Refused(pub u8);
+
+    /// The answer to a question: rule numbers are 01's.
+    #[derive(Clone, Copy, Debug, PartialEq)]
+    pub enum Answer {
+        Granted { rule: u8, bringup: bool },
+        Denied { rule: u8 },
+        Override { rule: u8 },
+        Refused(u8),
+    }
+
+    /// The mapping of a label.
+    pub struct Mapping {
+        pub level: u8,
+        pub set: u64,
+        pub count: u32,
+    }
+
+    /// The tables in memory of the host's. A damaged one is refused by every call.
+    pub struct Tables {
+        pub labels: [u8; LABELS],
+        pub entries: [u8; ENTRIES],
+        pub words: [u64; WORDS],
+    }
+
+    fn done(w: Written) -> Result<(), Refused> {
+        if w.refused { Err(Refused(w.number)) } else { Ok(()) }
+    }
+
+    fn found(w: Lowest) -> Result<Option<usize>, Refused> {
+        match w.kind {
+            0 => Ok(Some(w.label)),
+            1 => Ok(None),
+            _ => Err(Refused(w.number)),
+        }
+    }
+
+    // The three parts as pointers and lengths: to write, to read, or with only the entries to write.
+    macro_rules! call {
+        ($f:ident, write $t:expr $(, $x:expr)*) => {
+            unsafe { $f($t.labels.as_mut_ptr(), LABELS, $t.entries.as_mut_ptr(), ENTRIES, $t.words.as_mut_ptr(), WORDS $(, $x)*) }
+        };
+        ($f:ident, read $t:expr $(, $x:expr)*) => {
+            unsafe { $f($t.labels.as_ptr(), LABELS, $t.entries.as_ptr(), ENTRIES, $t.words.as_ptr(), WORDS $(, $x)*) }
+        };
+    }
+
+    impl Tables {
+        /// A fresh table.
+        pub fn fresh() -> Box<Tables> {
+            let mut t = Box::new(Tables { labels: [0; LABELS], entries: [0; ENTRIES], words: [0; WORDS] });
+            let w = unsafe { bq_fresh_table(t.labels.as_mut_ptr(), LABELS, t.entries.as_ptr(), ENTRIES, t.words.as_mut_ptr(), WORDS) };
+            assert!(!w.refused);
+            t
+        }
+
+        pub fn change(&mut self, text: &[u8]) -> Result<(), Refused> {
+            done(call!(bq_change, write self, text.as_ptr(), text.len()))
+        }
+
+        pub fn override_list(&mut self, text: &[u8]) -> Result<(), Refused> {
+            done(call!(bq_onlycap, write self, text.as_ptr(), text.len()))
+        }
+
+        pub fn mapping(&mut self, text: &[u8]) -> Result<(), Refused> {
+            done(call!(bq_mapping, write self, text.as_ptr(), text.len()))
+        }
+
+        pub fn revoke(&mut self, label: &[u8]) -> Result<usize, Refused> {
+            let w = unsafe {
+                bq_revoke(self.labels.as_ptr(), LABELS, self.entries.as_mut_ptr(), ENTRIES, self.words.as_ptr(), WORDS, label.as_ptr(), label.len())
+            };
+            if w.refused { Err(Refused(w.number)) } else { Ok(w.count) }
+        }
+
+        pub fn by_label(&self, label: &[u8]) -> Result<Option<Mapping>, Refused> {
+            let m = call!(bq_by_label, read self, label.as_ptr(), label.len());
+            match m.kind {
+                0 => Ok(Some(Mapping { level: m.level, set: m.set, count: m.count })),
+                1 => Ok(None),
+                _ => Err(Refused(m.number)),
+            }
+        }
+
+        pub fn by_level(&self, level: u64, set: u64) -> Result<Option<usize>, Refused> {
+            found(call!(bq_by_level, read self, level, set))
+        }
+
+        pub fn question(&self, subject: &[u8], object: &[u8], request: &[u8], capable: bool) -> Answer {
+            let d = call!(bq_question, read self, subject.as_ptr(), subject.len(), object.as_ptr(), object.len(), request.as_ptr(), request.len(), capable);
+            match d.kind {
+                0 => Answer::Granted { rule: d.number, bringup: d.bringup },
+                1 => Answer::Denied { rule: d.number },
+                2 => Answer::Override { rule: d.number },
+                _ => Answer::Refused(d.number),
+            }
+        }
+
+        /// Rule k as a line, at the front of `out`; 519 bytes are enough for any.
+        pub fn list_rule<'a>(&self, k: usize, out: &'a mut [u8]) -> Result<&'a [u8], Refused> {
+            let r = call!(bq_list_rule, read self, k, out.as_mut_ptr(), out.len());
+            if r.refused { Err(Refused(r.number)) } else { Ok(&out[..r.length]) }
+        }
+
+        /// Label k: the very part of the label store that holds it.
+        pub fn label(&self, k: usize) -> Result<&[u8], Refused> {
+            let p = call!(bq_label, read self, k);
+            if p.refused { Err(Refused(p.number)) } else { Ok(&self.labels[p.start..p.start + p.length]) }
+        }
+    }
+
+    /// The lowest label number of a run's records that have this level and this set.
+    pub fn lowest_in_run(run: &[Record], level: u64, set: u64) -> Result<Option<usize>, Refused> {
+        found(unsafe { bq_lowest_in_run(run.as_ptr(), run.len(), level, set) })
+    }
+
+    /// Rule text on its way into tables.
+    pub struct Load {
+        line: [u8; LINE],
+        loader: Loader,
+    }
+
+    impl Load {
+        pub fn fresh() -> Load {
+            Load { line: [0; LINE], loader: unsafe { bq_fresh_loader() } }
+        }
+
+        pub fn piece(&mut self, t: &mut Tables, text: &[u8]) -> Result<(), Refused> {
+            let r = call!(bq_piece, write t, self.line.as_mut_ptr(), LINE, self.loader, text.as_ptr(), text.len());
+            self.loader = r.loader;
+            if r.refused { Err(Refused(r.number)) } else { Ok(()) }
+        }
+
+        pub fn end(&mut self, t: &mut Tables) -> Result<Report, Refused> {
+            let r = call!(bq_end, write t, self.line.as_mut_ptr(), LINE, self.loader);
+            self.loader = r.loader;
+            if r.refused { Err(Refused(r.number)) } else { Ok(r.report) }
+        }
+    }
+}
+
+use balqirven::{category, lowest_in_run, Answer, Load, Record, Refused, Tables};
+use std::fs::File;
+use std::io::Read;
+
+/// Loads a file in pieces of a size that has nothing to do with its lines.
+fn load(t: &mut Tables, path: &str) -> std::io::Result<Result<(), Refused>> {
+    let mut file = File::open(path)?;
+    let mut piece = [0; 37];
+    let mut text = Load::fresh();
+    loop {
+        let n = file.read(&mut piece)?;
+        if n == 0 {
+            break;
+        }
+        if let Err(refused) = text.piece(t, &piece[..n]) {
+            return Ok(Err(refused));
+        }
+    }
+    Ok(text.end(t).map(|r| {
+        print!("load: {} lines, {} accepted, {} skipped, {} refused", r.lines, r.accepted, r.skipped, r.refused);
+        if r.refused > 0 {
+            print!(", the first at line {} for reason {}", r.first, r.reason);
+        }
+        println!();
+    }))
+}
+
+fn ask(t: &Tables, subject: &str, object: &str, request: &str, capable: bool) {
+    let answer = match t.question(subject.as_bytes(), object.as_bytes(), request.as_bytes(), capable) {
+        Answer::Granted { rule, bringup } => format!("granted {rule}{}", if bringup { " b" } else { "" }),
+        Answer::Denied { rule } => format!("denied {rule}"),
+        Answer::Override { rule } => format!("override {rule}"),
+        Answer::Refused(number) => format!("refused {number}"),
+    };
+    println!("may {subject} have {request} to {object}{}: {answer}", if capable { " (override capability)" } else { "" });
+}
+
+fn show(what: &str, answer: Result<(), Refused>) {
+    match answer {
+        Ok(()) => println!("{what}: done"),
+        Err(Refused(number)) => println!("{what}: refused {number}"),
+    }
+}
+
+fn main() {
+    let Some(path) = std::env::args().nth(1) else {
+        eprintln!("usage: host RULEFILE");
+        std::process::exit(2);
+    };
+    let mut tables = Tables::fresh();
+    let t = &mut *tables;
+    show("fresh table", Ok(()));
+    match load(t, &path) {
+        Err(error) => {
+            eprintln!("{path}: {error}");
+            std::process::exit(1);
+        }
+        Ok(Err(Refused(number))) => {
+            println!("load: refused {number}");
+            std::process::exit(1);
+        }
+        Ok(Ok(())) => {}
+    }
+    ask(t, "ClimateProbe_StoreNorth_01_Temp", "Air_StoreNorth_01", "w", false);
+    ask(t, "ClimateProbe_StoreNorth_01_Temp", "Air_StoreNorth_02", "w", false);
+    ask(t, "Alarm", "Air_StoreNorth_02", "r", false);
+    ask(t, "Desk", "Air_StoreNorth_01", "r", false);
+    ask(t, "Desk", "Air_StoreNorth_01", "r", true);
+    ask(t, "Desk", "Air_StoreNorth_01", "rt", true);
+
+    show("change 'Alarm Archive r -'", t.change(b"Alarm Archive r -"));
+    show("change 'Alarm Alarm r -'", t.change(b"Alarm Alarm r -"));
+    ask(t, "Alarm", "Archive", "r", false);
+
+    if let Ok(count) = t.revoke(b"Recorder") {
+        println!("revoke 'Recorder': {count} rules");
+    }
+    ask(t, "Recorder", "Archive", "a", false);
+
+    show("override list 'Desk Alarm'", t.override_list(b"Desk Alarm"));
+    ask(t, "Recorder", "Archive", "a", true);
+    ask(t, "Desk", "Archive", "a", true);
+
+    show("mapping 'Archive 9 1 63'", t.mapping(b"Archive 9 1 63"));
+    if let Ok(Some(m)) = t.by_label(b"Archive") {
+        println!("Archive: level {}, {} categories", m.level, m.count);
+    }
+    if let Ok(Some(k)) = t.by_level(9, category(1) | category(63)) {
+        if let Ok(label) = t.label(k) {
+            println!("level 9 with these: label {k}, {}", String::from_utf8_lossy(label));
+        }
+    }
+    let run = [(7, 9), (5, 9), (3, 8)].map(|(label, level)| Record { label, level, set: category(1) });
+    if let Ok(Some(k)) = lowest_in_run(&run, 9, category(1)) {
+        println!("lowest of the run: label {k}");
+    }
+    let mut out = [0; 519];
+    let mut k = 0;
+    while let Ok(text) = t.list_rule(k, &mut out) {
+        print!("rule {k}: {}", String::from_utf8_lossy(text));
+        k += 1;
+    }
+
+    t.words[1] = 257; // a damaged state: every call refuses it, and leaves it as it is
+    show("change on 257 rules", t.change(b"Alarm Archive r -"));
+}

@@ -1,0 +1,690 @@
+/* Runs a call script over the static library: one call a line from standard input, one answer a line to standard output, in the forms of
+ * tests/second/FORMAT.md, so that `second script` and this program can be compared byte for byte.
+ *
+ *   gcc -O2 -o driver tests/driver.c target/staticlib/libhost.a
+ *   driver               every lent part is memory of its own, of exactly its size, so that valgrind sees one byte too far
+ *   driver guard-end     every lent part ends at the end of a page, and the page behind it can neither be read nor written
+ *   driver guard-front   every lent part begins at the beginning of a page, and the page before it can neither be read nor written
+ *
+ * Beyond FORMAT.md the driver tests what a second implementation cannot show. Each of these words in an answer is a fault of the library:
+ *   astray    a label's part does not lie where label k's place in the lent store is
+ *   stray     a field of an answer is not 0 where the header says that it is
+ *   touched   a call wrote into text, labels or records that it was lent to read
+ *   against   bq_lowest_in_run and bq_lowest_of disagree, or bq_label_check and bq_label; both answers are given
+ *   moved     a refused piece or end call handed back another loader than it was given
+ */
+#define _GNU_SOURCE
+#include "../include/balqirven.h"
+
+#include <errno.h>
+#include <stdio.h>
+#include <stdlib.h>
+#include <string.h>
+#include <sys/mman.h>
+#include <unistd.h>
+
+/* ---- memory of exactly its size */
+
+static enum { EXACT, GUARD_END, GUARD_FRONT } guard;
+
+static void no_memory(void) {
+    fprintf(stderr, "driver: no memory\n");
+    exit(2);
+}
+
+/* Under a guard: pages between two that cannot be touched, used again and again. */
+static struct slot {
+    uint8_t *pages;
+    size_t room;
+    bool taken;
+} slots[256];
+static size_t slot_count;
+
+static void *lend_guarded(size_t bytes) {
+    size_t page = 4096, room = page;
+    while (room < bytes) room *= 2;
+    struct slot *slot = slots;
+    while (slot < slots + slot_count && (slot->taken || slot->room != room)) slot++;
+    if (slot == slots + slot_count) {
+        if (slot_count == sizeof slots / sizeof *slots) no_memory();
+        uint8_t *all = mmap(NULL, room + 2 * page, PROT_NONE, MAP_PRIVATE | MAP_ANONYMOUS, -1, 0);
+        if (all == MAP_FAILED || mprotect(all + page, room, PROT_READ | PROT_WRITE) != 0) no_memory();
+        slot_count++;
+        slot->pages = all + page;
+        slot->room = room;
+    }
+    slot->taken = true;
+    return guard == GUARD_FRONT ? slot->pages : slot->pages + (room - bytes);
+}
+
+static void *lend(size_t bytes) {
+    if (guard != EXACT) return lend_guarded(bytes);
+    void *memory = malloc(bytes); /* glibc gives a pointer that is not NULL for 0 bytes too */
+    if (memory == NULL) no_memory();
+    return memory;
+}
+
+static void back(void *memory) {
+    if (guard == EXACT) {
+        free(memory);
+        return;
+    }
+    for (struct slot *slot = slots; memory != NULL && slot < slots + slot_count; slot++) {
+        /* a part of size 0 may lie at the very end */
+        if ((uint8_t *)memory >= slot->pages && (uint8_t *)memory <= slot->pages + slot->room) {
+            slot->taken = false;
+            return;
+        }
+    }
+}
+
+/* ---- output */
+
+static char out_text[1 << 20];
+static size_t out_used;
+
+static void flush_out(void) {
+    size_t done = 0;
+    while (done < out_used) {
+        ssize_t n = write(1, out_text + done, out_used - done);
+        if (n < 0 && errno == EINTR) continue;
+        if (n <= 0) {
+            fprintf(stderr, "driver: cannot write\n");
+            exit(2);
+        }
+        done += (size_t)n;
+    }
+    out_used = 0;
+}
+
+static void put_bytes(const char *bytes, size_t length) {
+    while (length > 0) {
+        if (out_used == sizeof out_text) flush_out();
+        size_t room = sizeof out_text - out_used, part = length < room ? length : room;
+        memcpy(out_text + out_used, bytes, part);
+        out_used += part;
+        bytes += part;
+        length -= part;
+    }
+}
+
+static void put(const char *text) { put_bytes(text, strlen(text)); }
+
+static void put_number(uint64_t number) {
+    char digits[20];
+    size_t at = sizeof digits;
+    do {
+        digits[--at] = (char)('0' + number % 10);
+        number /= 10;
+    } while (number > 0);
+    put_bytes(digits + at, sizeof digits - at);
+}
+
+static void put_word_number(const char *word, uint64_t number) {
+    put(word);
+    put(" ");
+    put_number(number);
+}
+
+static const char HEX[] = "0123456789abcdef";
+
+static void put_hex(const uint8_t *bytes, size_t length) {
+    if (length == 0) {
+        put("-");
+        return;
+    }
+    for (size_t i = 0; i < length; i++) {
+        char two[2] = {HEX[bytes[i] >> 4], HEX[bytes[i] & 15]};
+        put_bytes(two, 2);
+    }
+}
+
+/* ---- the lent state */
+
+static uint8_t *labels, *entries, *line_part;
+static uint64_t *words;
+static size_t labels_len, entries_len, words_len, line_len;
+static bq_loader loader;
+
+#define TABLES labels, labels_len, entries, entries_len, words, words_len
+
+static void *zeros(size_t bytes) {
+    void *memory = lend(bytes);
+    memset(memory, 0, bytes);
+    return memory;
+}
+
+/* New memory of full size, zero everywhere, which is then made a fresh table. */
+static bq_written fresh(void) {
+    back(labels);
+    back(entries);
+    back(words);
+    labels = zeros(labels_len = BQ_LABELS);
+    entries = zeros(entries_len = BQ_ENTRIES);
+    words = zeros((words_len = BQ_WORDS) * sizeof *words);
+    return bq_fresh_table(TABLES);
+}
+
+static void fresh_loader(void) {
+    back(line_part);
+    line_part = zeros(line_len = BQ_LINE);
+    loader = bq_fresh_loader();
+}
+
+/* The part gets another size: it is cut at its end, or zeros are added. */
+static void *resized(void *part, size_t old, size_t new) {
+    uint8_t *memory = lend(new);
+    size_t both = old < new ? old : new;
+    memcpy(memory, part, both);
+    memset(memory + both, 0, new - both);
+    back(part);
+    return memory;
+}
+
+/* ---- the words of a line */
+
+typedef struct {
+    const char *text;
+    size_t length;
+} word;
+
+static bool blank(char c) { return c == ' ' || c == '\t' || c == '\n' || c == '\f' || c == '\r'; }
+
+/* Takes the next word off the front of [*at, end); an empty word where there is none. */
+static word next_word(const char **at, const char *end) {
+    const char *p = *at;
+    while (p < end && blank(*p)) p++;
+    word w = {p, 0};
+    while (p < end && !blank(*p)) p++;
+    w.length = (size_t)(p - w.text);
+    *at = p;
+    return w;
+}
+
+static bool is(word w, const char *text) { return w.length == strlen(text) && memcmp(w.text, text, w.length) == 0; }
+
+static bool read_number(word w, uint64_t *number) {
+    if (w.length == 0) return false;
+    uint64_t n = 0;
+    for (size_t i = 0; i < w.length; i++) {
+        if (w.text[i] < '0' || w.text[i] > '9') return false;
+        uint64_t digit = (uint64_t)(w.text[i] - '0');
+        if (n > (UINT64_MAX - digit) / 10) return false;
+        n = n * 10 + digit;
+    }
+    *number = n;
+    return true;
+}
+
+/* n,l,s */
+static bool read_record(word w, bq_record *record) {
+    uint64_t *fields[3] = {&record->label, &record->level, &record->set};
+    const char *at = w.text, *end = w.text + w.length;
+    for (int i = 0; i < 3; i++) {
+        const char *comma = memchr(at, ',', (size_t)(end - at));
+        if ((comma != NULL) != (i < 2)) return false;
+        const char *stop = comma ? comma : end;
+        if (!read_number((word){at, (size_t)(stop - at)}, fields[i])) return false;
+        at = stop + 1;
+    }
+    return true;
+}
+
+static int digit_of(char c) {
+    if (c >= '0' && c <= '9') return c - '0';
+    if (c >= 'a' && c <= 'f') return c - 'a' + 10;
+    if (c >= 'A' && c <= 'F') return c - 'A' + 10;
+    return -1;
+}
+
+/* Bytes that a call is lent to read, and a copy to see that it only read them. */
+typedef struct {
+    uint8_t *bytes, *copy;
+    size_t length;
+} text;
+
+static bool read_hex(word w, text *t) {
+    bool none = w.length == 1 && w.text[0] == '-', plain = w.length > 1 && w.text[0] == '=';
+    if (w.length == 0 || (!none && !plain && w.length % 2 != 0)) return false;
+    size_t length = none ? 0 : plain ? w.length - 1 : w.length / 2;
+    uint8_t *bytes = lend(length);
+    for (size_t i = 0; i < length; i++) {
+        if (plain && w.text[i + 1] >= 33 && w.text[i + 1] <= 126) {
+            bytes[i] = (uint8_t)w.text[i + 1];
+            continue;
+        }
+        int high = plain ? -1 : digit_of(w.text[2 * i]), low = plain ? -1 : digit_of(w.text[2 * i + 1]);
+        if (plain || high < 0 || low < 0) {
+            back(bytes);
+            return false;
+        }
+        bytes[i] = (uint8_t)(high * 16 + low);
+    }
+    t->bytes = bytes;
+    t->length = length;
+    t->copy = lend(length);
+    memcpy(t->copy, bytes, length);
+    return true;
+}
+
+static void give_back(text *t) {
+    back(t->bytes);
+    back(t->copy);
+    t->bytes = t->copy = NULL;
+}
+
+/* After a call that was lent the text to read. */
+static void read_only(text *t) {
+    if (memcmp(t->bytes, t->copy, t->length) != 0) put(" touched");
+    give_back(t);
+}
+
+/* ---- answers */
+
+static void put_refused(uint8_t number) { put_word_number("refused", number); }
+
+static void put_written(bq_written w) {
+    if (w.refused) {
+        put_refused(w.number);
+    } else {
+        put("done");
+        if (w.number != 0) put(" stray");
+    }
+}
+
+static bool same_loader(bq_loader a, bq_loader b) {
+    return a.kept == b.kept && a.lines == b.lines && a.accepted == b.accepted && a.skipped == b.skipped && a.refused == b.refused &&
+           a.first == b.first && a.reason == b.reason;
+}
+
+static void put_report(bq_report r) {
+    put_word_number("report", r.lines);
+    put_word_number("", r.accepted);
+    put_word_number("", r.skipped);
+    put_word_number("", r.refused);
+    put_word_number("", r.first);
+    put_word_number("", r.reason);
+}
+
+static void put_finished(bq_finished f, bq_loader before) {
+    if (f.refused) {
+        put_refused(f.number);
+        if (f.report.lines | f.report.accepted | f.report.skipped | f.report.refused | f.report.first | f.report.reason) put(" stray");
+        if (!same_loader(f.loader, before)) put(" moved");
+    } else {
+        put_report(f.report);
+        if (f.number != 0) put(" stray");
+    }
+}
+
+static void put_mapped(bq_mapped m) {
+    bool empty = m.level == 0 && m.set == 0 && m.count == 0;
+    if (m.kind == BQ_MAPPED) {
+        put_word_number("mapping", m.level);
+        put_word_number("", m.set);
+        put_word_number("", m.count);
+        if (m.number != 0) put(" stray");
+    } else if (m.kind == BQ_UNMAPPED) {
+        put("none");
+        if (m.number != 0 || !empty) put(" stray");
+    } else if (m.kind == BQ_LOOKUP_REFUSED) {
+        put_refused(m.number);
+        if (!empty) put(" stray");
+    } else {
+        put_word_number("kind", m.kind);
+    }
+}
+
+static void put_lowest(bq_lowest l) {
+    if (l.kind == BQ_LABEL) {
+        put_word_number("label", l.label);
+        if (l.number != 0) put(" stray");
+    } else if (l.kind == BQ_NO_LABEL) {
+        put("none");
+        if (l.number != 0 || l.label != 0) put(" stray");
+    } else if (l.kind == BQ_SEARCH_REFUSED) {
+        put_refused(l.number);
+        if (l.label != 0) put(" stray");
+    } else {
+        put_word_number("kind", l.kind);
+    }
+}
+
+static void put_decision(bq_decision d) {
+    static const char *const kinds[] = {"granted", "denied", "override", "refused"};
+    if (d.kind > BQ_REFUSED) {
+        put_word_number("kind", d.kind);
+        return;
+    }
+    put_word_number(kinds[d.kind], d.number);
+    if (d.bringup) put(d.kind == BQ_GRANTED ? " b" : " stray");
+}
+
+/* ---- calls with a little more to them */
+
+/* The run goes to bq_lowest_in_run as records, and to bq_lowest_of as three arrays. There are as many records as the shortest array has
+ * elements: so in turn some of the arrays, never all, get one more element, which would match. */
+static bool call_run(const char *at, const char *end) {
+    static unsigned turn;
+    uint64_t level, set;
+    if (!read_number(next_word(&at, end), &level) || !read_number(next_word(&at, end), &set)) return false;
+    size_t count = 0;
+    for (const char *p = at; next_word(&p, end).length > 0;) count++;
+    bq_record *records = lend(count * sizeof *records);
+    for (size_t i = 0; i < count; i++) {
+        if (!read_record(next_word(&at, end), &records[i])) {
+            back(records);
+            return false;
+        }
+    }
+    uint64_t *field[3];
+    size_t length[3];
+    unsigned longer = turn++ % 7;
+    for (int f = 0; f < 3; f++) {
+        length[f] = count + ((longer >> f) & 1);
+        field[f] = lend(length[f] * sizeof *field[f]);
+        for (size_t i = 0; i < count; i++) field[f][i] = f == 0 ? records[i].label : f == 1 ? records[i].level : records[i].set;
+        if (length[f] > count) field[f][count] = f == 0 ? 0 : f == 1 ? level : set;
+    }
+    bq_lowest one = bq_lowest_in_run(records, count, level, set);
+    bq_lowest other = bq_lowest_of(field[0], length[0], field[1], length[1], field[2], length[2], level, set);
+    put_lowest(one);
+    if (one.kind != other.kind || one.number != other.number || one.label != other.label) {
+        put(" against ");
+        put_lowest(other);
+    }
+    for (size_t i = 0; i < count; i++) {
+        if (records[i].label != field[0][i] || records[i].level != field[1][i] || records[i].set != field[2][i]) {
+            put(" touched");
+            break;
+        }
+    }
+    back(records);
+    for (int f = 0; f < 3; f++) back(field[f]);
+    return true;
+}
+
+/* The part is read only where it is label k's place: its length byte, then the label. */
+static void call_label(uint64_t k) {
+    bq_written check = bq_label_check(TABLES, k);
+    bq_part part = bq_label(TABLES, k);
+    put_written(check);
+    if (part.refused != check.refused || part.number != check.number) {
+        put(" against ");
+        put_written((bq_written){part.refused, part.number});
+    }
+    if (check.refused || part.refused) {
+        put(part.start == 0 && part.length == 0 ? " -" : " astray");
+    } else if (k >= 64 || labels_len != BQ_LABELS || part.start != 256 * k + 1 || part.length != labels[256 * k]) {
+        put(" astray");
+    } else {
+        put(" ");
+        put_hex(labels + part.start, part.length);
+    }
+}
+
+static bool call_poke(const char *at, const char *end) {
+    word part = next_word(&at, end), place = next_word(&at, end), value = next_word(&at, end);
+    uint64_t where, number;
+    if (value.length == 0 || next_word(&at, end).length > 0 || !read_number(place, &where)) return false;
+    if (is(part, "words")) {
+        if (!read_number(value, &number) || where >= words_len) return false;
+        words[where] = number;
+    } else if (is(part, "loader")) {
+        if (!read_number(value, &number) || where > 6) return false;
+        if (where != 0 && number > (where == 6 ? UINT8_MAX : UINT32_MAX)) return false;
+        switch (where) {
+        case 0: loader.kept = number; break;
+        case 1: loader.lines = (uint32_t)number; break;
+        case 2: loader.accepted = (uint32_t)number; break;
+        case 3: loader.skipped = (uint32_t)number; break;
+        case 4: loader.refused = (uint32_t)number; break;
+        case 5: loader.first = (uint32_t)number; break;
+        default: loader.reason = (uint8_t)number; break;
+        }
+    } else {
+        uint8_t *bytes;
+        size_t length;
+        text t;
+        if (is(part, "labels")) {
+            bytes = labels;
+            length = labels_len;
+        } else if (is(part, "entries")) {
+            bytes = entries;
+            length = entries_len;
+        } else if (is(part, "line")) {
+            bytes = line_part;
+            length = line_len;
+        } else {
+            return false;
+        }
+        if (!read_hex(value, &t)) return false;
+        bool fits = where <= length && t.length <= length - where;
+        if (fits) memcpy(bytes + where, t.bytes, t.length);
+        give_back(&t);
+        if (!fits) return false;
+    }
+    put("done");
+    return true;
+}
+
+static bool call_resize(const char *at, const char *end) {
+    word part = next_word(&at, end);
+    uint64_t size;
+    if (!read_number(next_word(&at, end), &size) || next_word(&at, end).length > 0 || size > 1 << 20) return false;
+    if (is(part, "labels")) {
+        labels = resized(labels, labels_len, size);
+        labels_len = size;
+    } else if (is(part, "entries")) {
+        entries = resized(entries, entries_len, size);
+        entries_len = size;
+    } else if (is(part, "words")) {
+        words = resized(words, words_len * sizeof *words, size * sizeof *words);
+        words_len = size;
+    } else if (is(part, "line")) {
+        line_part = resized(line_part, line_len, size);
+        line_len = size;
+    } else {
+        return false;
+    }
+    put("done");
+    return true;
+}
+
+/* The 64-bit FNV-1a hash of a part. A word counts as its eight bytes, lowest first, which is how x86-64 keeps it. */
+static void put_hash(const char *name, const void *part, size_t bytes) {
+    const uint8_t *p = part;
+    uint64_t hash = 0xcbf29ce484222325;
+    for (size_t i = 0; i < bytes; i++) hash = (hash ^ p[i]) * 0x100000001b3;
+    char digits[16];
+    for (int i = 0; i < 16; i++) digits[i] = HEX[(hash >> (60 - 4 * i)) & 15];
+    put(name);
+    put_bytes(digits, 16);
+}
+
+static void call_dump(void) {
+    put_hash("dump labels ", labels, labels_len);
+    put_hash(" entries ", entries, entries_len);
+    put_hash(" words ", words, words_len * sizeof *words);
+    put_hash(" line ", line_part, line_len);
+    put(" counts");
+    for (size_t i = 0; i < 4; i++) {
+        if (i < words_len) {
+            put_word_number("", words[i]);
+        } else {
+            put(" -");
+        }
+    }
+    put_word_number(" loader", loader.kept);
+    put_word_number("", loader.lines);
+    put_word_number("", loader.accepted);
+    put_word_number("", loader.skipped);
+    put_word_number("", loader.refused);
+    put_word_number("", loader.first);
+    put_word_number("", loader.reason);
+}
+
+/* ---- one line */
+
+/* False where the words are no call; then nothing has been done or put. */
+static bool call(const char *at, const char *end) {
+    word name = next_word(&at, end);
+    if (is(name, "run")) return call_run(at, end);
+    if (is(name, "poke")) return call_poke(at, end);
+    if (is(name, "resize")) return call_resize(at, end);
+    word a = next_word(&at, end), b = next_word(&at, end), c = next_word(&at, end), d = next_word(&at, end);
+    size_t given = next_word(&at, end).length ? 5 : d.length ? 4 : c.length ? 3 : b.length ? 2 : a.length ? 1 : 0;
+    text t, object, request;
+    uint64_t number, set;
+    if (given == 0) {
+        if (is(name, "fresh")) {
+            put_written(fresh());
+        } else if (is(name, "freshen")) {
+            put_written(bq_fresh_table(TABLES));
+        } else if (is(name, "freshloader")) {
+            fresh_loader();
+            put("done");
+        } else if (is(name, "end")) {
+            bq_loader before = loader;
+            bq_finished f = bq_end(TABLES, line_part, line_len, loader);
+            loader = f.loader;
+            put_finished(f, before);
+        } else if (is(name, "dump")) {
+            call_dump();
+        } else {
+            return false;
+        }
+        return true;
+    }
+    if (given == 1 && is(name, "label")) {
+        if (!read_number(a, &number)) return false;
+        call_label(number);
+        return true;
+    }
+    if (given == 1) {
+        if (!is(name, "piece") && !is(name, "change") && !is(name, "revoke") && !is(name, "override") && !is(name, "mapping") &&
+            !is(name, "bylabel"))
+            return false;
+        if (!read_hex(a, &t)) return false;
+        switch (name.text[0]) {
+        case 'p': {
+            bq_loader before = loader;
+            bq_taken taken = bq_piece(TABLES, line_part, line_len, loader, t.bytes, t.length);
+            loader = taken.loader;
+            put_written((bq_written){taken.refused, taken.number});
+            if (taken.refused && !same_loader(loader, before)) put(" moved");
+            break;
+        }
+        case 'c': put_written(bq_change(TABLES, t.bytes, t.length)); break;
+        case 'r': {
+            bq_counted counted = bq_revoke(TABLES, t.bytes, t.length);
+            if (counted.refused) {
+                put_refused(counted.number);
+            } else {
+                put_word_number("revoked", counted.count);
+            }
+            if (counted.refused ? counted.count != 0 : counted.number != 0) put(" stray");
+            break;
+        }
+        case 'o': put_written(bq_onlycap(TABLES, t.bytes, t.length)); break;
+        case 'm': put_written(bq_mapping(TABLES, t.bytes, t.length)); break;
+        default: put_mapped(bq_by_label(TABLES, t.bytes, t.length)); break;
+        }
+        read_only(&t);
+        return true;
+    }
+    if (given == 2 && is(name, "bylevel")) {
+        if (!read_number(a, &number) || !read_number(b, &set)) return false;
+        put_lowest(bq_by_level(TABLES, number, set));
+        return true;
+    }
+    if (given == 2 && is(name, "list")) {
+        if (!read_number(a, &number) || !read_hex(b, &t)) return false;
+        bq_length listed = bq_list_rule(TABLES, number, t.bytes, t.length);
+        put_word_number(listed.refused ? "refused" : "length", listed.refused ? listed.number : listed.length);
+        if (listed.refused ? listed.length != 0 : listed.number != 0) put(" stray");
+        put(" ");
+        put_hex(t.bytes, t.length);
+        give_back(&t);
+        return true;
+    }
+    if (given == 4 && is(name, "question")) {
+        if (!is(d, "0") && !is(d, "1")) return false;
+        if (!read_hex(a, &t)) return false;
+        if (!read_hex(b, &object)) {
+            give_back(&t);
+            return false;
+        }
+        if (!read_hex(c, &request)) {
+            give_back(&t);
+            give_back(&object);
+            return false;
+        }
+        put_decision(bq_question(TABLES, t.bytes, t.length, object.bytes, object.length, request.bytes, request.length, is(d, "1")));
+        read_only(&t);
+        read_only(&object);
+        read_only(&request);
+        return true;
+    }
+    return false;
+}
+
+static void do_line(const char *at, const char *end) {
+    const char *p = at;
+    word first = next_word(&p, end);
+    if (first.length == 0 || first.text[0] == '#') return;
+    if (!call(at, end)) put("bad line");
+    put("\n");
+}
+
+/* ---- input, line by line, in blocks */
+
+int main(int count, char **arguments) {
+    if (count == 2 && strcmp(arguments[1], "guard-end") == 0) {
+        guard = GUARD_END;
+    } else if (count == 2 && strcmp(arguments[1], "guard-front") == 0) {
+        guard = GUARD_FRONT;
+    } else if (count != 1) {
+        fprintf(stderr, "usage: driver [guard-end | guard-front]\n");
+        return 2;
+    }
+    size_t room = 1 << 20, start = 0, stop = 0;
+    char *in = malloc(room);
+    if (in == NULL) no_memory();
+    if (fresh().refused) {
+        fprintf(stderr, "driver: a fresh table is refused\n");
+        return 2;
+    }
+    fresh_loader();
+    for (;;) {
+        char *newline = memchr(in + start, '\n', stop - start);
+        if (newline != NULL) {
+            do_line(in + start, newline);
+            start = (size_t)(newline - in) + 1;
+            continue;
+        }
+        memmove(in, in + start, stop - start);
+        stop -= start;
+        start = 0;
+        if (stop == room) {
+            in = realloc(in, room *= 2);
+            if (in == NULL) no_memory();
+        }
+        ssize_t n = read(0, in + stop, room - stop);
+        if (n < 0 && errno == EINTR) continue;
+        if (n < 0) {
+            fprintf(stderr, "driver: cannot read\n");
+            return 2;
+        }
+        if (n == 0) break;
+        stop += (size_t)n;
+    }
+    do_line(in, in + stop);
+    flush_out();
+    free(in);
+    back(labels);
+    back(entries);
+    back(words);
+    back(line_part);
+    return 0;
+}

@@ -1,0 +1,1363 @@
+#!/usr/bin/env python3
+"""Writes the stored corpus, tests/corpus: inputs of the program (NAME.in) and call scripts over the library (NAME.calls, tests/second/FORMAT.md), and by
+the second implementation the outputs that go with them (NAME.out, NAME.answers).
+
+  tests/make_corpus.py
+
+The order is that of 01, the scope paper. What 01 says of a call stands before the call as a comment line that tests/corpus_check holds the answers to:
+
+  # expect: ANSWER              the next call answers exactly this
+  # expect: same NAME           the next call answers what the first call so marked in this script answered
+  # expect: same tables NAME    of a dump: the same but for the kept line and the loader
+  # expect from here: ANSWER    each call answers this, up to the line `# expect from here: any`
+
+These lines are written here from 01, not taken from a program. What the program says to a small input is given here too, and tested as the corpus
+is written. The scripts kernel_*.calls are made of recordings of a running kernel, from the folder named by KERNEL_VECTORS; without it those that are stored
+stay as they are.
+"""
+import os
+import random
+import subprocess
+import sys
+
+HERE = os.path.dirname(os.path.abspath(__file__))
+CORPUS = os.path.join(HERE, "corpus")
+SECOND = os.path.join(HERE, "second", "target", "release", "second")
+MOST = 4294967295
+HUGE = 18446744073709551615
+FIVE = [b"_", b"^", b"*", b"?", b"@"]
+written = []
+
+
+def h(data):
+    return data.hex() or "-"
+
+
+def w(data):
+    """The shorter and plainer way to write bytes in a call, where there is one."""
+    return "=" + data.decode() if data and all(33 <= b <= 126 for b in data) else h(data)
+
+
+def category(n):
+    return 1 << (64 - n)
+
+
+class Script:
+    def __init__(self, name, about):
+        self.name, self.lines = name, ["# " + about]
+
+    def say(self, text):
+        self.lines.append("# " + text)
+
+    def call(self, text, expect=None):
+        if expect is not None:
+            self.lines.append("# expect: " + expect)
+        self.lines.append(text)
+
+    def from_here(self, expect):
+        self.lines.append("# expect from here: " + expect)
+
+    def fresh(self):
+        self.call("fresh", "done")
+        self.call("freshloader", "done")
+
+    def piece(self, text, expect="done"):
+        self.call("piece " + h(text), expect)
+
+    def end(self, expect=None):
+        self.call("end", expect)
+
+    def line(self, text, reason):
+        """One whole line. Reason None: accepted; "skipped"; else the number of its refusal."""
+        self.piece(text + b"\n")
+        self.end("report 1 " + ("1 0 0 0 0" if reason is None else "0 1 0 0 0" if reason == "skipped" else "0 0 1 1 %d" % reason))
+
+    def change(self, text, expect="done"):
+        self.call("change " + h(text), expect)
+
+    def revoke(self, text, expect):
+        self.call("revoke " + w(text), expect)
+
+    def override(self, text, expect="done"):
+        self.call("override " + h(text), expect)
+
+    def mapping(self, text, expect="done"):
+        self.call("mapping " + h(text), expect)
+
+    def bylabel(self, label, expect):
+        self.call("bylabel " + w(label), expect)
+
+    def bylevel(self, level, set_, expect):
+        self.call("bylevel %d %d" % (level, set_), expect)
+
+    def run(self, level, set_, records, expect):
+        self.call(" ".join(["run %d %d" % (level, set_)] + ["%d,%d,%d" % r for r in records]), expect)
+
+    def ask(self, subject, object_, request, expect, capable=0):
+        self.call("question %s %s %s %d" % (w(subject), w(object_), w(request), capable), expect)
+
+    def list(self, k, expect=None, buffer=b"\xee" * 20):
+        """`expect` is the line that is listed, or the number of a refusal."""
+        if isinstance(expect, bytes):
+            said = "length %d %s" % (len(expect), h(expect + buffer[len(expect):]))
+        else:
+            said = None if expect is None else "refused %d %s" % (expect, h(buffer))
+        self.call("list %d %s" % (k, h(buffer)), said)
+
+    def label(self, k, expect):
+        self.call("label %d" % k, "done " + h(expect) if isinstance(expect, bytes) else "refused %d -" % expect)
+
+    def dump(self, name=None, tables=False):
+        self.call("dump", None if name is None else "same " + ("tables " if tables else "") + name)
+
+    def poke(self, part, at, value):
+        self.call("poke %s %d %s" % (part, at, value if isinstance(value, str) else h(value) if isinstance(value, bytes) else value), "done")
+
+    def store(self):
+        path = os.path.join(CORPUS, self.name + ".calls")
+        text = ("\n".join(self.lines) + "\n").encode()
+        with open(path, "wb") as f:
+            f.write(text)
+        made = subprocess.run([SECOND, "script"], input=text, capture_output=True, check=True).stdout
+        with open(os.path.join(CORPUS, self.name + ".answers"), "wb") as f:
+            f.write(made)
+        written.append(self.name)
+
+
+def program(name, text, expect=None):
+    """An input of the program. `expect`: what it writes, one string a line."""
+    made = subprocess.run([SECOND, "program"], input=text, capture_output=True, check=True).stdout
+    if expect is not None and made.decode().splitlines() != expect:
+        sys.exit("%s: expected %s, but the second implementation writes %s" % (name, expect, made))
+    for end, data in ((".in", text), (".out", made)):
+        with open(os.path.join(CORPUS, name + end), "wb") as f:
+            f.write(data)
+    written.append(name)
+
+
+def name_of(k):
+    return FIVE[k] if k < 5 else b"L%02d" % k
+
+
+def labels_to(s, count, start=5):
+    """Labels L05, L06, .. come in until there are `count`, by override lists of eight, and the list is cleared."""
+    for k in range(start, count, 8):
+        s.override(b" ".join(name_of(i) for i in range(k, min(k + 8, count))))
+    s.override(b"-")
+
+
+def pairs():
+    """Different pairs of L05 to L24, in a fixed order: 380."""
+    return [(name_of(a), name_of(b)) for a in range(5, 25) for b in range(5, 25) if a != b]
+
+
+def rules_to(s, count, access=b"r"):
+    s.piece(b"".join(b"%s %s %s\n" % (a, b, access) for a, b in pairs()[:count]))
+    s.end("report %d %d 0 0 0 0" % (count, count))
+
+
+def full(s, labels=64, rules=256, mappings=32):
+    s.fresh()
+    labels_to(s, labels)
+    if rules:
+        rules_to(s, rules)
+    for k in range(mappings):
+        s.mapping(name_of(k) + b" 9 1 63")
+
+
+# ---------------------------------------------------------------------------------------------------------------------------------------------
+# Either side of a limit
+# ---------------------------------------------------------------------------------------------------------------------------------------------
+
+def limits():
+    s = Script("limits", "01, Either side of a limit: each line, the proved ones too.")
+    for n, subject, object_, request, answer in ((1, b"*", b"_", b"r", "denied 1"), (2, b"^", b"Door", b"rx", "granted 2"),
+                                                  (3, b"Door", b"_", b"rw", "denied 7"), (4, b"^", b"*", b"rw", "granted 4"),
+                                                  (5, b"*", b"*", b"r", "denied 1"), (6, b"Door", b"Door", b"rwxa", "granted 5")):
+        s.say("P%d" % n)
+        s.ask(subject, object_, request, answer)
+    s.say("After `Probe3 Air w`: P7, P8, P9")
+    s.line(b"Probe3 Air w", None)
+    s.ask(b"Probe3", b"Air", b"w", "granted 6")
+    s.ask(b"Probe3", b"Air", b"rw", "denied 7")
+    s.ask(b"Air", b"Probe3", b"w", "denied 7")
+    s.say("P10")
+    s.fresh()
+    s.line(b"Probe3 Air rRb", None)
+    s.ask(b"Probe3", b"Air", b"r", "granted 6 b")
+    s.say("P11")
+    s.fresh()
+    s.line(b"A B r", None)
+    s.change(b"A B wa w")
+    s.list(0, b"A B ra\n")
+    s.say("P12")
+    s.mapping(b"Vault7 9 1 63")
+    s.bylabel(b"Vault7", "mapping 9 %d 2" % (category(1) | category(63)))
+
+    s.say("A 255-byte label is taken, 256 is refused 3, in every call that takes a label.")
+    for length, taken in ((254, True), (255, True), (256, False)):
+        long = b"L" * length
+        s.fresh()
+        s.line(long + b" B r", None if taken else 3)
+        s.line(b"B " + long + b" r", None if taken else 3)
+        s.change(long + b" C r -", "done" if taken else "refused 3")
+        s.change(b"C " + long + b" r -", "done" if taken else "refused 3")
+        s.override(b"C " + long, "done" if taken else "refused 3")
+        s.mapping(long + b" 9", "done" if taken else "refused 3")
+        s.bylabel(long, "mapping 9 0 0" if taken else "refused 3")
+        s.ask(long, b"B", b"r", "granted 6" if taken else "refused 3")
+        s.ask(b"B", long, b"r", "granted 6" if taken else "refused 3")
+        s.revoke(long, "revoked 2" if taken else "refused 3")
+    s.say("Two labels that differ only in byte 255 are two labels.")
+    s.fresh()
+    one, two = b"L" * 254 + b"1", b"L" * 254 + b"2"
+    s.line(one + b" B r", None)
+    s.ask(one, b"B", b"r", "granted 6")
+    s.ask(two, b"B", b"r", "denied 7")
+    s.line(two + b" B w", None)
+    s.ask(two, b"B", b"r", "denied 7")
+    s.label(5, one)
+    s.label(7, two)
+    s.line(one + b" " + two + b" rwxatb", None)
+    s.say("The longest line of a listing: 255, 255, six letters, two spaces, a newline: 519.")
+    s.list(2, one + b" " + two + b" rwxatb\n", b"\xee" * 519)
+    s.list(2, 12, b"\xee" * 518)
+
+    s.say("600 blanks are skipped; 601 are refused 1. Also as the last line, without a newline.")
+    for blank in (b" ", b"\t"):
+        for length, reason in ((0, "skipped"), (1, "skipped"), (599, "skipped"), (600, "skipped"), (601, 1), (602, 1)):
+            s.line(blank * length, reason)
+        s.piece(blank * 600)
+        s.end("report 1 0 1 0 0 0")
+        s.piece(blank * 601)
+        s.end("report 1 0 0 1 1 1")
+    s.say("A line or write of 600 bytes is taken, of 601 refused 1.")
+    for length in (599, 600, 601):
+        n = length - 5
+        s.fresh()
+        s.line(b"A B r" + b" " * n, None if length < 601 else 1)
+        s.line(b" " * n + b"A B r", None if length < 601 else 1)
+        s.change((b"A B r -" + b" " * 600)[:length], "done" if length < 601 else "refused 1")
+        s.override((b"A" + b" " * 600)[:length], "done" if length < 601 else "refused 1")
+        s.mapping((b"A 9" + b" 1" * 299)[:length], "refused 1" if length == 601 else "done")
+        s.revoke(b"A" * length, "refused 1" if length == 601 else "refused 3")
+
+    s.say("With 63 labels, a rule naming two new ones is refused 6 and neither enters.")
+    s.fresh()
+    labels_to(s, 63)
+    s.dump("63", True)
+    s.line(b"New1 New2 r", 6)
+    s.dump("63", True)
+    s.change(b"New1 New2 r -", "refused 6")
+    s.dump("63", True)
+    s.label(63, 13)
+    s.say("One new label still enters; then none.")
+    s.line(b"New1 L05 r", None)
+    s.label(63, b"New1")
+    s.line(b"New2 L05 r", 6)
+    s.line(b"New1 L06 r", None)
+    s.label(64, 13)
+    s.say("With 256 rules, a new pair of known labels is refused 7; a known pair is set.")
+    s.fresh()
+    labels_to(s, 25)
+    rules_to(s, 255)
+    a, b = pairs()[255]
+    s.line(a + b" " + b + b" r", None)
+    s.list(255, a + b" " + b + b" r\n")
+    s.dump("256", True)
+    c, d = pairs()[256]
+    s.line(c + b" " + d + b" r", 7)
+    s.change(c + b" " + d + b" r -", "refused 7")
+    s.dump("256", True)
+    s.line(a + b" " + b + b" wx", None)
+    s.list(255, a + b" " + b + b" wx\n")
+    s.change(a + b" " + b + b" - x")
+    s.list(255, a + b" " + b + b" w\n")
+    s.list(256, 13)
+    s.say("256 rules, and a label place free: 7, and the label does not enter.")
+    s.line(b"Other L05 r", 7)
+    s.change(b"Other L05 r -", "refused 7")
+    s.label(25, 13)
+
+    s.say("Category 0 and 64: refused 9. So is a level of 256.")
+    s.fresh()
+    for field, taken in ((b"0", False), (b"1", True), (b"63", True), (b"64", False), (b"000", False), (b"001", True), (b"063", True), (b"064", False),
+                         (b"0001", False), (b"999", False), (b"+1", False), (b"1a", False), (b"-", False), (b"-1", False), (b"\xb2", False)):
+        s.mapping(b"V 9 " + field, "done" if taken else "refused 9")
+        s.mapping(b"V 9 1 " + field, "done" if taken else "refused 9")
+        s.mapping(b"V 9 " + field + b" 1", "done" if taken else "refused 9")
+    for n in range(1, 64):
+        s.mapping(b"V 9 %d" % n)
+        s.bylabel(b"V", "mapping 9 %d 1" % category(n))
+    s.say("All 63 take 181 bytes; repeats count once.")
+    s.mapping(b"V 0 " + b" ".join(b"%d" % n for n in range(1, 64)))
+    s.bylabel(b"V", "mapping 0 %d 63" % (HUGE - 1))
+    s.mapping(b"V 0 " + b" ".join([b"7"] * 100))
+    s.bylabel(b"V", "mapping 0 %d 1" % category(7))
+    for field, level in ((b"0", 0), (b"000", 0), (b"9", 9), (b"009", 9), (b"254", 254), (b"255", 255), (b"256", None), (b"999", None), (b"0000", None),
+                         (b"0255", None), (b"1000", None), (b"x", None), (b"-", None), (b"2 5 ", 2)):
+        s.mapping(b"V " + field, "refused 9" if level is None else "done")
+        if level is not None and b" " not in field:
+            s.bylabel(b"V", "mapping %d 0 0" % level)
+            s.bylevel(level, 0, "label 5")
+    s.say("A level over 255 and the bit that names no category: refused 9, in the table and in a run.")
+    for level, set_, bad in ((255, 0, False), (256, 0, True), (HUGE, 0, True), (0, 1, True), (0, 2, False), (0, HUGE, True), (0, HUGE - 1, False), (256, 1, True)):
+        s.bylevel(level, set_, "refused 9" if bad else "none")
+        s.run(level, set_, [], "refused 9" if bad else "none")
+        s.run(level, set_, [(7, level, set_)], "refused 9" if bad else "label 7")
+
+    s.say("32 mappings: the last one is taken, one more is refused 10, and a mapped label is replaced in its place.")
+    s.fresh()
+    labels_to(s, 40)
+    for k in range(31):
+        s.mapping(name_of(k) + b" 9")
+    s.mapping(name_of(31) + b" 9")
+    s.dump("32")
+    s.mapping(name_of(32) + b" 9", "refused 10")
+    s.mapping(b"Other 9", "refused 10")
+    s.dump("32")
+    s.label(40, 13)
+    s.mapping(name_of(31) + b" 8 5")
+    s.bylabel(name_of(31), "mapping 8 %d 1" % category(5))
+    s.bylevel(8, category(5), "label 31")
+    s.bylevel(9, 0, "label 0")
+    s.say("8 different labels in an override list are taken, 9 are refused 11; repeats count once.")
+    s.fresh()
+    eight = b" ".join(b"P%d" % k for k in range(8))
+    s.override(eight)
+    s.dump("8")
+    s.override(eight + b" P8", "refused 11")
+    s.override(b"P8 " + eight, "refused 11")
+    s.dump("8")
+    s.override(eight + b" " + eight + b" P0")
+    s.dump("8")
+    s.override(b"P3 " * 200)
+    s.override(b" ".join([eight] * 10))
+    s.store()
+
+
+# ---------------------------------------------------------------------------------------------------------------------------------------------
+# Labels, modes, rule text
+# ---------------------------------------------------------------------------------------------------------------------------------------------
+
+def bytes_and_letters():
+    s = Script("bytes", "01, Labels and Modes: every byte in a label, in an access field, in a request and as a field of its own.")
+    good = [b for b in range(33, 127) if b not in b"/\\'\""]
+    for b in range(256):
+        one = bytes([b])
+        alone, inside = b in good and b != 45, b in good
+        s.bylabel(one, "none" if alone else "refused 3")
+        s.bylabel(b"a" + one + b"b", "none" if inside else "refused 3")
+        s.bylabel(b"ab" + one, "none" if inside else "refused 3")
+        letter = one.lower() in (b"r", b"w", b"x", b"a")
+        s.ask(b"A", b"A", one, "granted 5" if letter else "refused 8")
+        s.ask(b"A", b"A", b"rw" + one, "granted 5" if letter else "refused 8")
+    s.say("In an access field: the letters of a mode, either case, and the dash. A blank leaves the field as it is; a newline ends the line.")
+    for b in range(256):
+        one = bytes([b])
+        if b == 10:
+            continue
+        blank = b in (32, 9)
+        mode = one.lower() in (b"r", b"w", b"x", b"a", b"t", b"b", b"-")
+        s.line(b"A B r" + one, None if mode or blank else 4)
+        s.change(b"A B - r" + one, "done" if blank or mode and one.lower() != b"b" else "refused 4")
+        s.change(b"A B " + one + b"r -", "done" if blank or mode and one.lower() != b"b" else "refused 4")
+    s.say("Letters are written in the order r w x a t b. A dash is a placeholder.")
+    for access, listed in ((b"-", b"-"), (b"---", b"-"), (b"a-r", b"ra"), (b"BTAXWR", b"rwxatb"), (b"btaxwr", b"rwxatb"), (b"rRrR", b"r"), (b"-r", b"r"), (b"r-", b"r"),
+                           (b"b", b"b"), (b"tb", b"tb"), (b"xw", b"wx")):
+        s.line(b"A B " + access, None)
+        s.list(0, b"A B " + listed + b"\n")
+    for k in range(64):
+        access = b"".join(letter for i, letter in enumerate((b"r", b"w", b"x", b"a", b"t", b"b")) if k >> i & 1) or b"-"
+        s.line(b"A B " + access[::-1], None)
+        s.list(0, b"A B " + access + b"\n")
+        s.ask(b"A", b"B", b"rwxa", ("granted 6 b" if k >> 5 else "granted 6") if k & 15 == 15 else "denied 7")
+        s.ask(b"A", b"B", b"w", ("granted 6 b" if k >> 5 else "granted 6") if k & 2 else "denied 7")
+        s.ask(b"A", b"B", b"A", ("granted 6 b" if k >> 5 else "granted 6") if k & 8 else "denied 7")
+    s.say("A stored b stays under a change; a line sets the modes wholly.")
+    s.line(b"A B rb", None)
+    s.change(b"A B w r")
+    s.list(0, b"A B wb\n")
+    s.change(b"A B rwxat rwxat")
+    s.list(0, b"A B b\n")
+    s.line(b"A B x", None)
+    s.list(0, b"A B x\n")
+    s.change(b"C D - -")
+    s.list(1, b"C D -\n")
+    s.store()
+
+    s = Script("text", "01, Rule text and Listing.")
+    s.say("The three lines of 01's listing.")
+    s.piece(b"Probe3 Air w\nAlarm Air Rx\nDesk Alarm -\n")
+    s.list(0, b"Probe3 Air w\n")
+    s.list(1, b"Alarm Air rx\n")
+    s.list(2, b"Desk Alarm -\n")
+    s.list(3, 13)
+    s.end("report 3 3 0 0 0 0")
+    for k, label in enumerate(FIVE + [b"Probe3", b"Air", b"Alarm", b"Desk"]):
+        s.label(k, label)
+    s.label(9, 13)
+    s.say("A buffer of exactly the length is enough; one byte less is 12; the rest stays.")
+    s.list(0, b"Probe3 Air w\n", b"\xee" * 13)
+    s.list(0, 12, b"\xee" * 12)
+    s.list(0, 12, b"")
+    s.list(0, b"Probe3 Air w\n", b"\xee" * 600)
+    s.say("Blanks before, after and between; a tab is a blank; other control bytes are bytes of a field.")
+    for line, reason in ((b"  A   B   r  ", None), (b"\tA\tB\tr\t", None), (b" \t A \t B \t r \t ", None), (b"A B r\r", 4), (b"A B r \r", 2), (b"\r", 2), (b"A\x00B C r", 3),
+                         (b"A B\x0b r", 3), (b"A B r\x00", 4), (b"A\xffB C r", 3), (b"A B", 2), (b"A", 2), (b"A B r w", 2), (b"A B r w x", 2), (b"A/ B", 2), (b"A/ B q", 3),
+                         (b"-A B r", 3), (b"A -B r", 3), (b"- - -", 3), (b"A B -", None), (b"A- B- r", None), (b"A A q", 4), (b"A A r", 5), (b"a A r", None),
+                         (b"? ? r", 5), (b"* Air r", None), (b"Air * -", None), (b"^ _ w", None), (b"@ ? t", None), (b"** ^^ r", None), (b"A B rwxatbl", 4), (b"A B \xe4", 4)):
+        s.line(line, reason)
+    s.say("The end call: no further line after a newline; after a blank there is one; a second end call reports zeros.")
+    s.piece(b"A B r\n")
+    s.end("report 1 1 0 0 0 0")
+    s.end("report 0 0 0 0 0 0")
+    s.piece(b"A B r\n ")
+    s.end("report 2 1 1 0 0 0")
+    s.piece(b"A B r")
+    s.end("report 1 1 0 0 0 0")
+    s.piece(b"")
+    s.end("report 0 0 0 0 0 0")
+    s.say("The first refused line is reported, later ones only counted; blank lines count and are numbered.")
+    s.piece(b"\n \nA B r\n\nA A r\nA\nA B q\nA B w\n")
+    s.end("report 8 2 3 3 5 5")
+    s.say("A question sees the tables without the line under way; a write acts at once, and the line is judged at its newline.")
+    s.fresh()
+    s.piece(b"S O r")
+    s.ask(b"S", b"O", b"r", "denied 7")
+    s.label(5, 13)
+    s.piece(b"w")
+    s.change(b"S O x -")
+    s.ask(b"S", b"O", b"x", "granted 6")
+    s.piece(b"\n")
+    s.ask(b"S", b"O", b"x", "denied 7")
+    s.ask(b"S", b"O", b"rw", "granted 6")
+    s.end("report 1 1 0 0 0 0")
+    s.say("63 labels and a line with two new ones under way: one of them comes in by a mapping, and the line is taken.")
+    s.fresh()
+    labels_to(s, 62)
+    s.piece(b"New1 New2 r")
+    s.mapping(b"Other 9")
+    s.piece(b"\nNew1 New2 r")
+    s.end("report 2 0 0 2 1 6")
+    s.piece(b"New1 L05 r\nNew1 Other r\nNew2 Other r")
+    s.end("report 3 2 0 1 3 6")
+    s.say("The same with a rule: the line under way finds the tables full.")
+    s.fresh()
+    labels_to(s, 63)
+    s.piece(b"New1 L05 r")
+    s.override(b"Other")
+    s.piece(b"\n")
+    s.end("report 1 0 0 1 1 6")
+    s.store()
+
+
+# ---------------------------------------------------------------------------------------------------------------------------------------------
+# Questions
+# ---------------------------------------------------------------------------------------------------------------------------------------------
+
+def questions():
+    s = Script("questions", "01, Questions: the seven rules for the five labels and two more, each request, with and without the capability.")
+    requests = [b"r", b"w", b"x", b"a", b"rx", b"rw", b"xa", b"RX", b"rrxx", b"rwxa"]
+    rules = {(b"A", b"B"): "rx", (b"^", b"B"): "w", (b"B", b"_"): "a", (b"*", b"A"): "rwxa", (b"A", b"*"): "", (b"@", b"A"): "r", (b"A", b"@"): "wa"}
+    s.piece(b"".join(b"%s %s %s\n" % (a, b, m.encode() or b"-") for (a, b), m in rules.items()))
+    s.end("report 7 7 0 0 0 0")
+
+    def decide(subject, object_, request):
+        letters = set(request.decode().lower())
+        small = letters <= set("rx")
+        if subject == b"*":
+            return "denied", 1
+        if subject == b"^" and small:
+            return "granted", 2
+        if object_ == b"_" and small:
+            return "granted", 3
+        if object_ == b"*":
+            return "granted", 4
+        if subject == object_:
+            return "granted", 5
+        return ("granted", 6) if letters <= set(rules.get((subject, object_), "")) else ("denied", 7)
+    names = FIVE + [b"A", b"B", b"Unseen"]
+    for text, listed in ((b"-", None), (b"A *", (b"A", b"*")), (b"^ Later", (b"^", b"Later"))):
+        s.override(text)
+        for subject in names:
+            for object_ in names:
+                for request in requests if listed is None else [b"r", b"rw"]:
+                    word, number = decide(subject, object_, request)
+                    s.ask(subject, object_, request, "%s %d" % (word, number), 0)
+                    if word == "denied" and (listed is None or subject in listed):
+                        word = "override"
+                    s.ask(subject, object_, request, "%s %d" % (word, number), 1)
+    s.say("Equal labels that are not in the table: rule 5. Labels of any length and a request of any length: 3 and 8, never 1.")
+    s.ask(b"Q" * 255, b"Q" * 255, b"w", "granted 5")
+    s.ask(b"Q" * 700, b"Q" * 700, b"w", "refused 3")
+    s.ask(b"Q", b"Q", b"rw" * 500, "granted 5")
+    s.ask(b"Q", b"Q", b"rw" * 500 + b"q", "refused 8")
+    s.say("Refusals come before rules, with the capability too.")
+    s.ask(b"*", b"_", b"q", "refused 8", 1)
+    s.ask(b"*", b"/", b"r", "refused 3", 1)
+    s.ask(b"", b"_", b"r", "refused 3")
+    s.ask(b"_", b"", b"r", "refused 3")
+    for request in (b"", b"-", b"t", b"b", b"r-", b"rb", b"rt", b"r ", b" r", b"r\n", b"l"):
+        s.ask(b"A", b"B", request, "refused 8")
+    s.store()
+
+
+# ---------------------------------------------------------------------------------------------------------------------------------------------
+# The refusal numbers: each in every call that can give it, and each pair of neighbours in the order of refusals
+# ---------------------------------------------------------------------------------------------------------------------------------------------
+
+def refusals():
+    s = Script("refusals_rule_change", "01, the refusal numbers: rule and change, 1 2 3 4 5 6 7. Each line deserves two neighbours and gets the first. Nothing changes.")
+    pad = b" " * 600
+
+    def both(name, line, change, number):
+        """`name` says which numbers hold."""
+        s.say(name)
+        s.line(line, number)
+        s.change(change, "refused %d" % number)
+        s.dump("state", True)
+
+    def section(labels, rules, text):
+        s.say("--- " + text)
+        full(s, labels, rules, 0)
+
+    section(64, 256, "64 labels, 256 rules")
+    s.dump("state", True)
+    both("1 and 2", b"A B" + pad, b"A B r" + pad, 1)
+    both("1 and 3 4", b"A/ B q" + pad, b"A/ B q q" + pad, 1)
+    both("1 alone", b"L05 L06 r" + pad, b"L05 L06 r -" + pad, 1)
+    both("2 and 3", b"A/ B", b"A/ B r", 2)
+    both("2 and 3, too many", b"A/ B r x", b"A/ B r - x", 2)
+    both("2 and 4 5", b"A A q q", b"A A q q q", 2)
+    both("2 alone", b"L05 L06", b"L05 L06 r", 2)
+    both("3 and 4", b"A/ B q", b"A/ B q -", 3)
+    both("3 in the object, and 4", b"A B/ q", b"A B/ - q", 3)
+    both("3 and 5", b"A/ A/ r", b"A/ A/ r -", 3)
+    both("3 alone", b"L05 L06/ r", b"L05 L06/ r -", 3)
+    both("4 and 5", b"L05 L05 q", b"L05 L05 q -", 4)
+    both("4 and 5, the second access field", b"L05 L05 rl", b"L05 L05 r q", 4)
+    both("4 and 6", b"New1 New2 q", b"New1 New2 r q", 4)
+    both("4 alone", b"L05 L06 q", b"L05 L06 q -", 4)
+    s.change(b"L05 L06 b -", "refused 4")
+    s.change(b"L05 L06 - B", "refused 4")
+    s.dump("state", True)
+    both("5 and 6", b"New1 New1 r", b"New1 New1 r -", 5)
+    both("5 and 7", b"L20 L20 r", b"L20 L20 r -", 5)
+    both("6 and 7", b"New1 New2 r", b"New1 New2 r -", 6)
+    both("6 and 7, one new label", b"New1 L05 r", b"New1 L05 r -", 6)
+    a, b = pairs()[300]
+    both("7 alone", a + b" " + b + b" r", a + b" " + b + b" r -", 7)
+    s.say("--- 64 labels, 255 rules: 6 without 7")
+    full(s, 64, 255, 0)
+    s.line(b"New1 L05 r", 6)
+    s.change(b"L05 New1 r -", "refused 6")
+    s.line(a + b" " + b + b" r", None)
+    s.say("--- 62 labels, 256 rules: 7 without 6, and the new labels do not enter")
+    full(s, 62, 256, 0)
+    s.line(b"New1 New2 r", 7)
+    s.change(b"New1 New2 r -", "refused 7")
+    s.label(62, 13)
+    s.say("--- 63 labels: two new labels are 6, one enters")
+    full(s, 63, 10, 0)
+    s.line(b"New1 New2 r", 6)
+    s.change(b"New1 L05 r -")
+    s.line(b"New1 L06 r", None)
+    s.say("--- a newline in a write is a byte of its field")
+    s.change(b"L05 L06 r w\n", "refused 4")
+    s.change(b"L05 L06\n r w", "refused 3")
+    s.change(b"L05 L06 r w \n", "refused 2")
+    s.change(b"L05\nL06 r w", "refused 2")
+    s.change(b"", "refused 2")
+    s.change(b"   ", "refused 2")
+    s.store()
+
+    s = Script("refusals_writes", "01, the refusal numbers: revoke 1 3; override list 1 2 3 11 6; mapping 1 2 3 9 6 10. Nothing changes.")
+    full(s, 64, 256, 32)
+    s.dump("state")
+    s.say("revoke: 1 and 3; 3 alone in each way. The whole buffer is the label.")
+    for text, number in ((b"/" * 601, 1), (b"A" * 601, 1), (b" " * 601, 1), (b"/" * 600, 3), (b"A" * 256, 3), (b"A" * 600, 3), (b"", 3), (b" ", 3), (b"L05 ", 3), (b" L05", 3),
+                         (b"L05 L06", 3), (b"L05\n", 3), (b"-", 3), (b"-L", 3), (b"L\x00", 3)):
+        s.revoke(text, "refused %d" % number)
+    s.dump("state")
+    s.revoke(b"Unseen", "revoked 0")
+    s.revoke(b"A" * 255, "revoked 0")
+    s.revoke(b"_", "revoked 0")
+    s.dump("state")
+    s.revoke(b"L05", "revoked 19")
+    s.revoke(b"L05", "revoked 19")
+    s.list(0, b"L05 L06 -\n")
+    s.say("override list. 2 and 3 never hold both: 2 is a list without a field.")
+    full(s, 64, 10, 32)
+    s.override(b"L05 L06")
+    s.dump("listed")
+    nine_new = b" ".join(b"N%d" % k for k in range(9))
+    nine_old = b" ".join(name_of(k) for k in range(9))
+    for note, text, number in (("1 and 2", b" " * 601, 1), ("1 and 3", b"A/ " * 300, 1), ("1 and 11", nine_new + b" " * 600, 1), ("2", b"", 2), ("2", b" \t ", 2), ("2", b" " * 600, 2),
+                               ("3 and 11", nine_new + b" A/", 3), ("3 and 11", b"A/ " + nine_old, 3), ("3 and 6", b"New1 A/", 3), ("3, a dash not alone", b"- -", 3),
+                               ("3", b"L05 -", 3), ("3", b"--", 3), ("3", b"L05\n", 3), ("3", b"L05 \n", 3), ("11 and 6", nine_new, 11), ("11 and 6", nine_old + b" New1", 11),
+                               ("11 alone", nine_old, 11), ("6", b"New1", 6), ("6", b"L05 New1 New1", 6), ("6", b" ".join(b"N%d" % k for k in range(8)), 6)):
+        s.say(note)
+        s.override(text, "refused %d" % number)
+    s.dump("listed")
+    s.ask(b"L06", b"L07", b"w", "override 7", 1)
+    s.ask(b"L07", b"L06", b"w", "denied 7", 1)
+    s.override(b" - ")
+    s.ask(b"L07", b"L06", b"w", "override 7", 1)
+    s.say("mapping")
+    s.dump("mapped")
+    for note, text, number in (("1 and 2", b"A" + b" " * 600, 1), ("1 and 3", b"A/ 9" + b" " * 600, 1), ("1 and 9", b"L05 9" + b" 64" * 200, 1), ("2 and 3", b"A/", 2), ("2 and 3", b"-", 2),
+                               ("2", b"", 2), ("2", b"   ", 2), ("2", b"L05", 2), ("3 and 9", b"A/ 256", 3), ("3 and 9", b"A/ 9 0", 3), ("3", b"A/ 9 1", 3), ("9 and 6", b"New1 256", 9),
+                               ("9 and 6", b"New1 9 64", 9), ("9 and 10", b"L40 256", 9), ("9 and 10", b"L40 9 1 0", 9), ("9 alone", b"L05 9 64", 9), ("9, a newline", b"L05 9\n", 9),
+                               ("9, a newline", b"L05 9 \n", 9), ("3, a newline", b"L05\n 9", 3), ("6 and 10", b"New1 9", 6), ("10 alone", b"L40 9", 10), ("10 alone", b"L32 9 1 63", 10)):
+        s.say(note)
+        s.mapping(text, "refused %d" % number)
+    s.dump("mapped")
+    s.mapping(b"L31 8")
+    s.say("6 without 10, 10 without 6")
+    full(s, 64, 0, 31)
+    s.mapping(b"New1 9", "refused 6")
+    s.mapping(b"L40 9")
+    s.mapping(b"L41 9", "refused 10")
+    full(s, 63, 0, 32)
+    s.mapping(b"New1 9", "refused 10")
+    s.label(63, 13)
+    s.store()
+
+    s = Script("refusals_reads", "01, the refusal numbers: by label 3; by level and set 9; a run 9; question 3 8; listing 13 12; label 13. Nothing changes.")
+    full(s, 30, 5, 5)
+    s.dump("state")
+    for label in (b"", b"-", b"-x", b"a/b", b"a b", b" a", b"a ", b"a\n", b"\x00", b"\x7f", b"\xff", b"a'", b'a"', b"a\\", b"A" * 256, b"A" * 601, b"A" * 5000):
+        s.bylabel(label, "refused 3")
+        s.ask(label, b"A", b"r", "refused 3")
+        s.ask(b"A", label, b"r", "refused 3")
+        s.ask(label, b"A", b"q", "refused 3")
+        s.ask(b"A", label, b"", "refused 3")
+    s.bylabel(b"Unseen", "none")
+    s.bylabel(b"L20", "none")
+    s.bylabel(b"_", "mapping 9 %d 2" % (category(1) | category(63)))
+    s.say("listing: 13 and 12 both, then each alone")
+    for k in (5, 255, 256, 999, 1 << 32, HUGE):
+        s.list(k, 13, b"")
+        s.list(k, 13)
+    s.list(4, 12, b"")
+    s.list(4, 12, b"\xee" * 9)
+    s.list(4, b"L05 L10 r\n", b"\xee" * 10)
+    for k in (30, 63, 64, 255, 256, 1 << 32, HUGE):
+        s.label(k, 13)
+    s.label(29, b"L29")
+    s.say("A run has any length and content. The lowest label number whose level and set both match; numbers that name no label count too.")
+    s.run(9, 2, [], "none")
+    s.run(9, 2, [(7, 9, 2), (3, 9, 2), (1, 9, 4), (0, 8, 2)], "label 3")
+    s.run(9, 2, [(HUGE, 9, 2)], "label %d" % HUGE)
+    s.run(9, 2, [(HUGE, 9, 2), (1 << 32, 9, 2), (4294967297, 9, 2)], "label %d" % (1 << 32))
+    s.run(9, 2, [(5, 265, 2), (6, 9, 3), (4, 9 + (1 << 32), 2)], "none")
+    s.run(9, 2, [(5, HUGE, HUGE)], "none")
+    s.run(0, 0, [(0, 0, 0)], "label 0")
+    s.run(255, HUGE - 1, [(64, 255, HUGE - 1), (63, 255, HUGE - 1)], "label 63")
+    s.run(9, 2, [(1000 - k, 9, 2 if k % 3 else 4) for k in range(600)], "label 401")
+    s.run(256, 2, [(5, 256, 2)], "refused 9")
+    s.run(9, 3, [(5, 9, 3)], "refused 9")
+    s.say("A run never gets 0.")
+    s.poke("words", 0, 65)
+    s.run(9, 2, [(3, 9, 2)], "label 3")
+    s.run(256, 2, [], "refused 9")
+    s.poke("words", 0, 30)
+    s.dump("state")
+    s.say("Lowest is by label number, not by place.")
+    s.fresh()
+    s.override(b"A B C")
+    for label in (b"C", b"A", b"B"):
+        s.mapping(label + b" 9 1")
+    s.bylevel(9, category(1), "label 5")
+    s.mapping(b"A 9 2")
+    s.bylevel(9, category(1), "label 6")
+    s.bylevel(9, category(3), "none")
+    s.store()
+
+
+# ---------------------------------------------------------------------------------------------------------------------------------------------
+# Damaged states: refusal 0 comes before every other, in each call
+# ---------------------------------------------------------------------------------------------------------------------------------------------
+
+# Each call twice: once with nothing else to refuse, once deserving another number.
+TABLE_CALLS = ["piece " + h(b"A B w\n"), "piece -", "end", "change " + h(b"A B w -"), "change " + h(b"A B" + b" " * 600), "revoke " + h(b"A"), "revoke -", "override " + h(b"A"),
+               "override -", "mapping " + h(b"A 9"), "mapping " + h(b"A"), "bylabel " + h(b"A"), "bylabel -", "bylevel 9 0", "bylevel 256 1",
+               "question " + " ".join([h(b"A"), h(b"B"), h(b"r"), "0"]), "question - - - 1", "question " + " ".join([h(b"*"), h(b"*"), h(b"r"), "1"])]
+
+
+def small_state(s):
+    """Labels 5 to 8 are A B C D; three rules, two mappings, two override labels; a line under way."""
+    s.fresh()
+    s.piece(b"A B r\nB C wb\nA C x\nA A r\nA ")
+    s.mapping(b"A 9 1 63")
+    s.mapping(b"D 9 2")
+    s.override(b"B D")
+
+
+def refused_by_all(s):
+    s.from_here("refused 0")
+    for call in TABLE_CALLS:
+        s.call(call)
+    s.from_here("any")
+    s.list(0, 0)
+    s.list(999, 0, b"")
+    s.label(5, 0)
+    s.label(999, 0)
+    s.run(9, 2, [(3, 9, 2)], "label 3")
+
+
+def damage():
+    s = Script("damage_sizes", "01, refusal 0: a part not of its full size. Each call, also where it deserves another number; then nothing has changed.")
+    number = 0
+    for part, size in (("labels", 16384), ("entries", 840), ("words", 36), ("line", 600)):
+        for other in sorted({0, 1, size // 2, size - 1, size + 1, 2 * size}):
+            number += 1
+            s.say("%s: %d" % (part, other))
+            small_state(s)
+            s.call("resize %s %d" % (part, other), "done")
+            s.dump("size %d" % number)
+            if part == "line":
+                s.piece(b"A B w\n", "refused 0")
+                s.piece(b"", "refused 0")
+                s.end("refused 0")
+                s.ask(b"A", b"B", b"r", "granted 6")
+                s.label(5, b"A")
+                s.bylabel(b"A", "mapping 9 %d 2" % (category(1) | category(63)))
+                s.call("freshen", None)
+            else:
+                refused_by_all(s)
+                s.call("freshen", "refused 0")
+                s.dump("size %d" % number)
+    s.say("Two parts at once, and sizes that add up to the same.")
+    small_state(s)
+    s.call("resize labels 16383", "done")
+    s.call("resize entries 841", "done")
+    refused_by_all(s)
+    s.store()
+
+    s = Script("damage_numbers", "01, refusal 0: a count over its limit, a number that names no stored label, an unknown mode or category bit. Each call under each.")
+    kinds = []
+    for index, old, limit in ((0, 9, 64), (1, 3, 256), (2, 2, 32), (3, 2, 8)):
+        for value in (limit + 1, limit + 2, 1000, (1 << 32) + old, 1 << 63, HUGE):
+            kinds.append(("count %d is %d" % (index, value), "words", index, value, old))
+    for value in (8, 5, 0):
+        kinds.append(("only %d labels, so numbers lose theirs" % value, "words", 0, value, 9))
+    subjects, objects, modes = [5, 6, 5], [6, 7, 7], [32, 17, 8]
+    for k in range(3):
+        for value in (9, 64, 255):
+            kinds.append(("subject %d is %d" % (k, value), "entries", k, value, subjects[k]))
+            kinds.append(("object %d is %d" % (k, value), "entries", 256 + k, value, objects[k]))
+        for value in (64, 128, 192, 255, 64 | modes[k]):
+            kinds.append(("modes %d are %d" % (k, value), "entries", 512 + k, value, modes[k]))
+    for k, old in ((0, 5), (1, 8)):
+        for value in (9, 64, 255):
+            kinds.append(("mapping label %d is %d" % (k, value), "entries", 768 + k, value, old))
+    for k, old in ((0, 6), (1, 8)):
+        for value in (9, 64, 255):
+            kinds.append(("override label %d is %d" % (k, value), "entries", 832 + k, value, old))
+    for k, old in ((0, category(1) | category(63)), (1, category(2))):
+        for value in (1, old | 1, HUGE):
+            kinds.append(("set %d is %d" % (k, value), "words", 4 + k, value, old))
+    small_state(s)
+    s.dump("sound")
+    for number, (note, part, at, value, old) in enumerate(kinds):
+        s.say(note)
+        s.poke(part, at, value if part == "words" else bytes([value]))
+        s.dump("kind %d" % number)
+        refused_by_all(s)
+        s.dump("kind %d" % number)
+        s.poke(part, at, old if part == "words" else bytes([old]))
+        s.dump("sound")
+    s.say("Undamaged again, every call does its work.")
+    s.piece(b"B r\n")
+    s.end("report 5 4 0 1 4 5")
+    s.say("A fresh table is made of memory of any contents: only the sizes count.")
+    s.poke("words", 0, 65)
+    s.poke("words", 35, HUGE)
+    s.poke("entries", 0, b"\xff" * 840)
+    s.call("freshen", "done")
+    for k, label in enumerate(FIVE):
+        s.label(k, label)
+    s.label(5, 13)
+    s.list(0, 13)
+    s.dump()
+    s.store()
+
+    s = Script("damage_full", "01, refusal 0 on full tables: the last place of each run, and 64, the first number that no table has a label for.")
+    full(s)
+    s.override(b" ".join(name_of(k) for k in range(56, 64)))
+    s.dump("sound")
+    places = [("last subject", 255, 17), ("last object", 511, 0), ("last modes", 767, 32), ("last mapping label", 799, 31), ("last override label", 839, 63)]
+    last = pairs()[255]
+    places[0] = ("last subject", 255, int(last[0][1:]))
+    places[1] = ("last object", 511, int(last[1][1:]))
+    for number, (note, at, old) in enumerate(places + [("first subject", 0, 5), ("subject in the middle", 128, int(pairs()[128][0][1:])), ("object in the middle", 256 + 77, int(pairs()[77][1][1:]))]):
+        for value in (64, 128, 255):
+            s.say("%s is %d" % (note, value))
+            s.poke("entries", at, bytes([value]))
+            refused_by_all(s)
+            s.poke("entries", at, bytes([old]))
+            s.dump("sound")
+    s.say("last set")
+    s.poke("words", 35, (category(1) | category(63)) + 1)
+    refused_by_all(s)
+    s.poke("words", 35, category(1) | category(63))
+    s.dump("sound")
+    s.say("A level is any byte; 63 is a label; every known mode bit: no damage.")
+    s.poke("entries", 831, b"\xff")
+    s.poke("entries", 767, b"\x3f")
+    s.list(255, last[0] + b" " + last[1] + b" rwxatb\n")
+    s.bylevel(255, category(1) | category(63), "label 31")
+    s.store()
+
+    s = Script("damage_loader", "01, refusal 0 of the loader: kept over 601. 601 is a line of over 600 bytes. Numbers that do not add up are not damage.")
+    for kept in (602, 603, 1000, MOST, 1 << 32, (1 << 32) + 5, 1 << 63, HUGE):
+        s.say("kept %d" % kept)
+        small_state(s)
+        s.poke("loader", 0, kept)
+        s.dump("kept %d" % kept)
+        for text in (b"", b"\n", b"A B w\n", b"A B"):
+            s.piece(text, "refused 0")
+        s.end("refused 0")
+        s.dump("kept %d" % kept)
+        s.say("Calls without a loader do their work.")
+        s.ask(b"A", b"B", b"r", "granted 6")
+        s.change(b"A B w -")
+        s.revoke(b"A", "revoked 2")
+        s.override(b"A")
+        s.mapping(b"B 3")
+        s.label(5, b"A")
+        s.list(0, b"A B -\n")
+    for kept, text, report in ((601, b"", "1 0 0 1 1 1"), (601, b"\n", "1 0 0 1 1 1"), (601, b"x", "1 0 0 1 1 1"), (600, b"", "1 0 1 0 0 0"), (600, b"\n", "1 0 1 0 0 0"), (600, b" ", "1 0 0 1 1 1"),
+                               (599, b" ", "1 0 1 0 0 0"), (599, b"  ", "1 0 0 1 1 1"), (1, b"\n", "1 0 1 0 0 0"), (0, b"", "0 0 0 0 0 0"), (601, b"\nA B r", "2 1 0 1 1 1")):
+        s.say("kept %d, blanks in the line" % kept)
+        s.fresh()
+        s.poke("line", 0, b" " * 600)
+        s.poke("loader", 0, kept)
+        s.piece(text)
+        s.dump()
+        s.end("report " + report)
+        s.dump()
+    s.say("A newline byte in the kept line is a bad byte of its field.")
+    for line, reason in ((b"A B r\n", 4), (b"A B\n r", 3), (b"A B r \n", 2), (b"\n", 2), (b"A\nB r w", 3)):
+        s.fresh()
+        s.poke("line", 0, line)
+        s.poke("loader", 0, len(line))
+        s.end("report 1 0 0 1 1 %d" % reason)
+    s.store()
+
+
+# ---------------------------------------------------------------------------------------------------------------------------------------------
+# Odd tables that are not damaged
+# ---------------------------------------------------------------------------------------------------------------------------------------------
+
+def place(label):
+    return bytes([len(label)]) + label
+
+
+def odd():
+    s = Script("twice", "01: where a lent state holds a label, pair or mapping twice, the first counts, and a label means its first number.")
+    s.say("A label twice: number 9 is A again. What stands under it is found by no label, and still listed.")
+    s.fresh()
+    s.piece(b"A B r\nC D w\n")
+    s.poke("labels", 9 * 256, place(b"A"))
+    s.poke("words", 0, 10)
+    s.poke("entries", 1, b"\x09")
+    s.poke("entries", 257, b"\x08")
+    s.list(1, b"A D w\n")
+    s.label(5, b"A")
+    s.label(9, b"A")
+    s.ask(b"A", b"B", b"r", "granted 6")
+    s.ask(b"A", b"D", b"w", "denied 7")
+    s.ask(b"C", b"D", b"w", "denied 7")
+    s.revoke(b"A", "revoked 1")
+    s.list(1, b"A D w\n")
+    s.piece(b"A D x\n")
+    s.end("report 3 3 0 0 0 0")
+    s.list(2, b"A D x\n")
+    s.ask(b"A", b"D", b"x", "granted 6")
+    s.mapping(b"A 9 1")
+    s.bylevel(9, category(1), "label 5")
+    s.say("A mapping under the second number: no label has it, by level neither.")
+    s.poke("entries", 768, b"\x09")
+    s.bylabel(b"A", "none")
+    s.bylevel(9, category(1), "none")
+    s.mapping(b"A 3")
+    s.bylabel(b"A", "mapping 3 0 0")
+    s.bylevel(3, 0, "label 5")
+    s.say("An override list that holds the second number does not hold the subject.")
+    s.override(b"A")
+    s.ask(b"A", b"B", b"a", "override 7", 1)
+    s.poke("entries", 832, b"\x09")
+    s.ask(b"A", b"B", b"a", "denied 7", 1)
+    s.say("A pair twice: questions, lines and changes use the first; revoke clears and counts each.")
+    s.fresh()
+    s.piece(b"A B r\nC D w\nA B x\nA C a\n")
+    s.poke("entries", 1, b"\x05")
+    s.poke("entries", 257, b"\x06")
+    s.list(0, b"A B x\n")
+    s.list(1, b"A B w\n")
+    s.ask(b"A", b"B", b"x", "granted 6")
+    s.ask(b"A", b"B", b"w", "denied 7")
+    s.ask(b"A", b"B", b"xw", "denied 7")
+    s.change(b"A B r x")
+    s.list(0, b"A B r\n")
+    s.list(1, b"A B w\n")
+    s.piece(b"A B t\n")
+    s.list(0, b"A B t\n")
+    s.list(1, b"A B w\n")
+    s.revoke(b"A", "revoked 3")
+    for k, text in enumerate((b"A B -\n", b"A B -\n", b"A C -\n")):
+        s.list(k, text)
+    s.say("A label mapped twice: the first counts, by level too.")
+    s.fresh()
+    s.mapping(b"A 9 1")
+    s.mapping(b"B 7 2")
+    s.poke("entries", 769, b"\x05")
+    s.bylabel(b"A", "mapping 9 %d 1" % category(1))
+    s.bylabel(b"B", "none")
+    s.bylevel(9, category(1), "label 5")
+    s.bylevel(7, category(2), "none")
+    s.mapping(b"A 8")
+    s.bylevel(8, 0, "label 5")
+    s.bylevel(7, category(2), "none")
+    s.mapping(b"B 7 2")
+    s.bylevel(7, category(2), "label 6")
+    s.dump()
+    s.say("An override label twice: no damage.")
+    s.override(b"A B")
+    s.poke("entries", 833, b"\x05")
+    s.ask(b"A", b"B", b"r", "override 7", 1)
+    s.ask(b"B", b"A", b"r", "denied 7", 1)
+    s.store()
+
+    s = Script("odd", "01: tables that are odd and not damaged: under five labels, other labels at 0 to 4, ill-formed labels, bad contents in unused places.")
+    for count in range(5):
+        s.say("%d labels" % count)
+        s.fresh()
+        s.poke("words", 0, count)
+        s.ask(b"*", b"_", b"r", "denied 1")
+        s.ask(b"^", b"Door", b"rx", "granted 2")
+        s.ask(b"Door", b"_", b"r", "granted 3")
+        s.ask(b"^", b"*", b"rw", "granted 4")
+        s.ask(b"Door", b"Door", b"w", "granted 5")
+        s.ask(b"Door", b"_", b"w", "override 7", 1)
+        for k in range(5):
+            s.label(k, FIVE[k] if k < count else 13)
+        s.line(b"@ Door r", None)
+        s.list(0, b"@ Door r\n")
+        s.label(count, b"@")
+        s.label(count + 1, b"Door")
+        s.mapping(b"_ 9")
+        s.override(b"? *")
+        s.bylevel(9, 0, "label %d" % (0 if count else 2))
+        s.dump()
+    s.say("Memory of zeros: no label, no rule; not damaged.")
+    s.fresh()
+    s.poke("labels", 0, b"\x00" * 1282)
+    s.poke("words", 0, 0)
+    s.label(0, 13)
+    s.line(b"A B r", None)
+    s.label(0, b"A")
+    s.say("Other labels at 0 to 4: the rules go by the labels' bytes.")
+    s.fresh()
+    for k, label in enumerate((b"*", b"_", b"^", b"@", b"?")):
+        s.poke("labels", 256 * k, place(label))
+    s.ask(b"*", b"_", b"r", "denied 1")
+    s.ask(b"^", b"_", b"w", "denied 7")
+    s.ask(b"A", b"*", b"w", "granted 4")
+    s.line(b"_ ^ w", None)
+    s.list(0, b"_ ^ w\n")
+    s.ask(b"_", b"^", b"w", "granted 6")
+    s.say("Stored labels that are not well formed: empty, with a blank, a newline, a leading dash, 255 bytes of 0. They are listed as they are; no label means them.")
+    s.fresh()
+    s.line(b"A B r", None)
+    for label in (b"", b" ", b"\n", b"-", b"a b", b"\x00" * 255, b"\xff"):
+        s.poke("labels", 256 * 5, place(label))
+        s.label(5, label)
+        s.list(0, label + b" B r\n", b"\xee" * 300)
+        s.ask(b"A", b"B", b"r", "denied 7")
+        s.bylabel(label, "refused 3")
+        s.revoke(label, "refused 3")
+        s.change(b"B _ r -")
+        s.dump()
+    s.say("A rule of a label with itself: listed; rule 5 decides before it.")
+    s.fresh()
+    s.line(b"A B -", None)
+    s.poke("entries", 256, b"\x05")
+    s.list(0, b"A A -\n")
+    s.ask(b"A", b"A", b"w", "granted 5")
+    s.revoke(b"A", "revoked 1")
+    s.line(b"A A r", 5)
+    s.say("Unused places with bad contents are not damage, and stay.")
+    small_state(s)
+    s.poke("entries", 3, b"\xff" * 253)
+    s.poke("entries", 256 + 3, b"\xff" * 253)
+    s.poke("entries", 512 + 3, b"\xff" * 253)
+    s.poke("entries", 768 + 2, b"\xff" * 30)
+    s.poke("entries", 800 + 2, b"\xff" * 30)
+    s.poke("entries", 832 + 2, b"\xff" * 6)
+    for k in range(2, 32):
+        s.poke("words", 4 + k, HUGE)
+    s.poke("labels", 9 * 256, b"\xff" * 600)
+    s.poke("labels", 5 * 256 + 2, b"\xaa" * 254)
+    s.dump()
+    s.ask(b"A", b"B", b"r", "granted 6")
+    s.ask(b"B", b"C", b"w", "granted 6 b")
+    s.label(5, b"A")
+    s.label(9, 13)
+    s.bylevel(255, HUGE - 1, "none")
+    s.piece(b"B r\nNew Other x\n")
+    s.dump()
+    s.change(b"New B r -")
+    s.mapping(b"Other 1 1")
+    s.override(b"New")
+    s.revoke(b"New", "revoked 2")
+    s.label(9, b"New")
+    s.label(10, b"Other")
+    s.dump()
+    s.end("report 6 5 0 1 4 5")
+    s.say("A shorter override list leaves the bytes behind its count; a label's place keeps the bytes behind the label.")
+    s.override(b"A B C D")
+    s.override(b"D")
+    s.dump()
+    s.override(b"-")
+    s.dump()
+    s.store()
+
+
+# ---------------------------------------------------------------------------------------------------------------------------------------------
+# The report's numbers at their limit
+# ---------------------------------------------------------------------------------------------------------------------------------------------
+
+def counters():
+    s = Script("counters", "01: each number of the report is the true one or 4294967295, whichever is smaller.")
+    text = {"accepted": b"A B r\n", "skipped": b"\n", "refused": b"A A r\n"}
+    for index, kind in ((2, "accepted"), (3, "skipped"), (4, "refused")):
+        for start in (0, MOST - 2, MOST - 1, MOST):
+            for times in (1, 2, 3):
+                s.fresh()
+                s.poke("loader", index, start)
+                if kind == "refused" and start:
+                    s.poke("loader", 5, 7)
+                    s.poke("loader", 6, 3)
+                s.piece(text[kind] * times)
+                counts = [0, 0, 0]
+                counts[index - 2] = min(start + times, MOST)
+                first = (7, 3) if kind == "refused" and start else (1, 5) if kind == "refused" else (0, 0)
+                s.dump()
+                s.end("report %d %d %d %d %d %d" % (times, *counts, *first))
+    s.say("The number of the first refused line stops at the limit too; the reason is kept as it is.")
+    for start in (MOST - 3, MOST - 2, MOST - 1, MOST):
+        for before in (b"", b"\n", b"\n\n"):
+            s.fresh()
+            s.poke("loader", 1, start)
+            s.piece(before + b"A A q\nA A r\n")
+            lines = min(start + len(before) + 2, MOST)
+            s.end("report %d 0 %d 2 %d 4" % (lines, len(before), min(start + len(before) + 1, MOST)))
+    s.say("All at the limit.")
+    s.fresh()
+    for index in range(1, 6):
+        s.poke("loader", index, MOST)
+    s.poke("loader", 6, 7)
+    s.piece(b"A B r\n\nA A r\nA B")
+    s.dump()
+    s.end("report %d %d %d %d %d 7" % ((MOST,) * 5))
+    s.end("report 0 0 0 0 0 0")
+    s.store()
+
+
+# ---------------------------------------------------------------------------------------------------------------------------------------------
+# Cuts: the same text in any pieces has the same report and leaves the same state
+# ---------------------------------------------------------------------------------------------------------------------------------------------
+
+def fed(s, text, cuts, asked=False):
+    s.fresh()
+    last = 0
+    for cut in list(cuts) + [len(text)]:
+        s.piece(text[last:cut])
+        if asked:
+            s.ask(b"A", b"Unseen", b"r", "denied 7")
+        last = cut
+    s.end("same report")
+    s.dump("state")
+
+
+def cuts():
+    s = Script("cuts_short", "01, Piece: every cut of a short text into two pieces, into three, and byte by byte: the same report, the same state.")
+    text = b"A B r\nC  D wb\n A A r\n\nE F q\n G\tH -x"
+    s.piece(text)
+    s.call("end", "report 6 3 1 2 3 5")
+    for k, listed in enumerate((b"A B r\n", b"C D wb\n", b"G H x\n")):
+        s.list(k, listed)
+    fed(s, text, [])
+    for cut in range(len(text) + 1):
+        fed(s, text, [cut])
+    fed(s, text, range(1, len(text)), True)
+    s.store()
+    s = Script("cuts_three", "01, Piece: every cut of a short text into three pieces, empty ones too.")
+    text = b"A B r\n\nA A\tw\nC D -"
+    for a in range(len(text) + 1):
+        for b in range(a, len(text) + 1):
+            fed(s, text, [a, b])
+    s.store()
+    rng = random.Random(20)
+    lines = []
+    for k in range(150):
+        lines.append(rng.choice([b"A%d B%d r" % (k % 13, k % 7), b"  A%d\t\tB%d   rwxatb  " % (k % 11, k % 5), b"", b"   ", b"A A r", b"A/ B r", b"A B q", b"A B", b"\x00", b"A B r\r",
+                                 b"?", b"L" * 255 + b" B x", b"L" * 256 + b" B x"]))
+    lines += [b" " * 600, b" " * 601, b"A B r" + b" " * 595, b"A B r" + b" " * 596, b"M" * 255 + b" " + b"N" * 255 + b" rwxatb", b"x" * 1300]
+    rng.shuffle(lines)
+    text = b"\n".join(lines)
+    s = Script("cuts_long", "01, Piece: random cuts of a long text with lines of 600, 601 and 1300 bytes: the same report, the same state.")
+    s.say("%d bytes, %d lines" % (len(text), len(lines)))
+    for count in (0, 1, 5, 100, 1000):
+        fed(s, text, sorted(rng.randint(0, len(text)) for _ in range(count)), count in (5, 100))
+    places = [i for i, b in enumerate(text) if b == 10]
+    fed(s, text, places)
+    fed(s, text, [i + 1 for i in places])
+    s.store()
+
+
+# ---------------------------------------------------------------------------------------------------------------------------------------------
+# Rule files with thousands of lines
+# ---------------------------------------------------------------------------------------------------------------------------------------------
+
+def thousands():
+    rng = random.Random(21)
+    lines = [b"L%02d L%02d %s" % (rng.randrange(50), rng.randrange(50), rng.choice([b"r", b"w", b"-", b"rwxa", b"xb", b"q"])) for _ in range(4000)]
+    text = b"\n".join(lines) + b"\n"
+    s = Script("thousands", "A rule file of 4000 lines over 50 labels, in pieces of any size: tables that fill up, pairs set again and again.")
+    at = 0
+    while at < len(text):
+        length = rng.choice([1, 7, 100, 1000, 4096])
+        s.piece(text[at:at + length])
+        at += length
+        if rng.random() < 0.2:
+            s.dump()
+            s.ask(b"L%02d" % rng.randrange(50), b"L%02d" % rng.randrange(50), rng.choice([b"r", b"w", b"rw"]), None)
+    s.dump()
+    s.end()
+    for k in range(0, 256, 5):
+        s.list(k)
+    s.list(256, 13)
+    s.revoke(b"L07", None)
+    s.dump()
+    s.store()
+    program("program_thousands", b"".join(line + b"\n" for line in lines[:2500]) + b"?\n" +
+            b"".join(b"L%02d L%02d %s%s\n" % (rng.randrange(52), rng.randrange(52), rng.choice([b"r", b"w", b"rw", b"x", b"q"]), rng.choice([b"", b" o"])) for _ in range(2500)))
+    program("program_many_rules", b"".join(b"%s %s rw\n" % pair for pair in pairs()) + b"?\n" + b"".join(b"%s %s w\n" % pair for pair in pairs()),
+            ["380 256 0 124 257 7"] + ["granted 6"] * 256 + ["denied 7"] * 124)
+    program("program_many_labels", b"".join(b"S%d O%d r\n" % (k, k) for k in range(40)) + b"?\n" + b"".join(b"S%d O%d r\n" % (k, k) for k in range(40)),
+            ["40 29 0 11 30 6"] + ["granted 6"] * 29 + ["denied 7"] * 11)
+    program("program_blank_lines", b"\n" * 3000 + b"A B r\n" + b" \n" * 2000, ["5001 1 5000 0 0 0"])
+
+
+# ---------------------------------------------------------------------------------------------------------------------------------------------
+# The program
+# ---------------------------------------------------------------------------------------------------------------------------------------------
+
+def programs():
+    program("program_example", b"Probe3 Air w\n?\nProbe3 Air w\nAir Probe3 w o\n", ["1 1 0 0 0 0", "granted 6", "override 7"])
+    program("program_no_newline", b"Probe3 Air w\n?\nProbe3 Air w\nAir Probe3 w o", ["1 1 0 0 0 0", "granted 6", "override 7"])
+    program("program_empty", b"", ["0 0 0 0 0 0"])
+    program("program_newline", b"\n", ["1 0 1 0 0 0"])
+    # 6.1: skipping is a rule of rule text only.
+    program("program_blank_questions", b"A B r\n\n \n?\n\n \n\t\nA B r\n" + b" " * 600 + b"\n" + b" " * 601 + b"\n",
+            ["3 1 2 0 0 0", "refused 2", "refused 2", "refused 2", "granted 6", "refused 2", "refused 1"])
+    # 6.2: the last line needs no newline.
+    program("program_mark_last", b"A B r\n?", ["1 1 0 0 0 0"])
+    program("program_mark_alone", b"?", ["0 0 0 0 0 0"])
+    program("program_mark_alone_newline", b"?\n", ["0 0 0 0 0 0"])
+    program("program_mark_first", b"?\nA A w\nA B w", ["0 0 0 0 0 0", "granted 5", "denied 7"])
+    # 6.3: without the mark everything is rule text.
+    program("program_no_mark", b"A B r\nC D w\nE F", ["3 2 0 1 3 2"])
+    program("program_no_mark_newline", b"A B r\n", ["1 1 0 0 0 0"])
+    program("program_one_line", b"A B r", ["1 1 0 0 0 0"])
+    # 6.4: exactly `?`. A later one is a question line with other fields.
+    program("program_near_marks", b"? \n ?\n?\r\n??\n?\t\n? ? r\n?\n?\n? \n? ? r\n", ["6 0 0 6 1 2", "refused 2", "refused 2", "granted 5"])
+    # 6.5 and 6.6: the fourth field, the order 1 2 3 8.
+    program("program_fields", b"A B r\n?\nA B r o\nA B w o\nA B w O\nA B w oo\nA B w 0\nA B w o o\nA B w o x\nA B o\nA B\nA\nA B w\tx\n  A\tB  w  o  \n"
+            b"A/ B q x\nA/ B\nA/ B q\nA B/ q o\nA B q\nA B -\nA B t\nA B b\n* _ q\n* _ r\n* _ r o\n",
+            ["1 1 0 0 0 0", "granted 6", "override 7", "refused 2", "refused 2", "refused 2", "refused 2", "refused 2", "refused 8", "refused 2", "refused 2", "refused 2", "override 7",
+             "refused 2", "refused 2", "refused 3", "refused 3", "refused 8", "refused 8", "refused 8", "refused 8", "refused 8", "denied 1", "override 1"])
+    # 6.6: lines after the mark never load; the mark is not counted.
+    program("program_no_loading_later", b"A B r\n?\nA C w\nA C w\nA B r\n", ["1 1 0 0 0 0", "denied 7", "denied 7", "granted 6"])
+    # 6.7
+    program("program_marks_as_labels", b"? ? r\n? @ r\n?\n? ? r\n? @ r\n@ ? r\n", ["2 1 0 1 1 5", "granted 5", "granted 6", "denied 7"])
+    # 6.8: 600 and 601 bytes, in rule text and in questions; long enough for any buffer.
+    program("program_600", b"A B r" + b" " * 595 + b"\n" + b"A B w" + b" " * 596 + b"\n?\nA B r" + b" " * 595 + b"\nA B r" + b" " * 596 + b"\nA B w\n",
+            ["2 1 0 1 2 1", "granted 6", "refused 1", "denied 7"])
+    program("program_600_blanks", b" " * 600 + b"\n" + b" " * 601 + b"\n" + b" " * 601, ["3 0 1 2 2 1"])
+    program("program_long_lines", b"x" * 66000 + b"\nA B r\n?\n" + b"y" * 9000 + b"\nA B r\n" + b"A B r" + b" " * 9000, ["2 1 0 1 1 1", "refused 1", "granted 6", "refused 1"])
+    program("program_long_mark", b"?" * 601 + b"\n" + b"?" + b" " * 600 + b"\n?\nA A r", ["2 0 0 2 1 1", "granted 5"])
+    program("program_labels_255", b"L" * 255 + b" " + b"M" * 255 + b" rwxatb\n" + b"L" * 256 + b" B r\n?\n" + b"L" * 255 + b" " + b"M" * 255 + b" rwxa\n" + b"L" * 254 + b" " + b"M" * 255 + b" r\n"
+            + b"L" * 256 + b" B r\n", ["2 1 0 1 2 3", "granted 6 b", "denied 7", "refused 3"])
+    program("program_nul", b"A\x00 B r\nA B\x00r\n\x00\nA B r\x00\nA B r\n?\nA B r\x00\nA\x00 B r\n\x00\n\x00?\nA B r", ["5 1 0 4 1 3", "refused 8", "refused 3", "refused 2", "refused 2", "granted 6"])
+    program("program_byte_255", b"\xff B r\nA \xff r\nA B \xff\n\xff\n?\n\xff B r\nA \xff r\nA B \xff\n\xff\n", ["4 0 0 4 1 3", "refused 3", "refused 3", "refused 8", "refused 2"])
+    program("program_carriage_returns", b"A B r\r\nA B r \r\n\r\n?\r\n?\nA B r\r\nA B r \r\n", ["4 0 0 4 1 4", "refused 8", "refused 2"])
+    program("program_all_bytes", bytes(range(256)) + b"\n?\n" + bytes(range(255, -1, -1)), None)
+    program("program_capability", b"A B r\n?\nA B w o\nA B r o\n* B r o\n^ B rx o\nB _ w o\nX Y a o\nX X a o\nX * a o\n",
+            ["1 1 0 0 0 0", "override 7", "granted 6", "override 1", "granted 2", "override 7", "override 7", "granted 5", "granted 4"])
+    program("program_modes", b"A B rRb\nC D RWXATB\nE F -\nG H a-r\n?\nA B r\nA B R\nC D rwxa\nE F r\nG H ar\nG H w\n",
+            ["4 4 0 0 0 0", "granted 6 b", "granted 6 b", "granted 6 b", "denied 7", "granted 6", "denied 7"])
+    program("program_every_reason", b"A B\nA/ B r\nA B q\nA A r\n" + b" " * 601 + b"\n?\n", ["5 0 0 5 1 2"])
+
+
+# ---------------------------------------------------------------------------------------------------------------------------------------------
+# Recordings of a running kernel, where 01 does not decide otherwise
+# ---------------------------------------------------------------------------------------------------------------------------------------------
+
+def rows(folder, name):
+    with open(os.path.join(folder, name), encoding="latin-1") as f:
+        for row in f.read().splitlines():
+            # A comment begins with a word, or with a space; a label may begin with #.
+            if row and not row.startswith(("# ", "#subject", "#place", "#label\t")):
+                yield row.split("\t")
+
+
+def kernel(folder):
+    """Letters are taken out as 01 has none: l everywhere, b in a change. A rule of equal labels: 01 says 5. `@` has no special rule in 01. The number of
+    the rule is by 01's seven rules; that it is granted or denied is the kernel's answer."""
+    writes = [row for row in rows(folder, "rules.txt")]
+    rules = {}
+
+    def without(field, letters):
+        return "".join(c for c in field if c not in letters) or "-"
+
+    def decide(subject, object_, request):
+        letters = set(request)
+        if subject == "*":
+            return "denied 1"
+        if subject == "^" and letters <= set("rx"):
+            return "granted 2"
+        if object_ == "_" and letters <= set("rx"):
+            return "granted 3"
+        if object_ == "*":
+            return "granted 4"
+        if subject == object_:
+            return "granted 5"
+        modes = rules.get((subject, object_), set())
+        return "denied 7" if not letters <= modes else "granted 6 b" if "b" in modes else "granted 6"
+
+    def make(s, file, text):
+        fields = text.split(" ")
+        if file == "load2":
+            access = without(fields[2], "l")
+            if fields[0] == fields[1]:
+                s.say("the kernel keeps such a rule and never uses it; 01 says 5")
+                s.line(text.encode(), 5)
+            else:
+                s.line(" ".join([fields[0], fields[1], access]).encode(), None)
+                rules[fields[0], fields[1]] = set(access.lower()) - {"-"}
+        elif file == "change-rule":
+            allow, deny = without(fields[2], "lb"), without(fields[3], "lb")
+            s.change(" ".join([fields[0], fields[1], allow, deny]).encode())
+            rules[fields[0], fields[1]] = (rules.get((fields[0], fields[1]), set()) | set(allow.lower())) - set(deny.lower()) - {"-"}
+        else:
+            had = [pair for pair in rules if pair[0] == text]
+            s.revoke(text.encode(), "revoked %d" % len(had))
+            for pair in had:
+                rules[pair] = set()
+
+    compared = 0
+    for stage, name in (("S0", "questions_s0_norules.tsv"), ("S1", "questions_s1.tsv"), ("S2", "questions_s2.tsv"), ("S3", "questions.tsv")):
+        s = Script("kernel_questions_" + stage.lower(), "The kernel's questions after its writes up to %s. Granted or denied is the kernel's answer, but for pairs with @." % stage)
+        done = {"S0": ["S0"], "S1": ["S1"], "S2": ["S1", "S2"], "S3": ["S1", "S2", "S3"]}[stage]
+        rules.clear()
+        for row in writes:
+            if row[0] in done:
+                make(s, row[1], row[2])
+        s.dump()
+        groups = {}
+        for subject, object_, request, answer in rows(folder, name):
+            expect = decide(subject, object_, request)
+            if subject == "*" or "@" not in (subject, object_):
+                compared += 1
+                if expect.startswith("granted") != (answer == "1"):
+                    sys.exit("%s: %s %s %s: the kernel says %s, 01 %s" % (name, subject, object_, request, answer, expect))
+            groups.setdefault(expect, []).append("question %s %s %s 0" % (w(subject.encode()), w(object_.encode()), w(request.encode())))
+        for expect in sorted(groups):
+            s.from_here(expect)
+            for call in groups[expect]:
+                s.call(call)
+        s.from_here("any")
+        s.dump()
+        s.store()
+    print(compared, "answers of the kernel")
+
+    s = Script("kernel_labels", "The kernel's labels: those that it kept whole are labels; those that it cut, split or refused are refused with 3.")
+    count = 0
+    for row in rows(folder, "labels.tsv"):
+        label, at = b"", 0
+        while at < len(row[2]):
+            if row[2][at] == "%":
+                label += bytes([int(row[2][at + 1:at + 3], 16)])
+                at += 3
+            else:
+                label += row[2][at].encode("latin-1")
+                at += 1
+        count += 1
+        whole = row[-1] == "whole"
+        s.bylabel(label, "none" if whole else "refused 3")
+        blank = any(b in label for b in b" \t\n")
+        if blank:
+            continue
+        s.call("fresh")
+        reason = None if whole else 3
+        s.line(label[:500] + b" Object r", reason)
+        s.line(b"Subject " + label[:500] + b" r", reason)
+    print(count, "labels of the kernel")
+    s.store()
+
+    s = Script("kernel_cipso", "The kernel's mappings: level and categories as it put them on packets. Categories 0 and over 63 are refused with 9 here.")
+    for row in rows(folder, "cipso.tsv"):
+        if not row[1].startswith("cipso2 level "):
+            continue
+        level, listed = row[1][len("cipso2 level "):].split(" cats ")
+        categories = [] if listed == "none" else listed.split(",")
+        write = " ".join([row[0], level] + categories).encode()
+        if len(write) > 600:
+            s.mapping(write, "refused 1")
+        elif not all(1 <= int(c) <= 63 for c in categories):
+            s.mapping(write, "refused 9")
+        else:
+            option = bytes.fromhex(row[2])
+            bits = [8 * k + j for k, byte in enumerate(option[10:option[1]]) for j in range(8) if byte & (0x80 >> j)]
+            set_ = sum(category(n) for n in bits)
+            s.mapping(write)
+            s.bylabel(row[0].encode(), "mapping %d %d %d" % (option[9], set_, len(bits)))
+    s.dump()
+    s.store()
+
+
+def main():
+    if not os.path.exists(SECOND):
+        sys.exit("no %s: cargo build --release --offline in tests/second" % SECOND)
+    os.makedirs(CORPUS, exist_ok=True)
+    limits()
+    bytes_and_letters()
+    questions()
+    refusals()
+    damage()
+    odd()
+    counters()
+    cuts()
+    thousands()
+    programs()
+    folder = os.environ.get("KERNEL_VECTORS")
+    if folder:
+        kernel(folder)
+    else:
+        print("KERNEL_VECTORS is not set: kernel_* stay as they are")
+    kept = [f for f in os.listdir(CORPUS) if f.startswith("kernel_") and not folder]
+    for f in sorted(os.listdir(CORPUS)):
+        if f not in kept and f.rsplit(".", 1)[0] not in written:
+            os.remove(os.path.join(CORPUS, f))
+            print("removed", f)
+    print(len(written), "inputs and scripts; now run tests/corpus_check second")
+
+
+if __name__ == "__main__":
+    main()
