@@ -804,6 +804,27 @@ def damage():
     refused_by_all(s)
     s.poke("words", 35, category(1) | category(63))
     s.dump("sound")
+    s.say("0 comes before every other number: full tables, one mapping label without a label, and each call in the order of its refusals.")
+    s.poke("entries", 799, b"\x40")
+    s.dump("each")
+    a, b = pairs()[300]
+    nine = b" ".join(b"N%d" % k for k in range(9))
+    for name, texts in (("change", (b" " * 601, b"A B r", b"A/ B r -", b"A B q -", b"A A r -", b"New1 New2 r -", a + b" " + b + b" r -")), ("revoke", (b"A" * 601, b"/")),
+                        ("override", (b" " * 601, b"", b"A/", nine, b"New1", b"-")), ("mapping", (b" " * 601, b"A", b"A/ 9", b"L05 256", b"New1 9", b"L40 9")),
+                        ("bylabel", (b"/", b"A" * 256)), ("piece", (b"\n", b" " * 601 + b"\n", b"A A r\n", b"New1 New2 r\n"))):
+        for text in texts:
+            s.call(name + " " + h(text), "refused 0")
+    s.bylevel(256, 0, "refused 0")
+    s.bylevel(0, 1, "refused 0")
+    s.ask(b"/", b"A", b"r", "refused 0")
+    s.ask(b"A", b"A", b"q", "refused 0")
+    s.list(256, 0)
+    s.list(0, 0, b"")
+    s.label(64, 0)
+    s.run(256, 1, [], "refused 9")
+    s.dump("each")
+    s.poke("entries", 799, b"\x1f")
+    s.dump("sound")
     s.say("A level is any byte; 63 is a label; every known mode bit: no damage.")
     s.poke("entries", 831, b"\xff")
     s.poke("entries", 767, b"\x3f")

@@ -1,14 +1,15 @@
 -- Laws of the loader's exact step. Assumes nothing.
 use mathlib.Core.Path.{_≡_, refl, sym, ap, _∙_, subst}
 use mathlib.Core.Bool.{Bool, true, false, cond, _&&_}
-use mathlib.Core.List.{List, [], _∷_, _++_, foldl, foldl-append}
-use Prim.Native.Nat.{ℕ, _+_, _<_, _≤_}
+use mathlib.Core.List.{List, [], _∷_, _++_, append-assoc, foldl, foldl-append}
+use Prim.Native.Nat.{ℕ, zero, suc, _+_, _-_, _<_, _≤_}
 use native.Mathlib.Numerals.{add-one}
 use native.Mathlib.Omega.{arith}
 use lib.Dec.{ltb, leb, eqb}
-use borrow.Author.Tests.{eqb-true, leb-true, ltb-true, ltb-false, eq-eqb, le-leb}
-use lib.ListN.{length, take, set, getD, length-set}
-use lib.Seq.{take-suc}
+use borrow.Author.Tests.{eqb-true, eqb-false, leb-true, ltb-true, ltb-false, eq-eqb, ne-eqb, le-leb, lt-ltb, le-ltb}
+use lib.ListN.{length, take, drop, set, getD, length-set, length-drop, take-append-drop, drop-of-length-le}
+use lib.Seq.{drop-cons, drop-drop, take-all, length-take-le, sets, sets-eq}
+use Rattle.search.specs.Bytes.{written}
 use Rattle.search.proofs.Laws.{and-both}
 use Rattle.store.specs.Layout.{Store, store, undamagedOf}
 use Rattle.writes.specs.Writes.{lineVerdict, lineStored}
@@ -16,7 +17,7 @@ use Rattle.writes.specs.declared.Verdict.{Verdict}
 use Rattle.writes.specs.declared.Verdict.the-variants as v
 use Rattle.writes.proofs.Laws.{line-undamaged}
 use Rattle.load.specs.declared.Loader.{Loader}
-use Rattle.load.specs.Loader.{Load, load, ready, count, endKept, keepByte, stepByte, stepPiece, withKept}
+use Rattle.load.specs.Loader.{Load, load, ready, count, endKept, keepByte, stepByte, stepPiece, withKept, beforeNewline}
 
 -- ---- a state that is ready
 
@@ -91,10 +92,215 @@ pub ready-piece : (s : Load) (text : List ℕ) → Ready s → Ready (stepPiece 
 ready-piece s [] r = r
 ready-piece s (b ∷ bs) r = ready-piece (stepByte s b) bs (ready-step s b r)
 
--- ---- a piece, byte by byte
-
-pub piece-more : (s : Load) (text : List ℕ) (i : ℕ) → i < length text → stepPiece s (take (i + 1) text) ≡ stepByte (stepPiece s (take i text)) (getD text i 0)
-piece-more s text i h = rw (add-one, take-suc text i 0 h) (foldl-append stepByte s (take i text) (getD text i 0 ∷ []))
-
 pub same-load : {st st′ : Store} {line line′ : List ℕ} {l l′ : Loader} → st ≡ st′ → line ≡ line′ → l ≡ l′ → load st line l ≡ load st′ line′ l′
 same-load p q r = rw (p, q, r)
+
+-- ---- bytes with no newline
+
+newline-here : (b : ℕ) (bs : List ℕ) → b ≡ 10 → beforeNewline (b ∷ bs) ≡ 0
+unfolding beforeNewline
+newline-here b bs e = rw (eq-eqb b 10 e)
+
+newline-later : (b : ℕ) (bs : List ℕ) → (b ≡ 10 → ⊥) → beforeNewline (b ∷ bs) ≡ suc (beforeNewline bs)
+unfolding beforeNewline
+newline-later b bs e = rw (ne-eqb b 10 e)
+
+-- a byte is a newline or it is not
+newline-or : {P : Type 0} (b : ℕ) → (b ≡ 10 → P) → ((b ≡ 10 → ⊥) → P) → P
+newline-or {P} b is is-not = by-test (eqb b 10) refl
+  where
+    by-test : (t : Bool) → eqb b 10 ≡ t → P
+    by-test true e = is (eqb-true b 10 e)
+    by-test false e = is-not (eqb-false b 10 e)
+
+pub newline-within : (text : List ℕ) → beforeNewline text ≤ length text
+unfolding beforeNewline
+newline-within [] = omega arith
+newline-within (b ∷ bs) =
+    let ih = newline-within bs in
+    newline-or b (λ e. omega (arith, newline-here b bs e)) (λ e. omega (arith, newline-later b bs e, ih))
+
+-- at an index of a text: a newline is there, or the first one is that of the bytes behind
+pub newline-at : (text : List ℕ) (i : ℕ) → i < length text → getD text i 0 ≡ 10 → beforeNewline (drop i text) ≡ 0
+newline-at text i h e = ap beforeNewline (drop-cons text i 0 h) ∙ newline-here (getD text i 0) (drop (suc i) text) e
+
+pub newline-behind : (text : List ℕ) (i : ℕ) → i < length text → (getD text i 0 ≡ 10 → ⊥) → beforeNewline (drop i text) ≡ suc (beforeNewline (drop (i + 1) text))
+newline-behind text i h e =
+    ap beforeNewline (drop-cons text i 0 h)
+    ∙ newline-later (getD text i 0) (drop (suc i) text) e
+    ∙ ap (λ (k : ℕ). suc (beforeNewline (drop k text))) (sym (add-one i))
+
+pub newline-none : (text : List ℕ) (i : ℕ) → length text ≤ i → beforeNewline (drop i text) ≡ 0
+unfolding beforeNewline
+newline-none text i h = ap beforeNewline (drop-of-length-le text {i = i} h)
+
+-- a list of bytes that are all before its first newline has none
+abbrev pub NoNewline : List ℕ → Type 0
+NoNewline run = beforeNewline run ≡ length run
+
+run-first : (b : ℕ) (bs : List ℕ) → NoNewline (b ∷ bs) → b ≡ 10 → ⊥
+run-first b bs e q = omega (arith, newline-here b bs q)
+
+run-rest : (b : ℕ) (bs : List ℕ) → NoNewline (b ∷ bs) → NoNewline bs
+run-rest b bs e = omega (arith, newline-later b bs (run-first b bs e))
+
+run-take : (n : ℕ) (run : List ℕ) → NoNewline run → NoNewline (take n run)
+unfolding beforeNewline
+run-take zero run e = refl
+run-take (suc n) [] e = refl
+run-take (suc n) (b ∷ bs) e = newline-later b (take n bs) (run-first b bs e) ∙ ap suc (run-take n bs (run-rest b bs e))
+
+run-drop : (n : ℕ) (run : List ℕ) → NoNewline run → NoNewline (drop n run)
+run-drop zero run e = e
+run-drop (suc n) [] e = e
+run-drop (suc n) (b ∷ bs) e = run-drop n bs (run-rest b bs e)
+
+pub run-before : (text : List ℕ) → NoNewline (take (beforeNewline text) text)
+unfolding beforeNewline
+run-before [] = refl
+run-before (b ∷ bs) =
+    let ih = run-before bs in
+    newline-or b (λ e. ap (λ (n : ℕ). beforeNewline (take n (b ∷ bs))) (newline-here b bs e) ∙ sym (ap (λ (n : ℕ). length (take n (b ∷ bs))) (newline-here b bs e)))
+    (λ e.
+    let z = newline-later b bs e in
+    ap (λ (n : ℕ). beforeNewline (take n (b ∷ bs))) z
+    ∙ newline-later b (take (beforeNewline bs) bs) e
+    ∙ ap suc ih
+    ∙ sym (ap (λ (n : ℕ). length (take n (b ∷ bs))) z))
+
+-- ---- a run of bytes with no newline joins the kept line
+
+module _ (st : Store) where
+  joins : (line : List ℕ) (l : Loader) (b : ℕ) → (b ≡ 10 → ⊥) → l .kept < 600 → stepByte (load st line l) b ≡ load st (set line (l .kept) b) (withKept l (l .kept + 1))
+  unfolding stepByte
+  joins line l b e h = rw (ne-eqb b 10 e, lt-ltb (l .kept) 600 h)
+
+  too-long : (line : List ℕ) (l : Loader) (b : ℕ) → (b ≡ 10 → ⊥) → 600 ≤ l .kept → stepByte (load st line l) b ≡ load st line (withKept l 601)
+  unfolding stepByte
+  too-long line l b e h = rw (ne-eqb b 10 e, le-ltb (l .kept) 600 h)
+
+  pub run-none : (line : List ℕ) (l : Loader) (run : List ℕ) → length run ≡ 0 → load st line l ≡ stepPiece (load st line l) run
+  run-none line l [] e = refl
+  run-none line l (b ∷ bs) e = absurd (omega (arith, e))
+
+  run-set : (line : List ℕ) (l : Loader) (run : List ℕ) → NoNewline run → l .kept + length run ≤ 600 → stepPiece (load st line l) run ≡ load st (sets line (l .kept) run) (withKept l (l .kept + length run))
+  run-set line l [] e h =
+      let z : l .kept ≡ l .kept + 0 = omega arith in
+      ap (λ (k : ℕ). load st line (withKept l k)) z
+  run-set line l (b ∷ bs) e h =
+      let z : l .kept + 1 + length bs ≡ l .kept + suc (length bs) = omega arith in
+      ap (λ (s : Load). stepPiece s bs) (joins line l b (run-first b bs e) (omega arith))
+      ∙ run-set (set line (l .kept) b) (withKept l (l .kept + 1)) bs (run-rest b bs e) (omega arith)
+      ∙ ap (λ (k : ℕ). load st (sets (set line (l .kept) b) k bs) (withKept l (l .kept + 1 + length bs))) (add-one (l .kept))
+      ∙ ap (λ (k : ℕ). load st (sets line (l .kept) (b ∷ bs)) (withKept l k)) z
+
+  stays-long : (line : List ℕ) (l : Loader) (run : List ℕ) → NoNewline run → stepPiece (load st line (withKept l 601)) run ≡ load st line (withKept l 601)
+  stays-long line l [] e = refl
+  stays-long line l (b ∷ bs) e =
+      ap (λ (s : Load). stepPiece s bs) (too-long line (withKept l 601) b (run-first b bs e) (omega arith))
+      ∙ stays-long line l bs (run-rest b bs e)
+
+  run-past : (line : List ℕ) (l : Loader) (run : List ℕ) → NoNewline run → 600 ≤ l .kept → 0 < length run → stepPiece (load st line l) run ≡ load st line (withKept l 601)
+  run-past line l [] e h some = absurd (omega (arith, some))
+  run-past line l (b ∷ bs) e h some =
+      ap (λ (s : Load). stepPiece s bs) (too-long line l b (run-first b bs e) h)
+      ∙ stays-long line l bs (run-rest b bs e)
+
+  run-cut :
+      (line : List ℕ) (l : Loader) (run : List ℕ) (room : ℕ) →
+      NoNewline run →
+      l .kept + room ≡ 600 →
+      room < length run →
+      stepPiece (load st line l) run ≡ load st (sets line (l .kept) (take room run)) (withKept l 601)
+  run-cut line l run room e h more =
+      let size = length-take-le room run (omega arith) in
+      let full : l .kept + length (take room run) ≡ 600 = omega (arith, size, h) in
+      ap (λ (t : List ℕ). stepPiece (load st line l) t) (sym (take-append-drop room run))
+      ∙ foldl-append stepByte (load st line l) (take room run) (drop room run)
+      ∙ ap (λ (s : Load). stepPiece s (drop room run)) (run-set line l (take room run) (run-take room run e) (omega (arith, full)))
+      ∙ run-past (sets line (l .kept) (take room run)) (withKept l (l .kept + length (take room run))) (drop room run) (run-drop room run e) (omega (arith, full)) (omega (arith, length-drop room run))
+
+set-written : (line : List ℕ) (at : ℕ) (run : List ℕ) → at + length run ≤ length line → written line at run ≡ sets line at run
+unfolding written
+set-written line at run h = sym (sets-eq run line at h ∙ append-assoc (take at line) run (drop (at + length run) line))
+
+-- the three ways of a run: there is room, the line is too long already, or it becomes so
+pub run-kept :
+    (st : Store) (line : List ℕ) (l : Loader) (run : List ℕ) {line′ : List ℕ} {l′ : Loader} →
+    length line ≡ 600 →
+    NoNewline run →
+    l .kept + length run ≤ 600 →
+    line′ ≡ written line (l .kept) run →
+    l′ ≡ withKept l (l .kept + length run) →
+    load st line′ l′ ≡ stepPiece (load st line l) run
+run-kept st line l run size e h p q =
+    same-load refl (p ∙ set-written line (l .kept) run (omega (arith, size))) q ∙ sym (run-set st line l run e h)
+
+pub run-long :
+    (st : Store) (line : List ℕ) (l : Loader) (run : List ℕ) {l′ : Loader} →
+    NoNewline run →
+    600 < l .kept →
+    (length run ≡ 0 → ⊥) →
+    l′ ≡ withKept l 601 →
+    load st line l′ ≡ stepPiece (load st line l) run
+run-long st line l run e h some q = same-load refl refl q ∙ sym (run-past st line l run e (omega arith) (omega (arith, some)))
+
+pub run-over :
+    (st : Store) (line : List ℕ) (l : Loader) (run : List ℕ) (room : ℕ) {line′ : List ℕ} {l′ : Loader} →
+    length line ≡ 600 →
+    NoNewline run →
+    l .kept + room ≡ 600 →
+    room < length run →
+    line′ ≡ written line (l .kept) (take room run) →
+    l′ ≡ withKept l 601 →
+    load st line′ l′ ≡ stepPiece (load st line l) run
+run-over st line l run room size e h more p q =
+    same-load refl (p ∙ set-written line (l .kept) (take room run) (omega (arith, size, h, length-take-le room run (omega arith)))) q
+    ∙ sym (run-cut st line l run room e h more)
+
+-- ---- a piece, line by line
+
+newline-ends : (s : Load) (b : ℕ) → b ≡ 10 → stepByte s b ≡ endKept s
+unfolding stepByte
+newline-ends s b e = rw (eq-eqb b 10 e)
+
+-- the bytes up to a newline join the kept line, the newline ends it, and the bytes behind it are left
+pub line-turn :
+    (s : Load) (text : List ℕ) →
+    beforeNewline text < length text →
+    stepPiece s text ≡ stepPiece (endKept (stepPiece s (take (beforeNewline text) text))) (drop (suc (beforeNewline text)) text)
+line-turn s [] h = absurd (omega (arith, h))
+line-turn s (b ∷ bs) h =
+    newline-or b (λ e. subst Turned (sym (newline-here b bs e)) (ap (λ (x : Load). stepPiece x bs) (newline-ends s b e)))
+    (λ e. subst Turned (sym (newline-later b bs e)) (line-turn (stepByte s b) bs (omega (arith, h, newline-later b bs e))))
+  where
+    Turned : ℕ → Type 0
+    Turned n = stepPiece s (b ∷ bs) ≡ stepPiece (endKept (stepPiece s (take n (b ∷ bs)))) (drop (suc n) (b ∷ bs))
+
+-- the run from an index of the text to its line's end
+module _ (text : List ℕ) (i end : ℕ) (h : i ≤ length text) (e : end ≡ i + beforeNewline (drop i text)) where
+  pub end-behind : i ≤ end
+  end-behind = omega (arith, e)
+
+  pub end-within : end ≤ length text
+  end-within = omega (arith, e, newline-within (drop i text), length-drop i text)
+
+  run-is : take (end - i) (drop i text) ≡ take (beforeNewline (drop i text)) (drop i text)
+  run-is =
+      let z : end - i ≡ beforeNewline (drop i text) = omega (arith, e) in
+      ap (λ (n : ℕ). take n (drop i text)) z
+
+  pub run-between : NoNewline (take (end - i) (drop i text))
+  run-between = subst NoNewline (sym run-is) (run-before (drop i text))
+
+  -- the last run is all that is left of the text
+  pub run-last : end ≡ length text → take (end - i) (drop i text) ≡ drop i text
+  run-last q = take-all (end - i) (drop i text) (omega (arith, q, length-drop i text))
+
+  -- what stands behind the run is the newline
+  pub piece-line : (s : Load) → end < length text → stepPiece s (drop i text) ≡ stepPiece (endKept (stepPiece s (take (end - i) (drop i text)))) (drop (end + 1) text)
+  piece-line s q =
+      let z : i + suc (beforeNewline (drop i text)) ≡ end + 1 = omega (arith, e) in
+      line-turn s (drop i text) (omega (arith, e, q, length-drop i text))
+      ∙ ap (λ (t : List ℕ). stepPiece (endKept (stepPiece s t)) (drop (suc (beforeNewline (drop i text))) (drop i text))) (sym run-is)
+      ∙ ap (λ (t : List ℕ). stepPiece (endKept (stepPiece s (take (end - i) (drop i text)))) t) (drop-drop (suc (beforeNewline (drop i text))) i text ∙ ap (λ (n : ℕ). drop n text) z)

@@ -1,6 +1,6 @@
 -- The loader in lent memory: its exact step, byte by byte, and when it is damaged. A line of over 600 bytes is kept as its first 600 and the
 -- length 601; a count stops at its limit. Assumes nothing.
-use Prim.Native.Nat.{ℕ, _+_, _≤_, min}
+use Prim.Native.Nat.{ℕ, suc, _+_, _≤_, min}
 use mathlib.Core.Path.{_≡_}
 use mathlib.Core.Bool.{Bool, true, false, cond, _&&_}
 use mathlib.Core.List.{List, [], _∷_, foldl}
@@ -68,6 +68,11 @@ keepByte s b =
 
 unfoldable pub stepByte : Load → ℕ → Load
 stepByte s b = cond (eqb b 10) (endKept s) (keepByte s b)
+
+-- how many bytes stand before the first newline: all of them where there is none
+unfoldable pub beforeNewline : List ℕ → ℕ
+beforeNewline [] = 0
+beforeNewline (b ∷ bs) = cond (eqb b 10) 0 (suc (beforeNewline bs))
 
 -- whether the lent state is undamaged, loader and all: refusal 0 otherwise
 unfoldable pub ready : Load → Bool

@@ -3,8 +3,10 @@
 use writes::Verdict;
 ghost use mathlib.Core.Path.{_≡_};
 ghost use mathlib.Core.Bool.{true};
-ghost use Rattle.store.specs.Layout.{store};
-ghost use Rattle.load.specs.Loader.{freshLoader, more, count, withKept, reportOf, endKept, stepByte, ready, load, fedLoader, pieceAfter, pieceAnswer, endedLoader, endAfter, endAnswer};
+ghost use Prim.Native.Nat.{_+_};
+ghost use lib.ListN.{length, drop};
+ghost use Rattle.store.specs.Layout.{Store, store};
+ghost use Rattle.load.specs.Loader.{freshLoader, more, count, withKept, reportOf, endKept, beforeNewline, stepPiece, ready, load, fedLoader, pieceAfter, pieceAnswer, endedLoader, endAfter, endAnswer};
 
 // The loader between two calls: how many bytes of the line under way are kept (601: it has more than 600), and the report's numbers.
 #[repr(C)]
@@ -161,26 +163,39 @@ fn report_of(l: Loader) -> Report
     }
 }
 
-// Takes one byte of text.
-fn take_byte(
-    labels: &mut [u8],
-    entries: &mut [u8],
-    words: &mut [u64],
-    line: &mut [u8],
-    l: Loader,
-    b: u8,
-) -> Loader
-    requires { ⌜ ready (load (store (now labels) (now entries) (now words)) (now line) l) ≡ true ⌝ }
-    ensures { λ r. ⌜ load (store (now (labels .exit)) (now (entries .exit)) (now (words .exit))) (now (line .exit)) r ≡ stepByte (load (store (now (labels .entry)) (now (entries .entry)) (now (words .entry))) (now (line .entry)) l) b ⌝ }
+// The index of the first newline from `from` on, or that of the text's end.
+pub fn line_end(text: &[u8], from: usize) -> usize
+    ensures { λ r. ⌜ r ≡ from + beforeNewline (drop from (now (text .entry))) ⌝ }
 {
-    if b == 10 {
-        return end_line(labels, entries, words, line, l);
+    let mut i = from;
+    while i < text.len() {
+        if text[i] == 10 {
+            return i;
+        }
+        i += 1;
     }
+    i
+}
+
+// Takes bytes of one line, none of them its newline. They join the kept line in one go, as many as there is room for.
+fn take_run(line: &mut [u8], l: Loader, run: &[u8]) -> Loader
+    requires { ⌜ (length (now line) ≡ 600) × (beforeNewline (now run) ≡ length (now run)) ⌝ }
+    ensures { λ r. ⌜ ((st : Store) → load st (now (line .exit)) r ≡ stepPiece (load st (now (line .entry)) l) (now (run .entry))) ⌝ }
+{
     let kept = l.kept;
-    if kept < 600 {
-        line[kept] = b;
-        return keep(l, kept + 1);
+    let n = run.len();
+    if n == 0 {
+        return l;
     }
+    if 600 < kept {
+        return keep(l, 601);
+    }
+    let room = 600 - kept;
+    if n <= room {
+        search::copy_at(line, kept, run);
+        return keep(l, kept + n);
+    }
+    search::copy_at(line, kept, &run[..room]);
     keep(l, 601)
 }
 
@@ -214,11 +229,15 @@ pub fn piece(
     }
     let mut next = l;
     let mut i = 0;
-    while i < text.len() {
-        next = take_byte(labels, entries, words, line, next, text[i]);
-        i += 1;
+    loop {
+        let end = line_end(text, i);
+        next = take_run(line, next, &text[i..end]);
+        if end == text.len() {
+            return Fed::Done(next);
+        }
+        next = end_line(labels, entries, words, line, next);
+        i = end + 1;
     }
-    Fed::Done(next)
 }
 
 // The end call: bytes after the last newline are one more line; the report is answered, and the loader is fresh.

@@ -1,6 +1,6 @@
 -- Laws of the definitions of specs/. Assumes nothing.
 use mathlib.Core.Path.{_≡_, refl, sym, ap, _∙_, subst}
-use mathlib.Core.Bool.{Bool, true, false, cond, not, _&&_, and-false, and-true}
+use mathlib.Core.Bool.{Bool, true, false, cond, not, _&&_, _||_, and-false, and-true}
 use mathlib.Core.List.{List, [], _∷_, _++_, append-assoc, append-nil, map}
 use mathlib.Core.Logic.{_⊎_, inl, inr, ⊎-elim}
 use Prim.Native.Nat.{ℕ, zero, suc, _+_, _*_, _-_, _<_, _≤_, suc-le-suc}
@@ -69,6 +69,17 @@ same-equal (x ∷ xs) (y ∷ ys) e =
     let p = eqb-true x y (h .0) in
     let q = same-equal xs ys (h .1) in
     cc
+
+-- two strings that differ at one of two places are not equal
+pub same-ends : (a b : List ℕ) (k m : ℕ) → (not (eqb (getD a k 0) (getD b k 0)) || not (eqb (getD a m 0) (getD b m 0))) ≡ true → sameBytes a b ≡ false
+same-ends a b k m e = by-test (sameBytes a b) refl
+  where
+    by-test : (t : Bool) → sameBytes a b ≡ t → sameBytes a b ≡ false
+    by-test true q =
+        let f : eqb (getD a k 0) (getD b k 0) ≡ true = eq-eqb _ _ (ap (λ (l : List ℕ). getD l k 0) (same-equal a b q)) in
+        let g : eqb (getD a m 0) (getD b m 0) ≡ true = eq-eqb _ _ (ap (λ (l : List ℕ). getD l m 0) (same-equal a b q)) in
+        absurd (no (rw (f, g) at e))
+    by-test false q = q
 
 pub same-sym : (a b : List ℕ) → sameBytes a b ≡ sameBytes b a
 unfolding sameBytes

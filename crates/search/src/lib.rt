@@ -14,21 +14,29 @@ pub enum Found {
     Nothing,
 }
 
-// Whether two byte strings are equal, all bytes.
+// Whether two byte strings are equal, all bytes. Most that differ do so in their length, their first or their last byte; where these agree
+// all bytes are read, so that the compiler can take many at a time.
 pub fn same_bytes(a: &[u8], b: &[u8]) -> bool
     ensures { λ r. ⌜ r ≡ sameBytes (now (a .entry)) (now (b .entry)) ⌝ }
 {
-    if a.len() != b.len() {
+    let count = a.len();
+    if count != b.len() {
         return false;
     }
+    if count == 0 {
+        return true;
+    }
+    let last = count - 1;
+    if (a[last] != b[last]) | (a[0] != b[0]) {
+        return false;
+    }
+    let mut same = true;
     let mut i = 0;
-    while i < a.len() {
-        if a[i] != b[i] {
-            return false;
-        }
+    while i < count {
+        same = same & (a[i] == b[i]);
         i += 1;
     }
-    true
+    same
 }
 
 // Writes `src` over `dst` from index `at`. Who calls it has made sure that it fits.

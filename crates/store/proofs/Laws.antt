@@ -1,21 +1,44 @@
 -- Laws of the layout. Assumes nothing.
 use mathlib.Core.Path.{_≡_, refl, sym, ap, _∙_, subst}
-use mathlib.Core.Bool.{Bool, true, false, cond, _&&_}
+use mathlib.Core.Bool.{Bool, true, false, cond, _&&_, _||_}
 use mathlib.Core.List.{List, [], _∷_, _++_, append-assoc}
 use Prim.Native.Nat.{ℕ, zero, suc, _+_, _*_, _-_, _%_, _<_, _≤_}
 use native.Mathlib.Numerals.{add-one}
 use native.Mathlib.Omega.{arith}
 use lib.Dec.{eqb, ltb, leb}
-use borrow.Author.Tests.{eqb-true, leb-true, eq-eqb, le-leb, ltb-true, lt-ltb}
+use borrow.Author.Tests.{eqb-true, leb-true, eq-eqb, le-leb, ltb-true, ltb-false, lt-ltb}
 use lib.ListN.{length, take, drop, getD, set, length-append, length-take, length-drop, length-set, take-append-drop}
 use lib.Seq.{take-suc, take-append-le, take-append-seam, drop-append-le, take-take, drop-at, getD-take, getD-drop, length-take-le, take-suc-set, drop-set-lt, drop-cons, getD-set-same, getD-set-other}
 use Rattle.search.specs.Search.{first, all, entries, placeOf, countOf}
 use Rattle.search.specs.Bytes.{written}
-use Rattle.search.proofs.Laws.{and-both, and-assoc, all-snoc, all-weaker, entries-same, entries-none, last-entry, length-written}
+use Rattle.search.proofs.Laws.{no, and-both, and-assoc, all-snoc, all-weaker, entries-same, entries-none, last-entry, length-written}
 use Rattle.store.specs.declared.Rule.{Rule}
 use Rattle.store.specs.declared.Mapping.{Mapping}
-use Rattle.store.specs.Table.{Table, floor, hat, star, huh, web, fresh, soundRule, soundMapping, soundTable}
-use Rattle.store.specs.Layout.{Store, store, labelAt, ruleAt, mappingAt, onlycapAt, tableOf, undamagedOf, withLabel, withRule, held, freshLabels, freshWords, freshStore, Sizes, Counts}
+use Rattle.store.specs.Table.{Table, isPair, floor, hat, star, huh, web, fresh, soundRule, soundMapping, soundTable}
+use Rattle.store.specs.Layout.{Store, store, labelAt, ruleAt, mappingAt, onlycapAt, tableOf, undamagedOf, NoPair, withLabel, withRule, held, freshLabels, freshWords, freshStore, Sizes, Counts}
+
+-- ---- a pair sought in blocks of 32 places
+
+pub or-false : (a b : Bool) → (a || b) ≡ false → (a ≡ false) × (b ≡ false)
+or-false true b e = (e, absurd (no (sym e)))
+or-false false b e = (refl, e)
+
+-- past one block more
+pub no-pair-more : (s o : ℕ) (e : List ℕ) (b : ℕ) → NoPair s o e 0 (b * 32) → NoPair s o e (b * 32) 32 → NoPair s o e 0 ((b + 1) * 32)
+no-pair-more s o e b before here k h = by-test (ltb k (b * 32)) refl
+  where
+    by-test : (t : Bool) → ltb k (b * 32) ≡ t → isPair s o (ruleAt e (0 + k)) ≡ false
+    by-test true q = before k (ltb-true k (b * 32) q)
+    by-test false q =
+        let past = ltb-false k (b * 32) q in
+        let same : 0 + k ≡ b * 32 + (k - b * 32) = omega arith in
+        ap (λ (j : ℕ). isPair s o (ruleAt e j)) same ∙ here (k - b * 32) (omega arith)
+
+-- the same by the places' own numbers
+pub no-pair-at : (s o : ℕ) (e : List ℕ) {n : ℕ} → NoPair s o e 0 n → (k : ℕ) → k < n → isPair s o (ruleAt e k) ≡ false
+no-pair-at s o e none k h =
+    let same : k ≡ 0 + k = omega arith in
+    ap (λ (j : ℕ). isPair s o (ruleAt e j)) same ∙ none k h
 
 -- ---- a test over the entries of a table, by the runs of numbers that hold them
 

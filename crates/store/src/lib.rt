@@ -2,14 +2,15 @@
 // slices hold them: `labels`, `entries` and `words`, laid out as specs/Layout.antt says.
 use search::Found;
 ghost use mathlib.Core.Path.{_≡_};
-ghost use Prim.Native.Nat.{_%_, _<_, _≤_};
+ghost use Prim.Native.Nat.{_+_, _%_, _<_, _≤_};
 ghost use lib.ListN.{length, getD, take};
 ghost use lib.Dec.{eqb};
+ghost use mathlib.Core.Bool.{false};
 ghost use mathlib.Core.List.{[]};
-ghost use Rattle.search.specs.Search.{first, all, entries};
+ghost use Rattle.search.specs.Search.{first, all, entries as listed};
 ghost use Rattle.search.specs.Bytes.{sameBytes};
 ghost use Rattle.store.specs.Table.{isPair, soundTable};
-ghost use Rattle.store.specs.Layout.{store, tableOf, labelAt, ruleAt, undamagedOf, withLabel, withRule, Counts, freshAnswer, freshStore};
+ghost use Rattle.store.specs.Layout.{store, tableOf, labelAt, ruleAt, undamagedOf, NoPair, withLabel, withRule, Counts, freshAnswer, freshStore};
 
 // A rule: the numbers of its subject and its object, and its modes.
 pub struct Rule {
@@ -107,7 +108,7 @@ pub fn label_at(labels: &[u8], k: usize) -> &[u8]
 // The number of a label among the first `count`: the first that has its bytes. Who calls it has tested the store.
 pub fn find_label(labels: &[u8], count: usize, label: &[u8]) -> Found
     requires { ⌜ (length (now labels) ≡ 16384) × (count ≤ 64) ⌝ }
-    ensures { λ r. ⌜ r ≡ first (sameBytes (now (label .entry))) (entries (labelAt (now (labels .entry))) count) ⌝ }
+    ensures { λ r. ⌜ r ≡ first (sameBytes (now (label .entry))) (listed (labelAt (now (labels .entry))) count) ⌝ }
 {
     let mut i = 0;
     while i < count {
@@ -120,14 +121,46 @@ pub fn find_label(labels: &[u8], count: usize, label: &[u8]) -> Found
     Found::Nothing
 }
 
-// The place of a pair's rule among the first `count`: only numbers are compared. Who calls it has tested the store.
-pub fn find_pair(rules: &[u8], count: usize, subject: u8, object: u8) -> Found
-    requires { ⌜ (length (now rules) ≡ 840) × (count ≤ 256) ⌝ }
-    ensures { λ r. ⌜ r ≡ first (isPair subject object) (entries (ruleAt (now (rules .entry))) count) ⌝ }
+// Whether one of the 32 places from an index on holds the pair. It reads all of them, stored or not, so that the compiler can take many at a
+// time. Its contract speaks of "no" alone: after a "yes" they are looked at one by one. Who calls it has tested the store.
+fn block_holds(entries: &[u8], from: usize, subject: u8, object: u8) -> bool
+    requires { ⌜ (length (now entries) ≡ 840) × (from ≤ 224) ⌝ }
+    ensures { λ r. ⌜ (r ≡ false → NoPair subject object (now (entries .entry)) from 32) ⌝ }
 {
+    let mut any = false;
     let mut i = 0;
+    while i < 32 {
+        let at = from + i;
+        any = any | ((entries[at] == subject) & (entries[256 + at] == object));
+        i += 1;
+    }
+    any
+}
+
+// An index before which no place holds the pair: the first block of 32 that may hold it, or one past the stored ones. Who calls it has tested
+// the store.
+fn pass_blocks(entries: &[u8], count: usize, subject: u8, object: u8) -> usize
+    requires { ⌜ (length (now entries) ≡ 840) × (count ≤ 256) ⌝ }
+    ensures { λ r. ⌜ NoPair subject object (now (entries .entry)) 0 r ⌝ }
+{
+    let mut block = 0;
+    while block * 32 < count {
+        if block_holds(entries, block * 32, subject, object) {
+            return block * 32;
+        }
+        block += 1;
+    }
+    block * 32
+}
+
+// The place of a pair's rule among the first `count`: only numbers are compared. Who calls it has tested the store.
+pub fn find_pair(entries: &[u8], count: usize, subject: u8, object: u8) -> Found
+    requires { ⌜ (length (now entries) ≡ 840) × (count ≤ 256) ⌝ }
+    ensures { λ r. ⌜ r ≡ first (isPair subject object) (listed (ruleAt (now (entries .entry))) count) ⌝ }
+{
+    let mut i = pass_blocks(entries, count, subject, object);
     while i < count {
-        if (rules[i] == subject) & (rules[256 + i] == object) {
+        if (entries[i] == subject) & (entries[256 + i] == object) {
             return Found::At(i);
         }
         i += 1;

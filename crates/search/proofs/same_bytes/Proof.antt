@@ -1,38 +1,57 @@
--- `search::same_bytes` meets its contract: what is left to compare decides. Assumes nothing.
-use Prim.Native.Nat.{_≤_, _-_}
-use mathlib.Core.Path.{_≡_, refl, sym, _∙_}
+-- `search::same_bytes` meets its contract: `same` and what is left to compare decide. Assumes nothing.
+use Prim.Native.Nat.{_≤_, _<_, _-_}
+use mathlib.Core.Path.{_≡_, refl, sym, ap, _∙_}
+use mathlib.Core.Bool.{Bool, true, _&&_, and-true}
 use native.Mathlib.Omega.{arith}
 use borrow.Author.Needs.{needs}
-use borrow.Author.Tests.{eq-eqb, ne-eqb}
-use lib.ListN.{length, drop, drop-of-length-le}
+use lib.Dec.{eqb}
+use lib.ListN.{length, drop, getD, drop-of-length-le}
 use Rattle.search.specs.Bytes.{sameBytes}
-use Rattle.search.proofs.Laws.{same-lengths, same-turn}
+use Rattle.search.proofs.Laws.{and-assoc, same-lengths, same-turn, same-ends}
 use Rattle.search.proofs.same_bytes.Statement.{statement}
 use Rattle.search.proofs.same_bytes.Tie as tie
 
 abbrev Inv-loop : tie.InvT-loop
-Inv-loop a b i₀ i = (i ≤ length a) × (sameBytes a b ≡ sameBytes (drop i a) (drop i b))
+Inv-loop a b count last same₀ i₀ same i = (i ≤ length a) × (sameBytes a b ≡ (same && sameBytes (drop i a) (drop i b)))
 
 abbrev μ-loop : tie.MeasureT-loop
-μ-loop a b i₀ i = length a - i
+μ-loop a b count last same₀ i₀ same i = length a - i
 
 returns : tie.Need-returns Inv-loop μ-loop
 returns c = sym (same-lengths _ _ (c .if1 .taken))
 
-loop-holds : tie.Need-loop-holds Inv-loop μ-loop
-loop-holds c = (search needs, refl)
-
-shared-slice-read-if2 : tie.Need-shared-slice-read-if2 Inv-loop μ-loop
-shared-slice-read-if2 c = omega arith
-
-shared-slice-read-if2-2 : tie.Need-shared-slice-read-if2-2 Inv-loop μ-loop
-shared-slice-read-if2-2 c = omega arith
-
 returns-2 : tie.Need-returns-2 Inv-loop μ-loop
+unfolding sameBytes
 returns-2 c =
-    let s = c .before .before .before .before in
-    let a = s .before .before .args in
-    sym (s .loop .inv .1 ∙ rw (same-turn (a .a .now) (a .b .now) (s .loop .i) (omega arith) (omega arith), ne-eqb _ _ (c .if2 .taken)))
+    let a = c .before .before .args in
+    rw (drop-of-length-le (a .a .now) {i = 0} (omega arith), drop-of-length-le (a .b .now) {i = 0} (omega arith))
+
+sub-last : tie.Need-sub-last Inv-loop μ-loop
+sub-last c = omega arith
+
+shared-slice-read-if3 : tie.Need-shared-slice-read-if3 Inv-loop μ-loop
+shared-slice-read-if3 c = omega arith
+
+shared-slice-read-if3-2 : tie.Need-shared-slice-read-if3-2 Inv-loop μ-loop
+shared-slice-read-if3-2 c = omega arith
+
+shared-slice-read-if3-3 : tie.Need-shared-slice-read-if3-3 Inv-loop μ-loop
+shared-slice-read-if3-3 c = omega arith
+
+shared-slice-read-if3-4 : tie.Need-shared-slice-read-if3-4 Inv-loop μ-loop
+shared-slice-read-if3-4 c = omega arith
+
+returns-3 : tie.Need-returns-3 Inv-loop μ-loop
+returns-3 c = sym (same-ends _ _ _ _ (c .if3 .taken))
+
+loop-holds : tie.Need-loop-holds Inv-loop μ-loop
+loop-holds c = (omega arith, refl)
+
+shared-slice-read-same : tie.Need-shared-slice-read-same Inv-loop μ-loop
+shared-slice-read-same c = omega arith
+
+shared-slice-read-same-2 : tie.Need-shared-slice-read-same-2 Inv-loop μ-loop
+shared-slice-read-same-2 c = omega arith
 
 add-i : tie.Need-add-i Inv-loop μ-loop
 add-i c = omega arith
@@ -42,16 +61,17 @@ loop-less c = omega arith
 
 loop-again : tie.Need-loop-again Inv-loop μ-loop
 loop-again c =
-    let s = c .before .before .before .before in
-    let a = s .before .before .args in
-    (omega arith, s .loop .inv .1 ∙ rw (same-turn (a .a .now) (a .b .now) (s .loop .i) (omega arith) (omega arith), eq-eqb _ _ (c .if2 .left)))
+    let s = c .before .before .before in
+    let a = s .before .before .before .before .before .before .before .before .args in
+    let i = s .loop .i in
+    (omega arith, s .loop .inv .1 ∙ ap (λ (t : Bool). s .loop .same && t) (same-turn (a .a .now) (a .b .now) i (omega arith) (omega arith)) ∙ and-assoc (s .loop .same) (eqb (getD (a .a .now) i 0) (getD (a .b .now) i 0)) _)
 
-returns-3 : tie.Need-returns-3 Inv-loop μ-loop
+returns-4 : tie.Need-returns-4 Inv-loop μ-loop
 unfolding sameBytes
-returns-3 c =
+returns-4 c =
     let s = c .before in
-    let a = s .before .before .args in
-    sym (s .loop .inv .1 ∙ rw (drop-of-length-le (a .a .now) {i = s .loop .i} (omega arith), drop-of-length-le (a .b .now) {i = s .loop .i} (omega arith)))
+    let a = s .before .before .before .before .before .before .before .before .args in
+    sym (s .loop .inv .1 ∙ rw (drop-of-length-le (a .a .now) {i = s .loop .i} (omega arith), drop-of-length-le (a .b .now) {i = s .loop .i} (omega arith)) (and-true (s .loop .same)))
 
 pub same-bytes-spec : {M : Type 1} → statement M
 same-bytes-spec =
@@ -60,11 +80,17 @@ same-bytes-spec =
     Inv-loop
     μ-loop
     returns
-    loop-holds
-    shared-slice-read-if2
-    shared-slice-read-if2-2
     returns-2
+    sub-last
+    shared-slice-read-if3
+    shared-slice-read-if3-2
+    shared-slice-read-if3-3
+    shared-slice-read-if3-4
+    returns-3
+    loop-holds
+    shared-slice-read-same
+    shared-slice-read-same-2
     add-i
     loop-less
     loop-again
-    returns-3)
+    returns-4)

@@ -7,17 +7,22 @@ use Rattle.search.proofs.Laws.{found-at, found-none}
 use Rattle.store.specs.Table.{isPair}
 use Rattle.store.specs.Layout.{ruleAt}
 use native.Mathlib.Omega.{arith}
+use borrow.Author.Needs.{needs}
+use Rattle.store.proofs.Laws.{no-pair-at}
 use Rattle.store.proofs.find_pair.Statement.{statement}
 use Rattle.store.proofs.find_pair.Tie as tie
 
 abbrev Inv-loop : tie.InvT-loop
-Inv-loop rules count subject object i₀ i = (i ≤ count) × ((k : ℕ) → k < i → isPair subject object (ruleAt rules k) ≡ false)
+Inv-loop entries count subject object i₀ i = (k : ℕ) → k < i → isPair subject object (ruleAt entries k) ≡ false
 
 abbrev μ-loop : tie.MeasureT-loop
-μ-loop rules count subject object i₀ i = count - i
+μ-loop entries count subject object i₀ i = count - i
+
+pass-blocks-requires : tie.Need-pass-blocks-requires Inv-loop μ-loop
+pass-blocks-requires c κs = search needs
 
 loop-holds : tie.Need-loop-holds Inv-loop μ-loop
-loop-holds c = (omega arith, λ k h. absurd (omega arith))
+loop-holds c = no-pair-at _ _ _ (c .pass-blocks .ensures)
 
 shared-slice-read-if1 : tie.Need-shared-slice-read-if1 Inv-loop μ-loop
 shared-slice-read-if1 c = omega arith
@@ -32,8 +37,8 @@ returns : tie.Need-returns Inv-loop μ-loop
 unfolding isPair ruleAt
 returns c =
     let l = c .before .before .before .before in
-    let a = l .before .args in
-    sym (found-at (isPair (a .subject) (a .object)) (ruleAt (a .rules .now)) (a .count) (l .loop .i) (omega arith) (l .loop .inv .1) (c .if1 .taken))
+    let a = l .before .before .before .args in
+    sym (found-at (isPair (a .subject) (a .object)) (ruleAt (a .entries .now)) (a .count) (l .loop .i) (omega arith) (l .loop .inv) (c .if1 .taken))
 
 add-i : tie.Need-add-i Inv-loop μ-loop
 add-i c = omega arith
@@ -45,13 +50,13 @@ loop-again : tie.Need-loop-again Inv-loop μ-loop
 unfolding isPair ruleAt
 loop-again c =
     let l = c .before .before .before .before in
-    (omega arith, below-more _ _ (l .loop .inv .1) (c .if1 .left))
+    below-more _ _ (l .loop .inv) (c .if1 .left)
 
 returns-2 : tie.Need-returns-2 Inv-loop μ-loop
 returns-2 c =
     let l = c .before in
-    let a = l .before .args in
-    sym (found-none (isPair (a .subject) (a .object)) (ruleAt (a .rules .now)) (a .count) (λ k h. l .loop .inv .1 k (omega arith)))
+    let a = l .before .before .before .args in
+    sym (found-none (isPair (a .subject) (a .object)) (ruleAt (a .entries .now)) (a .count) (λ k h. l .loop .inv k (omega arith)))
 
 pub find-pair-spec : {M : Type 1} → statement M
 find-pair-spec =
@@ -59,6 +64,7 @@ find-pair-spec =
     (tie.spec
     Inv-loop
     μ-loop
+    pass-blocks-requires
     loop-holds
     shared-slice-read-if1
     add-if1
