@@ -6,7 +6,7 @@ ghost use Prim.Native.Nat.{_+_, _%_, _<_, _≤_};
 ghost use lib.ListN.{length, getD, take};
 ghost use lib.Dec.{eqb};
 ghost use mathlib.Core.Bool.{false};
-ghost use mathlib.Core.List.{[]};
+ghost use mathlib.Core.List.{[], _∷_};
 ghost use Rattle.search.specs.Search.{first, all, entries as listed};
 ghost use Rattle.search.specs.Bytes.{sameBytes};
 ghost use Rattle.store.specs.Table.{isPair, soundTable};
@@ -105,15 +105,41 @@ pub fn label_at(labels: &[u8], k: usize) -> &[u8]
     &labels[start..end]
 }
 
+// The last byte of a label, or 0 where it is empty.
+fn last_byte(label: &[u8]) -> u8
+    ensures { λ r. ⌜ r ≡ getD (0 ∷ now (label .entry)) (length (now (label .entry))) 0 ⌝ }
+{
+    let n = label.len();
+    if n == 0 { 0 } else { label[n - 1] }
+}
+
+// Whether place k holds a label, whose last byte is `last`. Few labels have its length and that byte, which one test looks at; only these are
+// compared whole. Who calls it has tested the store and the label's length.
+fn is_label(labels: &[u8], k: usize, label: &[u8], last: u8) -> bool
+    requires { ⌜ (length (now labels) ≡ 16384) × (k < 64) × (length (now label) ≤ 255) × (last ≡ getD (0 ∷ now label) (length (now label)) 0) ⌝ }
+    ensures { λ r. ⌜ r ≡ sameBytes (now (label .entry)) (labelAt (now (labels .entry)) k) ⌝ }
+{
+    let n = label.len();
+    let at = k * 256;
+    if (labels[at] as usize != n) | (labels[at + n] != last) {
+        return false;
+    }
+    let held = label_at(labels, k);
+    search::same_bytes(label, held)
+}
+
 // The number of a label among the first `count`: the first that has its bytes. Who calls it has tested the store.
 pub fn find_label(labels: &[u8], count: usize, label: &[u8]) -> Found
     requires { ⌜ (length (now labels) ≡ 16384) × (count ≤ 64) ⌝ }
     ensures { λ r. ⌜ r ≡ first (sameBytes (now (label .entry))) (listed (labelAt (now (labels .entry))) count) ⌝ }
 {
+    if 255 < label.len() {
+        return Found::Nothing;
+    }
+    let last = last_byte(label);
     let mut i = 0;
     while i < count {
-        let held = label_at(labels, i);
-        if search::same_bytes(label, held) {
+        if is_label(labels, i, label, last) {
             return Found::At(i);
         }
         i += 1;

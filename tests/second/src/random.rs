@@ -1238,7 +1238,9 @@ impl Generator<'_> {
             _ => self.random.below(8),
         };
         for _ in 0..count {
-            let label = self.random.pick(&[0, 1, 5, 63, 64, 255, 256, 1 << 32, u64::MAX]);
+            let label = self
+                .random
+                .pick(&[0, 1, 5, 63, 64, 255, 256, 1 << 32, u64::MAX]);
             let other_level = self.random.pick(&[0, 9, 255, 256, level | 256, u64::MAX]);
             let record_level = if self.random.chance(70) {
                 level

@@ -80,7 +80,10 @@ fn every_form() {
         ("poke loader 0 18446744073709551615", "done"),
         ("end", "refused 0"),
         ("poke loader 0 0", "done"),
-        ("run 9 2 18446744073709551615,9,2 256,9,2 1,265,2", "label 256"),
+        (
+            "run 9 2 18446744073709551615,9,2 256,9,2 1,265,2",
+            "label 256",
+        ),
         ("poke words 0 65", "done"),
         ("freshen", "done"),
         ("label 4", "done 40"),
