@@ -1048,6 +1048,71 @@ def odd():
     s.store()
 
 
+def odd_counts():
+    s = Script("odd_counts", "01: what is stored lies below the counts. Full tables, each count set to every number: the last entry below it is found, the next is not.")
+    full(s)
+    eight = [name_of(k) for k in range(56, 64)]
+    s.override(b" ".join(eight))
+    for k, n in enumerate((1, 255, 3, 77, 31, 32, 33, 15, 16, 17)):
+        s.poke("entries", 800 + k, bytes([n]))
+    s.say("rules")
+    for count in range(257):
+        s.poke("words", 1, count)
+        if count:
+            s.ask(*pairs()[count - 1], b"r", "granted 6")
+            s.list(count - 1, b"%s %s r\n" % pairs()[count - 1])
+        if count < 256:
+            s.ask(*pairs()[count], b"r", "denied 7")
+            s.list(count, 13)
+    s.say("mappings: each at a level of its own")
+    for k in range(32):
+        s.poke("entries", 800 + k, bytes([k]))
+    both = category(1) | category(63)
+    for count in range(33):
+        s.poke("words", 2, count)
+        if count:
+            s.bylabel(name_of(count - 1), "mapping %d %d 2" % (count - 1, both))
+            s.bylevel(count - 1, both, "label %d" % (count - 1))
+        if count < 32:
+            s.bylabel(name_of(count), "none")
+            s.bylevel(count, both, "none")
+    s.say("override labels: under a count of 0 every subject passes")
+    for count in range(9):
+        s.poke("words", 3, count)
+        for k, label in enumerate(eight):
+            s.ask(label, b"_", b"w", "override 7" if count == 0 or k < count else "denied 7", 1)
+    s.say("labels: one behind the count is not stored; it enters there anew, at the same place")
+    s.poke("words", 1, 0)
+    s.poke("words", 2, 0)
+    s.poke("words", 3, 0)
+    for count in range(1, 64):
+        s.poke("words", 0, count)
+        s.label(count - 1, name_of(count - 1))
+        s.label(count, 13)
+        s.mapping(name_of(count - 1) + b" 7")
+        s.bylevel(7, 0, "label %d" % (count - 1))
+        s.mapping(name_of(count) + b" 6")
+        s.bylevel(6, 0, "label %d" % count)
+        s.label(count, name_of(count))
+        s.label(count + 1, 13)
+        s.dump()
+        s.poke("words", 2, 0)
+    s.say("labels told apart by one byte: the first, one in the middle, the last; and by their length alone")
+    s.fresh()
+    for length in (1, 2, 7, 8, 9, 15, 16, 17, 31, 32, 33, 63, 64, 65, 254, 255):
+        s.call("fresh", "done")
+        labels = [b"m" * length]
+        for at in sorted({0, length // 2, max(0, length - 2), length - 1}):
+            labels.append(b"m" * at + b"n" + b"m" * (length - at - 1))
+        labels += [b"m" * (length - 1)] * (length > 1) + [b"m" * (length + 1)] * (length < 255)
+        for k, label in enumerate(labels):
+            s.mapping(label + b" %d" % k)
+        for k, label in enumerate(labels):
+            s.bylabel(label, "mapping %d 0 0" % k)
+            s.label(5 + k, label)
+    s.store()
+
+
 # ---------------------------------------------------------------------------------------------------------------------------------------------
 # The report's numbers at their limit
 # ---------------------------------------------------------------------------------------------------------------------------------------------
@@ -1363,6 +1428,7 @@ def main():
     refusals()
     damage()
     odd()
+    odd_counts()
     counters()
     cuts()
     thousands()

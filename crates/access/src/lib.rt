@@ -102,7 +102,7 @@ fn find_rule(entries: &[u8], words: &[u64], subject: Found, object: Found) -> Fo
     let Found::At(o) = object else {
         return Found::Nothing;
     };
-    store::find_pair(entries, words[1] as usize, s as u8, o as u8)
+    places::find_pair(entries, words[1] as usize, s as u8, o as u8)
 }
 
 // Whether the onlycap list holds a label, by its number. Who calls it has tested the store.
@@ -164,8 +164,8 @@ fn by_table(
     ensures { λ r. ⌜ r ≡ access.byTable (tableOf (store (now (labels .entry)) (now (entries .entry)) (now (words .entry)))) (now (subject .entry)) (now (object .entry)) wanted capable ⌝ }
 {
     let count = words[0] as usize;
-    let s = store::find_label(labels, count, subject);
-    let o = store::find_label(labels, count, object);
+    let s = places::find_label(labels, count, subject);
+    let o = places::find_label(labels, count, object);
     let Found::At(k) = find_rule(entries, words, s, o) else {
         return denied(entries, words, s, Denial::NoRule, capable);
     };
@@ -192,7 +192,7 @@ fn decide(
     match by_labels(subject, object, wanted) {
         Verdict::Grants(rule, b) => Answer::Granted(rule, b),
         Verdict::Denies(by) => {
-            let s = store::find_label(labels, words[0] as usize, subject);
+            let s = places::find_label(labels, words[0] as usize, subject);
             denied(entries, words, s, by, capable)
         }
         Verdict::Undecided => by_table(labels, entries, words, subject, object, wanted, capable),

@@ -147,7 +147,7 @@ fn find_place(labels: &[u8], entries: &[u8], words: &[u64], label: &[u8]) -> Pla
 {
     let stored = words[0] as usize;
     let mappings = words[2] as usize;
-    let l = store::find_label(labels, stored, label);
+    let l = places::find_label(labels, stored, label);
     if rules::full(l, stored, 64) {
         return Place::Refused(6);
     }
@@ -243,7 +243,7 @@ pub fn by_label(labels: &[u8], entries: &[u8], words: &[u64], label: &[u8]) -> L
     };
     let stored = words[0] as usize;
     let mappings = words[2] as usize;
-    let Found::At(n) = store::find_label(labels, stored, label) else {
+    let Found::At(n) = places::find_label(labels, stored, label) else {
         return Lookup::Unmapped;
     };
     let Found::At(k) = find_mapping(entries, mappings, n) else {
@@ -272,8 +272,8 @@ fn has_both(labels: &[u8], entries: &[u8], words: &[u64], n: usize, level: u64, 
     if words[4 + k] != set {
         return false;
     }
-    let held = store::label_at(labels, n);
-    let Found::At(i) = store::find_label(labels, stored, held) else {
+    let held = places::label_at(labels, n);
+    let Found::At(i) = places::find_label(labels, stored, held) else {
         return false;
     };
     i == n

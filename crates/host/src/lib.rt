@@ -443,7 +443,7 @@ pub extern "C" fn bq_label(labels: &[u8], entries: &[u8], words: &[u64], k: usiz
         },
         Done::Done => {
             let start = k * 256 + 1;
-            let held = store::label_at(labels, k);
+            let held = places::label_at(labels, k);
             Part {
                 refused: false,
                 number: 0,

@@ -51,8 +51,8 @@ pub fn list_rule(labels: &[u8], entries: &[u8], words: &[u64], k: usize, out: &m
     if rules <= k {
         return Listed::Refused(13);
     }
-    let subject = store::label_at(labels, entries[k] as usize);
-    let object = store::label_at(labels, entries[256 + k] as usize);
+    let subject = places::label_at(labels, entries[k] as usize);
+    let object = places::label_at(labels, entries[256 + k] as usize);
     let mut text = [0u8; 6];
     let n = modes::write_modes(&mut text, 0, entries[512 + k]);
     put_text(out, subject, object, &text[0..n])
@@ -84,6 +84,6 @@ pub fn label_by_number<'a, 'b, 'c>(
     let answer = label_check(labels, entries, words, k);
     match answer {
         Done::Refused(_) => &labels[0..0],
-        Done::Done => store::label_at(labels, k),
+        Done::Done => places::label_at(labels, k),
     }
 }

@@ -88,7 +88,7 @@ fn count_label(labels: &[u8], stored: usize, label: &[u8], seen: bool, counted: 
     if seen {
         return counted;
     }
-    let found = store::find_label(labels, stored, label);
+    let found = places::find_label(labels, stored, label);
     match found {
         Found::At(_) => Counted {
             different: counted.different + 1,
@@ -129,7 +129,7 @@ fn enter(labels: &mut [u8], stored: usize, label: &[u8]) -> Numbered
     ensures { λ r. ⌜ r ≡ record { number = placeOf (first (sameBytes (now (label .entry))) (entries (labelAt (now (labels .entry))) stored)) stored; stored = countOf (first (sameBytes (now (label .entry))) (entries (labelAt (now (labels .entry))) stored)) stored } ⌝ }
     ensures { λ _. ⌜ now (labels .exit) ≡ entered (first (sameBytes (now (label .entry))) (entries (labelAt (now (labels .entry))) stored)) (now (labels .entry)) stored (now (label .entry)) ⌝ }
 {
-    let found = store::find_label(labels, stored, label);
+    let found = places::find_label(labels, stored, label);
     match found {
         Found::At(i) => Numbered { number: i, stored },
         Found::Nothing => {

@@ -50,7 +50,7 @@ pub fn revoke(labels: &[u8], entries: &mut [u8], words: &[u64], label: &[u8]) ->
     };
     let stored = words[0] as usize;
     let rules = words[1] as usize;
-    let Found::At(i) = store::find_label(labels, stored, label) else {
+    let Found::At(i) = places::find_label(labels, stored, label) else {
         return Revoked::Count(0);
     };
     Revoked::Count(clear(entries, rules, i as u8))

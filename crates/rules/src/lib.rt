@@ -66,14 +66,14 @@ pub fn find_place(
 {
     let stored = words[0] as usize;
     let rules = words[1] as usize;
-    let s = store::find_label(labels, stored, subject);
-    let o = store::find_label(labels, stored, object);
+    let s = places::find_label(labels, stored, subject);
+    let o = places::find_label(labels, stored, object);
     let a = number_for(s, stored);
     let b = number_for(o, a.count);
     if 64 < b.count {
         return Place::Refused(6);
     }
-    let rule = store::find_pair(entries, rules, a.number as u8, b.number as u8);
+    let rule = places::find_pair(entries, rules, a.number as u8, b.number as u8);
     if full(rule, rules, 256) {
         return Place::Refused(7);
     }

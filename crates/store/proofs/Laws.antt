@@ -1,86 +1,21 @@
 -- Laws of the layout. Assumes nothing.
 use mathlib.Core.Path.{_≡_, refl, sym, ap, _∙_, subst}
-use mathlib.Core.Bool.{Bool, true, false, cond, not, _&&_, _||_}
+use mathlib.Core.Bool.{Bool, true, false, cond, _&&_}
 use mathlib.Core.List.{List, [], _∷_, _++_, append-assoc}
 use Prim.Native.Nat.{ℕ, zero, suc, _+_, _*_, _-_, _%_, _<_, _≤_}
 use native.Mathlib.Numerals.{add-one}
 use native.Mathlib.Omega.{arith}
 use lib.Dec.{eqb, ltb, leb}
-use borrow.Author.Tests.{eqb-true, leb-true, eq-eqb, le-leb, ltb-true, ltb-false, lt-ltb}
+use borrow.Author.Tests.{eqb-true, leb-true, eq-eqb, le-leb, ltb-true, lt-ltb}
 use lib.ListN.{length, take, drop, getD, set, length-append, length-take, length-drop, length-set, take-append-drop}
 use lib.Seq.{take-suc, take-append-le, take-append-seam, drop-append-le, take-take, drop-at, getD-take, getD-drop, length-take-le, take-suc-set, drop-set-lt, drop-cons, getD-set-same, getD-set-other}
 use Rattle.search.specs.Search.{first, all, entries, placeOf, countOf}
-use Rattle.search.specs.Bytes.{sameBytes, written}
-use Rattle.search.proofs.Laws.{no, same-equal, and-both, and-assoc, all-snoc, all-weaker, entries-same, entries-none, last-entry, length-written}
+use Rattle.search.specs.Bytes.{written}
+use Rattle.search.proofs.Laws.{and-both, and-assoc, all-snoc, all-weaker, entries-same, entries-none, last-entry, length-written}
 use Rattle.store.specs.declared.Rule.{Rule}
 use Rattle.store.specs.declared.Mapping.{Mapping}
-use Rattle.store.specs.Table.{Table, isPair, floor, hat, star, huh, web, fresh, soundRule, soundMapping, soundTable}
-use Rattle.store.specs.Layout.{Store, store, labelAt, ruleAt, mappingAt, onlycapAt, tableOf, undamagedOf, NoPair, withLabel, withRule, held, freshLabels, freshWords, freshStore, Sizes, Counts}
-
--- ---- a label told by its length and its last byte
-
-module _ (t : List ℕ) (k : ℕ) (size : length t ≡ 16384) (inside : k < 64) (byte : getD t (k * 256) 0 ≤ 255) where
-  -- the label in its place: behind the byte that is its length
-  held-is : labelAt t k ≡ take (getD t (k * 256) 0) (drop (suc (k * 256)) t)
-  unfolding labelAt
-  held-is =
-      let h : k * 256 < length t = omega arith in
-      rw (drop-cons t (k * 256) 0 h, take-take (getD t (k * 256) 0) 255 (drop (suc (k * 256)) t) byte)
-
-  pub held-length : length (labelAt t k) ≡ getD t (k * 256) 0
-  held-length = ap (λ (l : List ℕ). length l) held-is ∙ length-take-le (getD t (k * 256) 0) (drop (suc (k * 256)) t) (omega (arith, length-drop (suc (k * 256)) t))
-
-  -- a label that is that of a place has its length and its last byte
-  same-length-and-last : (l : List ℕ) → l ≡ labelAt t k → (getD t (k * 256) 0 ≡ length l) × (getD t (k * 256 + length l) 0 ≡ getD (0 ∷ l) (length l) 0)
-  same-length-and-last l e = let n = sym (ap (λ (x : List ℕ). length x) e ∙ held-length) in (n, by-length (length l) refl n)
-    where
-      by-length : (m : ℕ) → length l ≡ m → getD t (k * 256) 0 ≡ length l → getD t (k * 256 + m) 0 ≡ getD (0 ∷ l) m 0
-      by-length zero z n = let w : k * 256 + 0 ≡ k * 256 = omega arith in ap (λ (j : ℕ). getD t j 0) w ∙ n ∙ z
-      by-length (suc m) z n =
-          let w : k * 256 + suc m ≡ suc (k * 256) + m = omega arith in
-          let small : m < getD t (k * 256) 0 = omega arith in
-          ap (λ (j : ℕ). getD t j 0) w
-          ∙ sym (getD-drop (suc (k * 256)) t m 0)
-          ∙ sym (getD-take (getD t (k * 256) 0) (drop (suc (k * 256)) t) m 0 small)
-          ∙ sym (ap (λ (x : List ℕ). getD x m 0) (e ∙ held-is))
-
-  -- so a label that differs from the place in one of them is not that label
-  pub unlike :
-      (l : List ℕ) (last : ℕ) → last ≡ getD (0 ∷ l) (length l) 0 →
-      (not (eqb (getD t (k * 256) 0) (length l)) || not (eqb (getD t (k * 256 + length l) 0) last)) ≡ true →
-      sameBytes l (labelAt t k) ≡ false
-  unlike l last is e = by-test (sameBytes l (labelAt t k)) refl
-    where
-      by-test : (b : Bool) → sameBytes l (labelAt t k) ≡ b → sameBytes l (labelAt t k) ≡ false
-      by-test true q =
-          let h = same-length-and-last l (same-equal l (labelAt t k) q) in
-          let f : eqb (getD t (k * 256) 0) (length l) ≡ true = eq-eqb _ _ (h .0) in
-          let g : eqb (getD t (k * 256 + length l) 0) last ≡ true = eq-eqb _ _ (h .1 ∙ sym is) in
-          absurd (no (rw (f, g) at e))
-      by-test false q = q
-
--- ---- a pair sought in blocks of 32 places
-
-pub or-false : (a b : Bool) → (a || b) ≡ false → (a ≡ false) × (b ≡ false)
-or-false true b e = (e, absurd (no (sym e)))
-or-false false b e = (refl, e)
-
--- past one block more
-pub no-pair-more : (s o : ℕ) (e : List ℕ) (b : ℕ) → NoPair s o e 0 (b * 32) → NoPair s o e (b * 32) 32 → NoPair s o e 0 ((b + 1) * 32)
-no-pair-more s o e b before here k h = by-test (ltb k (b * 32)) refl
-  where
-    by-test : (t : Bool) → ltb k (b * 32) ≡ t → isPair s o (ruleAt e (0 + k)) ≡ false
-    by-test true q = before k (ltb-true k (b * 32) q)
-    by-test false q =
-        let past = ltb-false k (b * 32) q in
-        let same : 0 + k ≡ b * 32 + (k - b * 32) = omega arith in
-        ap (λ (j : ℕ). isPair s o (ruleAt e j)) same ∙ here (k - b * 32) (omega arith)
-
--- the same by the places' own numbers
-pub no-pair-at : (s o : ℕ) (e : List ℕ) {n : ℕ} → NoPair s o e 0 n → (k : ℕ) → k < n → isPair s o (ruleAt e k) ≡ false
-no-pair-at s o e none k h =
-    let same : k ≡ 0 + k = omega arith in
-    ap (λ (j : ℕ). isPair s o (ruleAt e j)) same ∙ none k h
+use Rattle.store.specs.Table.{Table, floor, hat, star, huh, web, fresh, soundRule, soundMapping, soundTable}
+use Rattle.store.specs.Layout.{Store, store, labelAt, ruleAt, mappingAt, onlycapAt, tableOf, undamagedOf, withLabel, withRule, held, freshLabels, freshWords, freshStore, Sizes, Counts}
 
 -- ---- a test over the entries of a table, by the runs of numbers that hold them
 

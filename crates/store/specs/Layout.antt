@@ -4,7 +4,7 @@
 --            the onlycap list from 832 to 840
 --   words    the counts of labels, rules, mappings and onlycap labels; from 4 to 36 the mappings' category sets
 -- What stands at or past a count means nothing, and is never looked at.
-use Prim.Native.Nat.{ℕ, _+_, _*_, _<_, _≤_}
+use Prim.Native.Nat.{ℕ, _+_, _*_, _≤_}
 use mathlib.Core.Bool.{Bool, true, false, cond, _&&_}
 use mathlib.Core.Path.{_≡_}
 use mathlib.Core.List.{List, [], _∷_, _++_}
@@ -16,7 +16,7 @@ use Rattle.store.specs.declared.Rule.{Rule}
 use Rattle.store.specs.declared.Mapping.{Mapping}
 use Rattle.store.specs.declared.Done.{Done}
 use Rattle.store.specs.declared.Done.the-variants as d
-use Rattle.store.specs.Table.{Table, isPair, floor, hat, star, huh, web, soundTable, labelLimit, ruleLimit, mappingLimit, onlycapLimit}
+use Rattle.store.specs.Table.{Table, floor, hat, star, huh, web, soundTable, labelLimit, ruleLimit, mappingLimit, onlycapLimit}
 
 -- the three lent slices
 pub record Store : Type 0 where
@@ -103,7 +103,3 @@ pub record Counts (w : List ℕ) : Type 0 where
   pub rules : getD w 1 0 ≤ 256
   pub mappings : getD w 2 0 ≤ 32
   pub onlycap : getD w 3 0 ≤ 8
-
--- none of the n places from an index on holds the pair's rule
-abbrev pub NoPair : ℕ → ℕ → List ℕ → ℕ → ℕ → Type 0
-NoPair subject object e from n = (k : ℕ) → k < n → isPair subject object (ruleAt e (from + k)) ≡ false

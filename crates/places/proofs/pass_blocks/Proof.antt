@@ -1,13 +1,13 @@
--- `store::pass_blocks` meets its contract: no block passed holds the pair. Assumes nothing.
+-- `places::pass_blocks` meets its contract: no block passed holds the pair. Assumes nothing.
 use Prim.Native.Nat.{_*_, _-_, _≤_}
 use borrow.Author.Needs.{needs}
 use native.Mathlib.Omega.{arith}
-use Rattle.store.specs.Layout.{NoPair}
-use Rattle.store.proofs.Laws.{no-pair-more}
+use Rattle.places.specs.Places.{NoPair}
+use Rattle.places.proofs.Laws.{no-pair-more}
 use mathlib.Core.Path.{sym, _∙_}
 use borrow.Author.Tests.{not-true, not-false}
-use Rattle.store.proofs.pass_blocks.Statement.{statement}
-use Rattle.store.proofs.pass_blocks.Tie as tie
+use Rattle.places.proofs.pass_blocks.Statement.{statement}
+use Rattle.places.proofs.pass_blocks.Tie as tie
 
 abbrev Inv-loop : tie.InvT-loop
 Inv-loop entries count subject object block₀ block = (block ≤ 8) × NoPair subject object entries 0 (block * 32)

@@ -1,14 +1,15 @@
--- `store::block_holds` meets its contract: after i turns `any` tells of the first i places of the block. Assumes nothing.
+-- `places::block_holds` meets its contract: after i turns `any` tells of the first i places of the block. Assumes nothing.
 use Prim.Native.Nat.{ℕ, _+_, _≤_, _<_, _-_}
 use mathlib.Core.Path.{_≡_}
 use mathlib.Core.Bool.{Bool, false}
 use borrow.Author.Count.{below-more}
 use native.Mathlib.Omega.{arith}
 use Rattle.store.specs.Table.{isPair}
-use Rattle.store.specs.Layout.{ruleAt, NoPair}
-use Rattle.store.proofs.Laws.{or-false}
-use Rattle.store.proofs.block_holds.Statement.{statement}
-use Rattle.store.proofs.block_holds.Tie as tie
+use Rattle.store.specs.Layout.{ruleAt}
+use Rattle.places.specs.Places.{NoPair}
+use Rattle.places.proofs.Laws.{or-false}
+use Rattle.places.proofs.block_holds.Statement.{statement}
+use Rattle.places.proofs.block_holds.Tie as tie
 
 abbrev Inv-loop : tie.InvT-loop
 Inv-loop entries from subject object any₀ i₀ any i = (i ≤ 32) × (any ≡ false → NoPair subject object entries from i)

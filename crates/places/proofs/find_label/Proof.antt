@@ -1,4 +1,4 @@
--- `store::find_label` meets its contract: no label passed has the bytes. Assumes nothing.
+-- `places::find_label` meets its contract: no label passed has the bytes. Assumes nothing.
 use Prim.Native.Nat.{ℕ, _*_, _≤_, _<_, _-_}
 use mathlib.Core.Path.{_≡_, sym, _∙_}
 use mathlib.Core.Bool.{true, false}
@@ -6,12 +6,12 @@ use borrow.Author.Count.{below-more}
 use lib.ListN.{getD, length}
 use Rattle.search.specs.Bytes.{sameBytes}
 use Rattle.search.proofs.Laws.{found-at, found-none, same-lengths}
 use Rattle.store.specs.Layout.{labelAt}
-use Rattle.store.proofs.Laws.{held-length}
+use Rattle.places.proofs.Laws.{held-length}
 use borrow.Author.Needs.{needs}
 use native.Mathlib.Omega.{arith}
-use Rattle.store.proofs.find_label.Statement.{statement}
-use Rattle.store.proofs.find_label.Tie as tie
+use Rattle.places.proofs.find_label.Statement.{statement}
+use Rattle.places.proofs.find_label.Tie as tie
 
 abbrev Inv-loop : tie.InvT-loop
 Inv-loop labels count label last i₀ i = (i ≤ count) × ((k : ℕ) → k < i → sameBytes label (labelAt labels k) ≡ false)

@@ -1,16 +1,16 @@
--- `store::find_pair` meets its contract: no rule passed is the pair's. Assumes nothing.
+-- `places::find_pair` meets its contract: no rule passed is the pair's. Assumes nothing.
 use Prim.Native.Nat.{ℕ, _≤_, _<_, _-_}
 use mathlib.Core.Path.{_≡_, sym}
 use mathlib.Core.Bool.{true, false}
 use borrow.Author.Count.{below-more}
 use Rattle.search.proofs.Laws.{found-at, found-none}
 use Rattle.store.specs.Table.{isPair}
 use Rattle.store.specs.Layout.{ruleAt}
 use native.Mathlib.Omega.{arith}
 use borrow.Author.Needs.{needs}
-use Rattle.store.proofs.Laws.{no-pair-at}
-use Rattle.store.proofs.find_pair.Statement.{statement}
-use Rattle.store.proofs.find_pair.Tie as tie
+use Rattle.places.proofs.Laws.{no-pair-at}
+use Rattle.places.proofs.find_pair.Statement.{statement}
+use Rattle.places.proofs.find_pair.Tie as tie
 
 abbrev Inv-loop : tie.InvT-loop
 Inv-loop entries count subject object i₀ i = (k : ℕ) → k < i → isPair subject object (ruleAt entries k) ≡ false

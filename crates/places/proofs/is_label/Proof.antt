@@ -1,13 +1,13 @@
--- `store::is_label` meets its contract: a label that differs in its length or its last byte is another. Assumes nothing.
+-- `places::is_label` meets its contract: a label that differs in its length or its last byte is another. Assumes nothing.
 use Prim.Native.Nat.{_*_, _≤_}
 use mathlib.Core.Path.{_≡_, sym, ap, _∙_}
 use native.Mathlib.Omega.{arith}
 use borrow.Author.Needs.{needs}
 use lib.ListN.{getD}
 use Rattle.search.specs.Bytes.{sameBytes}
-use Rattle.store.proofs.Laws.{unlike}
-use Rattle.store.proofs.is_label.Statement.{statement}
-use Rattle.store.proofs.is_label.Tie as tie
+use Rattle.places.proofs.Laws.{unlike}
+use Rattle.places.proofs.is_label.Statement.{statement}
+use Rattle.places.proofs.is_label.Tie as tie
 
 mul-at : tie.Need-mul-at
 mul-at c = omega arith
