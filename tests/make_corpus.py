@@ -1053,8 +1053,6 @@ def odd_counts():
     full(s)
     eight = [name_of(k) for k in range(56, 64)]
     s.override(b" ".join(eight))
-    for k, n in enumerate((1, 255, 3, 77, 31, 32, 33, 15, 16, 17)):
-        s.poke("entries", 800 + k, bytes([n]))
     s.say("rules")
     for count in range(257):
         s.poke("words", 1, count)

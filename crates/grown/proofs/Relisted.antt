@@ -24,7 +24,7 @@ use Rattle.lines.proofs.Laws.{Taken}
 use Rattle.writes.specs.Writes.{is-accepted, judged, tableAfter}
 use Rattle.access.specs.Rules.{ruleBetween}
 use Rattle.access.specs.Access.{isAt}
-use Rattle.load.specs.Reader.{Reader, Counts, endLine, takeByte, takePiece, finish, limited, limitedCounts, done, report}
+use Rattle.lists.specs.Reader.{Reader, Counts, endLine, takeByte, takePiece, finish, limited, limitedCounts, done, report}
 use Rattle.listing.specs.Listing.{lineOf, ruleText, textsOf, listing}
 use Rattle.listing.proofs.Laws.{noNewline, ListedLine, rule-line}
 use Rattle.grown.specs.Sane.{labelOf, ruleAt, twoLabels, Sane}

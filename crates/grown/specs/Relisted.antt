@@ -6,7 +6,7 @@ use mathlib.Core.List.{List, [], _∷_, map}
 use lib.ListN.{length}
 use Rattle.store.specs.declared.Rule.{Rule}
 use Rattle.store.specs.Table.{Table, fresh}
-use Rattle.load.specs.Reader.{Counts, Call, piece, end-call, done, report, startOn, afterAll, saysAll}
+use Rattle.lists.specs.Reader.{Counts, Call, piece, end-call, done, report, startOn, afterAll, saysAll}
 use Rattle.listing.specs.Listing.{listing}
 use Rattle.grown.specs.Sane.{labelOf}
 

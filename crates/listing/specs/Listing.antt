@@ -67,18 +67,3 @@ labelGiven st k = cond (undamagedOf st) (labelNumbered (tableOf st) k) []
 
 unfoldable pub labelAnswer : Store → ℕ → Done
 labelAnswer st k = cond (undamagedOf st) (cond (ltb k (length (tableOf st .labels))) d.Done (d.Refused 13)) (d.Refused 0)
-
--- ---- 01's number and value for each case of the two answers
-
-pub data Said : Type 0 where
-  done : Said
-  length-is : ℕ → Said
-  refused : ℕ → Said
-
-abbrev pub listedSaid : Listed → Said
-listedSaid (l.Length n) = length-is n
-listedSaid (l.Refused n) = refused n
-
-abbrev pub doneSaid : Done → Said
-doneSaid d.Done = done
-doneSaid (d.Refused n) = refused n

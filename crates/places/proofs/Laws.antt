@@ -1,11 +1,12 @@
 -- Laws of the searches. Assumes nothing.
 use mathlib.Core.Path.{_≡_, refl, sym, ap, _∙_}
-use mathlib.Core.Bool.{Bool, true, false, not, _||_}
+use mathlib.Core.Bool.{Bool, true, false, _||_}
 use mathlib.Core.List.{List, _∷_}
 use Prim.Native.Nat.{ℕ, zero, suc, _+_, _*_, _-_, _<_, _≤_}
 use native.Mathlib.Omega.{arith}
-use lib.Dec.{eqb, ltb}
-use borrow.Author.Tests.{eq-eqb, ltb-true, ltb-false}
+use lib.Bits.{bitOr, bitXor, or-self, xor-self}
+use lib.Dec.{ltb}
+use borrow.Author.Tests.{ltb-true, ltb-false}
 use lib.ListN.{length, take, drop, getD, length-drop}
 use lib.Seq.{take-take, getD-take, getD-drop, length-take-le, drop-cons}
 use Rattle.search.specs.Bytes.{sameBytes}
@@ -44,16 +45,16 @@ module _ (t : List ℕ) (k : ℕ) (size : length t ≡ 16384) (inside : k < 64) 
   -- so a label that differs from the place in one of them is not that label
   pub unlike :
       (l : List ℕ) (last : ℕ) → last ≡ getD (0 ∷ l) (length l) 0 →
-      (not (eqb (getD t (k * 256) 0) (length l)) || not (eqb (getD t (k * 256 + length l) 0) last)) ≡ true →
+      (bitOr (bitXor (getD t (k * 256) 0) (length l)) (bitXor (getD t (k * 256 + length l) 0) last) ≡ 0 → ⊥) →
       sameBytes l (labelAt t k) ≡ false
   unlike l last is e = by-test (sameBytes l (labelAt t k)) refl
     where
       by-test : (b : Bool) → sameBytes l (labelAt t k) ≡ b → sameBytes l (labelAt t k) ≡ false
       by-test true q =
           let h = same-length-and-last l (same-equal l (labelAt t k) q) in
-          let f : eqb (getD t (k * 256) 0) (length l) ≡ true = eq-eqb _ _ (h .0) in
-          let g : eqb (getD t (k * 256 + length l) 0) last ≡ true = eq-eqb _ _ (h .1 ∙ sym is) in
-          absurd (no (rw (f, g) at e))
+          let f : bitXor (getD t (k * 256) 0) (length l) ≡ 0 = ap (λ (x : ℕ). bitXor x (length l)) (h .0) ∙ xor-self (length l) in
+          let g : bitXor (getD t (k * 256 + length l) 0) last ≡ 0 = ap (λ (x : ℕ). bitXor x last) (h .1 ∙ sym is) ∙ xor-self last in
+          absurd (e (ap (λ (x : ℕ). bitOr x (bitXor (getD t (k * 256 + length l) 0) last)) f ∙ ap (bitOr 0) g ∙ or-self 0))
       by-test false q = q
 
 -- ---- a pair sought in blocks of 32 places

@@ -31,15 +31,16 @@ fn last_byte(label: &[u8]) -> u8
     if n == 0 { 0 } else { label[n - 1] }
 }
 
-// Whether place k holds a label, whose last byte is `last`. Few labels have its length and that byte, which one test looks at; only these are
-// compared whole. Who calls it has tested the store and the label's length.
+// Whether place k holds a label, whose last byte is `last`. Few labels have its length and that byte, which one test
+// looks at, so that the processor need not guess twice; only these are compared whole. Who calls it has tested the store and the label's length.
 fn is_label(labels: &[u8], k: usize, label: &[u8], last: u8) -> bool
     requires { ⌜ (length (now labels) ≡ 16384) × (k < 64) × (length (now label) ≤ 255) × (last ≡ getD (0 ∷ now label) (length (now label)) 0) ⌝ }
     ensures { λ r. ⌜ r ≡ sameBytes (now (label .entry)) (labelAt (now (labels .entry)) k) ⌝ }
 {
     let n = label.len();
     let at = k * 256;
-    if (labels[at] as usize != n) | (labels[at + n] != last) {
+    let differ = (labels[at] ^ n as u8) | (labels[at + n] ^ last);
+    if differ != 0 {
         return false;
     }
     let held = label_at(labels, k);

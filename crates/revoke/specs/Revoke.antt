@@ -68,13 +68,3 @@ revokeEntries st label =
     (st .entries)
     (cond (wellFormed label) (clearedFor st (labelIn (tableOf st) label)) (st .entries)))
     (st .entries)
-
--- ---- 01's number and value for each case of the answer: how many rules have that subject, or the refusal's number
-
-pub data Said : Type 0 where
-  count-is : ℕ → Said
-  refused : ℕ → Said
-
-abbrev pub revokedSaid : Revoked → Said
-revokedSaid (Count n) = count-is n
-revokedSaid (Refused n) = refused n

@@ -1,5 +1,5 @@
--- This is `damaged` of the crate load. Assumes nothing.
-use Rattle.load.proofs.Undivided.{damaged}
+-- This is `damaged` of lists/proofs/Undivided. Assumes nothing.
+use Rattle.lists.proofs.Undivided.{damaged}
 use Rattle.claims.proofs.damaged_table_refused.Statement.{statement}
 use Rattle.claims.proofs.damaged_table_refused.Tie as tie
 

@@ -1,5 +1,5 @@
--- Demand 3 is `undivided` of the crate load. Assumes nothing.
-use Rattle.load.proofs.Undivided.{undivided}
+-- Demand 3 is `undivided` of lists/proofs/Undivided. Assumes nothing.
+use Rattle.lists.proofs.Undivided.{undivided}
 use Rattle.claims.proofs.demand_3.Statement.{statement}
 use Rattle.claims.proofs.demand_3.Tie as tie
 

@@ -1,5 +1,5 @@
--- This is `same-cuts` of the crate load. Assumes nothing.
-use Rattle.load.proofs.Undivided.{same-cuts}
+-- This is `same-cuts` of lists/proofs/Undivided. Assumes nothing.
+use Rattle.lists.proofs.Undivided.{same-cuts}
 use Rattle.claims.proofs.demand_3_of_two_lists.Statement.{statement}
 use Rattle.claims.proofs.demand_3_of_two_lists.Tie as tie
 

@@ -12,17 +12,17 @@ use Rattle.places.proofs.is_label.Tie as tie
 mul-at : tie.Need-mul-at
 mul-at c = omega arith
 
-shared-slice-read-if1 : tie.Need-shared-slice-read-if1
-shared-slice-read-if1 c = omega arith
+shared-slice-read-differ : tie.Need-shared-slice-read-differ
+shared-slice-read-differ c = omega arith
 
-cast-if1 : tie.Need-cast-if1
-cast-if1 c = omega (arith, c .shared-slice-known3 .given (c .before .before .before .args .k * 256))
+cast-differ : tie.Need-cast-differ
+cast-differ c = omega arith
 
-add-if1 : tie.Need-add-if1
-add-if1 c = omega arith
+add-differ : tie.Need-add-differ
+add-differ c = omega arith
 
-shared-slice-read-if1-2 : tie.Need-shared-slice-read-if1-2
-shared-slice-read-if1-2 c = omega arith
+shared-slice-read-differ-2 : tie.Need-shared-slice-read-differ-2
+shared-slice-read-differ-2 c = omega arith
 
 returns : tie.Need-returns
 returns c =
@@ -44,10 +44,10 @@ is-label-spec =
     tie.close
     (tie.spec
     mul-at
-    shared-slice-read-if1
-    cast-if1
-    add-if1
-    shared-slice-read-if1-2
+    shared-slice-read-differ
+    cast-differ
+    add-differ
+    shared-slice-read-differ-2
     returns
     label-at-requires
     same-bytes-requires

@@ -12,26 +12,26 @@ use borrow.Fn.Kinds.{PK, RK, In, Out}
 use borrow.Fn.Run.{Over}
 use borrow.Fn.Plain.{Known}
 use borrow.Fn.World.{World}
 use Rattle.load.proofs.piece.Kinds as piece-kinds
 use Rattle.load.proofs.piece.Reads as piece-reads
 use Rattle.load.proofs.piece.Symbol as piece-symbol
 use Rattle.load.proofs.piece.Met as piece-met
 use Rattle.load.proofs.end.Kinds as end-kinds
 use Rattle.load.proofs.end.Reads as end-reads
 use Rattle.load.proofs.end.Symbol as end-symbol
 use Rattle.load.proofs.end.Met as end-met
 use Rattle.access.proofs.question.Kinds as question-kinds
 use Rattle.access.proofs.question.Reads as question-reads
 use Rattle.access.proofs.question.Symbol as question-symbol
 use Rattle.access.proofs.question.Met as question-met
 use Rattle.store.specs.Layout.{store}
 use Rattle.access.specs.Access.{questionOf}
 use Rattle.load.specs.declared.Loader.{Loader}
 use Rattle.load.specs.declared.Fed.the-variants as f
 use Rattle.load.specs.declared.Ended.the-variants as e
 use Rattle.load.specs.Loader.{Load, load, ready, stepPiece, stepEnd, freshLoader, reportOf, fedLoader, endedLoader, pieceAnswer, pieceAfter, endAnswer, endAfter}
-use Rattle.load.specs.Reader.{Call, Reply, piece, end-call, question, answered}
-use Rattle.load.proofs.Trace.{Called-piece, Called-end, Called-question, Runs, none, a-piece, an-end, a-question, piece-to, end-to, fed-reply, end-reply}
+use Rattle.lists.specs.Reader.{Call, Reply, piece, end-call, question, answered}
+use Rattle.lists.proofs.Trace.{Called-piece, Called-end, Called-question, Runs, none, a-piece, an-end, a-question, piece-to, end-to, fed-reply, end-reply}
 
 -- ---- the routines
 

@@ -17,10 +17,10 @@ use Rattle.writes.specs.Writes.{Judged, is-skipped, is-refused, is-accepted, ju
 use Rattle.writes.specs.declared.Verdict.{Verdict}
 use Rattle.writes.specs.declared.Verdict.the-variants as v
 use Rattle.writes.proofs.Laws.{line-table}
 use Rattle.load.specs.declared.Loader.{Loader}
-use Rattle.load.specs.Reader.{Counts, zeros, counted, Reader, startOn, endLine, takeByte, takePiece, finish, limited}
+use Rattle.lists.specs.Reader.{Counts, zeros, counted, Reader, startOn, endLine, takeByte, takePiece, finish, limited}
 use Rattle.load.specs.Loader.{Load, load, more, count, endKept, keepByte, stepByte, stepPiece, stepEnd, withKept, freshLoader}
 use Rattle.load.proofs.Laws.{Ready, ready-end, ready-step}
 
 -- ---- what a lent state stands for
 

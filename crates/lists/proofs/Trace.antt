@@ -9,22 +9,22 @@ use contract.Lifetimes.{Lfts}
 use denote.Ref.{now}
 use denote.Triple.Clauses.{Lasts, atExit}
 use borrow.Fn.Kinds.{PK, RK, In, Out, Dens, resT, endedOf}
 use Rattle.load.proofs.piece.Kinds as piece-kinds
 use Rattle.load.proofs.piece.Reads as piece-reads
 use Rattle.load.proofs.end.Kinds as end-kinds
 use Rattle.load.proofs.end.Reads as end-reads
 use Rattle.access.proofs.question.Kinds as question-kinds
 use Rattle.access.proofs.question.Reads as question-reads
 use Rattle.store.specs.Layout.{Store, store, undamagedOf}
 use Rattle.access.specs.declared.Answer.{Answer}
 use Rattle.load.specs.declared.Loader.{Loader}
 use Rattle.load.specs.declared.Report.{Report}
 use Rattle.load.specs.declared.Fed.{Fed}
 use Rattle.load.specs.declared.Fed.the-variants as f
 use Rattle.load.specs.declared.Ended.{Ended}
 use Rattle.load.specs.declared.Ended.the-variants as e
 use Rattle.load.specs.Loader.{Load, load, freshLoader, fedLoader, endedLoader}
-use Rattle.load.specs.Reader.{Counts, Call, piece, end-call, question, Reply, done, report, answered, refusal}
+use Rattle.lists.specs.Reader.{Counts, Call, piece, end-call, question, Reply, done, report, answered, refusal}
 
 -- One call of any function, with what a Rattle caller has of it and no more: it showed what is asked, and learnt what is ensured, of some
 -- arguments, a result and the parameters' last values

@@ -12,16 +12,16 @@ use Rattle.store.specs.Layout.{Store, tableOf, undamagedOf}
 use Rattle.access.specs.Access.{answer, questionOf}
 use Rattle.access.specs.declared.Answer.{Answer}
 use Rattle.access.specs.declared.Answer.the-variants as a
 use Rattle.load.specs.declared.Loader.{Loader}
 use Rattle.load.specs.declared.Fed.{Fed}
 use Rattle.load.specs.declared.Fed.the-variants as f
 use Rattle.load.specs.declared.Ended.{Ended}
 use Rattle.load.specs.declared.Ended.the-variants as e
 use Rattle.load.specs.Loader.{Load, load, ready, stepPiece, stepEnd, freshLoader, reportOf, fedLoader, endedLoader, pieceAnswer, pieceAfter, endAnswer, endAfter}
-use Rattle.load.specs.Reader.{Counts, Reader, startOn, takeByte, takePiece, endLine, finish, limited, limitedCounts, Call, piece, end-call, question, Reply, done, report, answered, refusal, after, says, afterAll, saysAll, Event, byte, stop, on, events, reports, settled, keepLast}
+use Rattle.lists.specs.Reader.{Counts, Reader, startOn, takeByte, takePiece, endLine, finish, limited, limitedCounts, Call, piece, end-call, question, Reply, done, report, answered, refusal, after, says, afterAll, saysAll, Event, byte, stop, on, events, reports, settled, keepLast}
 use Rattle.load.proofs.Laws.{Ready, ready-is, is-ready}
-use Rattle.load.proofs.Follows.{SameCounts, Holds, piece-follows, finish-follows, fresh-holds}
-use Rattle.load.proofs.Trace.{Fresh, Runs, none, a-piece, an-end, a-question, fed-reply, end-reply, counts-of, piece-from, piece-to, end-from, end-to, question-of}
+use Rattle.lists.proofs.Follows.{SameCounts, Holds, piece-follows, finish-follows, fresh-holds}
+use Rattle.lists.proofs.Trace.{Fresh, Runs, none, a-piece, an-end, a-question, fed-reply, end-reply, counts-of, piece-from, piece-to, end-from, end-to, question-of}
 
 -- what a call keeps: the state it leaves stands for the plain reader, and the reply is the plain reader's
 pub record Follows (s : Load) (r : Reply) (p : Reader) (q : Reply) : Type 0 where

@@ -1,0 +1,4 @@
+pub mod Follows
+pub mod Trace
+pub mod Undivided
+pub mod Bridge
