@@ -13,7 +13,8 @@ use Rattle.store.specs.Table.{Table, fresh, isPair}
 use Rattle.lines.specs.Lines.{ruleBy, ruleOf, changeBy, changeOf}
 use Rattle.rules.specs.Rules.{placing, withPair}
 use Rattle.access.specs.Access.{effective, decide, answer}
-use Rattle.cipso.specs.Cipso.{Said, mapping, categoriesOf, saidBy, mappingOf, names, withMapping, mappedTable, tableBy, labelLookup}
+use Rattle.cipso.specs.Cipso.{Said, mapping, categoriesOf, saidBy, mappingOf, names, withMapping, mappedTable, tableBy}
+use Rattle.lookups.specs.Lookups.{labelLookup}
 use Rattle.cipso.specs.Cipso as cipso
 use Rattle.claims.specs.Cases.{Case, asks, changes, maps, right, sameLookup, cases, Vault7}
 

@@ -14,9 +14,10 @@ use Rattle.writes.specs.Writes.{judged, tableAfter}
 use Rattle.access.specs.Rules.{ruleBetween}
 use Rattle.access.specs.Access.{answer, shown}
 use Rattle.access.specs.declared.Shown.{Shown}
-use Rattle.cipso.specs.Cipso.{mappedTable, labelLookup}
-use Rattle.cipso.specs.declared.Lookup.{Lookup}
-use Rattle.cipso.specs.declared.Lookup.the-variants as l
+use Rattle.cipso.specs.Cipso.{mappedTable}
+use Rattle.lookups.specs.Lookups.{labelLookup}
+use Rattle.lookups.specs.declared.Lookup.{Lookup}
+use Rattle.lookups.specs.declared.Lookup.the-variants as l
 use Rattle.numbers.specs.Categories.{categories}
 
 -- a case: after these lines are loaded into a fresh table, a subject asks a request of an object; after a line and a change, a pair has

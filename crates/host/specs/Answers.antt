@@ -7,10 +7,10 @@ use Rattle.store.specs.declared.Done.{Done}
 use Rattle.store.specs.declared.Done.the-variants as done
 use Rattle.revoke.specs.declared.Revoked.{Revoked}
 use Rattle.revoke.specs.declared.Revoked.the-variants as revoked
-use Rattle.cipso.specs.declared.Lookup.{Lookup}
-use Rattle.cipso.specs.declared.Lookup.the-variants as lookup
-use Rattle.cipso.specs.declared.Label.{Label}
-use Rattle.cipso.specs.declared.Label.the-variants as label
+use Rattle.lookups.specs.declared.Lookup.{Lookup}
+use Rattle.lookups.specs.declared.Lookup.the-variants as lookup
+use Rattle.lookups.specs.declared.Label.{Label}
+use Rattle.lookups.specs.declared.Label.the-variants as label
 use Rattle.listing.specs.declared.Listed.{Listed}
 use Rattle.listing.specs.declared.Listed.the-variants as listed
 use Rattle.load.specs.declared.Loader.{Loader}

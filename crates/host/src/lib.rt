@@ -2,14 +2,14 @@
 // answers plain numbers: those that 01 gives for the case, as specs/Answers.antt says once for each answer. No call has a condition: any
 // bytes, any lengths and any lent state have a defined answer. include/balqirven.h is the C side of it.
 use access::Shown;
-use cipso::Label;
-use cipso::Lookup;
-use cipso::Record;
 use listing::Listed;
 use load::Ended;
 use load::Fed;
 use load::Loader;
 use load::Report;
+use lookups::Label;
+use lookups::Lookup;
+use lookups::Record;
 use revoke::Revoked;
 use store::Done;
 ghost use mathlib.Core.Path.{_≡_};
@@ -18,7 +18,8 @@ ghost use Rattle.store.specs.Layout.{store, freshAnswer, freshStore};
 ghost use Rattle.writes.specs.Writes.{changeAnswer, changeStore};
 ghost use Rattle.revoke.specs.Revoke.{revokeAnswer, revokeEntries};
 ghost use Rattle.onlycap.specs.Onlycap.{onlycapAnswer, onlycapStore};
-ghost use Rattle.cipso.specs.Cipso.{mapAnswer, mapStored, byLabelOf, byLevelOf};
+ghost use Rattle.cipso.specs.Cipso.{mapAnswer, mapStored};
+ghost use Rattle.lookups.specs.Lookups.{byLabelOf, byLevelOf};
 ghost use Rattle.run.specs.Run.{runOf, recordsOf};
 ghost use Rattle.access.specs.Access.{questionOf, shown};
 ghost use Rattle.listing.specs.Listing.{listAnswer, listOut, labelGiven, labelAnswer};
@@ -350,7 +351,7 @@ pub extern "C" fn bq_revoke(
 pub extern "C" fn bq_by_label(labels: &[u8], entries: &[u8], words: &[u64], label: &[u8]) -> Mapped
     ensures { λ r. ⌜ r ≡ lookupShown (byLabelOf (store (now (labels .entry)) (now (entries .entry)) (now (words .entry))) (now (label .entry))) ⌝ }
 {
-    lookup_shown(cipso::by_label(labels, entries, words, label))
+    lookup_shown(lookups::by_label(labels, entries, words, label))
 }
 
 // The lowest-numbered label with a level and a set.
@@ -364,7 +365,7 @@ pub extern "C" fn bq_by_level(
 ) -> Lowest
     ensures { λ r. ⌜ r ≡ searchShown (byLevelOf (store (now (labels .entry)) (now (entries .entry)) (now (words .entry))) level set) ⌝ }
 {
-    search_shown(cipso::by_level(labels, entries, words, level, set))
+    search_shown(lookups::by_level(labels, entries, words, level, set))
 }
 
 // The lowest label number of a run, whose fields stand in three slices, with a level and a set.

@@ -8,7 +8,7 @@ use native.Mathlib.Omega.{arith}
 use lib.Dec.{ltb, leb, eqb}
 use borrow.Author.Tests.{eqb-true, eqb-false, leb-true, ltb-true, ltb-false, eq-eqb, ne-eqb, le-leb, lt-ltb, le-ltb}
 use lib.ListN.{length, take, drop, set, getD, length-set, length-drop, take-append-drop, drop-of-length-le}
-use lib.Seq.{drop-cons, drop-drop, take-all, length-take-le, sets, sets-eq}
+use lib.Seq.{drop-cons, drop-drop, take-add, take-all, length-take-le, sets, sets-eq}
 use Rattle.search.specs.Bytes.{written}
 use Rattle.search.proofs.Laws.{and-both}
 use Rattle.store.specs.Layout.{Store, store, undamagedOf}
@@ -138,19 +138,19 @@ newline-none text i h = ap beforeNewline (drop-of-length-le text {i = i} h)
 abbrev pub NoNewline : List ℕ → Type 0
 NoNewline run = beforeNewline run ≡ length run
 
-run-first : (b : ℕ) (bs : List ℕ) → NoNewline (b ∷ bs) → b ≡ 10 → ⊥
+pub run-first : (b : ℕ) (bs : List ℕ) → NoNewline (b ∷ bs) → b ≡ 10 → ⊥
 run-first b bs e q = omega (arith, newline-here b bs q)
 
-run-rest : (b : ℕ) (bs : List ℕ) → NoNewline (b ∷ bs) → NoNewline bs
+pub run-rest : (b : ℕ) (bs : List ℕ) → NoNewline (b ∷ bs) → NoNewline bs
 run-rest b bs e = omega (arith, newline-later b bs (run-first b bs e))
 
-run-take : (n : ℕ) (run : List ℕ) → NoNewline run → NoNewline (take n run)
+pub run-take : (n : ℕ) (run : List ℕ) → NoNewline run → NoNewline (take n run)
 unfolding beforeNewline
 run-take zero run e = refl
 run-take (suc n) [] e = refl
 run-take (suc n) (b ∷ bs) e = newline-later b (take n bs) (run-first b bs e) ∙ ap suc (run-take n bs (run-rest b bs e))
 
-run-drop : (n : ℕ) (run : List ℕ) → NoNewline run → NoNewline (drop n run)
+pub run-drop : (n : ℕ) (run : List ℕ) → NoNewline run → NoNewline (drop n run)
 run-drop zero run e = e
 run-drop (suc n) [] e = e
 run-drop (suc n) (b ∷ bs) e = run-drop n bs (run-rest b bs e)
@@ -220,7 +220,7 @@ module _ (st : Store) where
       ∙ ap (λ (s : Load). stepPiece s (drop room run)) (run-set line l (take room run) (run-take room run e) (omega (arith, full)))
       ∙ run-past (sets line (l .kept) (take room run)) (withKept l (l .kept + length (take room run))) (drop room run) (run-drop room run e) (omega (arith, full)) (omega (arith, length-drop room run))
 
-set-written : (line : List ℕ) (at : ℕ) (run : List ℕ) → at + length run ≤ length line → written line at run ≡ sets line at run
+pub set-written : (line : List ℕ) (at : ℕ) (run : List ℕ) → at + length run ≤ length line → written line at run ≡ sets line at run
 unfolding written
 set-written line at run h = sym (sets-eq run line at h ∙ append-assoc (take at line) run (drop (at + length run) line))
 
@@ -264,18 +264,15 @@ newline-ends : (s : Load) (b : ℕ) → b ≡ 10 → stepByte s b ≡ endKept s
 unfolding stepByte
 newline-ends s b e = rw (eq-eqb b 10 e)
 
--- the bytes up to a newline join the kept line, the newline ends it, and the bytes behind it are left
-pub line-turn :
-    (s : Load) (text : List ℕ) →
-    beforeNewline text < length text →
-    stepPiece s text ≡ stepPiece (endKept (stepPiece s (take (beforeNewline text) text))) (drop (suc (beforeNewline text)) text)
-line-turn s [] h = absurd (omega (arith, h))
-line-turn s (b ∷ bs) h =
-    newline-or b (λ e. subst Turned (sym (newline-here b bs e)) (ap (λ (x : Load). stepPiece x bs) (newline-ends s b e)))
-    (λ e. subst Turned (sym (newline-later b bs e)) (line-turn (stepByte s b) bs (omega (arith, h, newline-later b bs e))))
+-- what stands behind the bytes before the first newline is that newline
+newline-next : (text : List ℕ) → beforeNewline text < length text → take (suc (beforeNewline text)) text ≡ take (beforeNewline text) text ++ (10 ∷ [])
+newline-next [] h = absurd (omega (arith, h))
+newline-next (b ∷ bs) h =
+    newline-or b (λ e. subst Next (sym (newline-here b bs e)) (ap (λ (x : ℕ). x ∷ []) e))
+    (λ e. subst Next (sym (newline-later b bs e)) (ap (λ (t : List ℕ). b ∷ t) (newline-next bs (omega (arith, h, newline-later b bs e)))))
   where
-    Turned : ℕ → Type 0
-    Turned n = stepPiece s (b ∷ bs) ≡ stepPiece (endKept (stepPiece s (take n (b ∷ bs)))) (drop (suc n) (b ∷ bs))
+    Next : ℕ → Type 0
+    Next n = take (suc n) (b ∷ bs) ≡ take n (b ∷ bs) ++ (10 ∷ [])
 
 -- the run from an index of the text to its line's end
 module _ (text : List ℕ) (i end : ℕ) (h : i ≤ length text) (e : end ≡ i + beforeNewline (drop i text)) where
@@ -297,10 +294,28 @@ module _ (text : List ℕ) (i end : ℕ) (h : i ≤ length text) (e : end ≡ i 
   pub run-last : end ≡ length text → take (end - i) (drop i text) ≡ drop i text
   run-last q = take-all (end - i) (drop i text) (omega (arith, q, length-drop i text))
 
-  -- what stands behind the run is the newline
+  -- what stands behind another run is its newline
+  run-newline : end < length text → take (suc (beforeNewline (drop i text))) (drop i text) ≡ take (end - i) (drop i text) ++ (10 ∷ [])
+  run-newline q = newline-next (drop i text) (omega (arith, e, q, length-drop i text)) ∙ ap (λ (t : List ℕ). t ++ (10 ∷ [])) (sym run-is)
+
+  past : i + suc (beforeNewline (drop i text)) ≡ end + 1
+  past = omega (arith, e)
+
+  pub line-taken : end < length text → take (end + 1) text ≡ take i text ++ (take (end - i) (drop i text) ++ (10 ∷ []))
+  line-taken q =
+      ap (λ (n : ℕ). take n text) (sym past)
+      ∙ take-add i (suc (beforeNewline (drop i text))) text
+      ∙ ap (λ (t : List ℕ). take i text ++ t) (run-newline q)
+
+  line-left : end < length text → drop i text ≡ (take (end - i) (drop i text) ++ (10 ∷ [])) ++ drop (end + 1) text
+  line-left q =
+      sym (take-append-drop (suc (beforeNewline (drop i text))) (drop i text))
+      ∙ ap (λ (t : List ℕ). t ++ drop (suc (beforeNewline (drop i text))) (drop i text)) (run-newline q)
+      ∙ ap (λ (t : List ℕ). (take (end - i) (drop i text) ++ (10 ∷ [])) ++ t) (drop-drop (suc (beforeNewline (drop i text))) i text ∙ ap (λ (n : ℕ). drop n text) past)
+
+  -- the run joins the kept line, its newline ends it, and the bytes behind are left
   pub piece-line : (s : Load) → end < length text → stepPiece s (drop i text) ≡ stepPiece (endKept (stepPiece s (take (end - i) (drop i text)))) (drop (end + 1) text)
   piece-line s q =
-      let z : i + suc (beforeNewline (drop i text)) ≡ end + 1 = omega (arith, e) in
-      line-turn s (drop i text) (omega (arith, e, q, length-drop i text))
-      ∙ ap (λ (t : List ℕ). stepPiece (endKept (stepPiece s t)) (drop (suc (beforeNewline (drop i text))) (drop i text))) (sym run-is)
-      ∙ ap (λ (t : List ℕ). stepPiece (endKept (stepPiece s (take (end - i) (drop i text)))) t) (drop-drop (suc (beforeNewline (drop i text))) i text ∙ ap (λ (n : ℕ). drop n text) z)
+      ap (λ (t : List ℕ). stepPiece s t) (line-left q)
+      ∙ foldl-append stepByte s (take (end - i) (drop i text) ++ (10 ∷ [])) (drop (end + 1) text)
+      ∙ ap (λ (x : Load). stepPiece x (drop (end + 1) text)) (foldl-append stepByte s (take (end - i) (drop i text)) (10 ∷ []) ∙ newline-ends (stepPiece s (take (end - i) (drop i text))) 10 refl)

@@ -163,7 +163,7 @@ fn report_of(l: Loader) -> Report
     }
 }
 
-// The index of the first newline from `from` on, or that of the text's end.
+// The index of the first newline from `from` on; where there is none, the text's length, or `from` where that is past it.
 pub fn line_end(text: &[u8], from: usize) -> usize
     ensures { λ r. ⌜ r ≡ from + beforeNewline (drop from (now (text .entry))) ⌝ }
 {

@@ -1,19 +1,18 @@
 -- Laws of the searches. Assumes nothing.
 use mathlib.Core.Path.{_≡_, refl, sym, ap, _∙_}
-use mathlib.Core.Bool.{Bool, true, false, _||_}
+use mathlib.Core.Bool.{Bool, true, false, _&&_, _||_}
 use mathlib.Core.List.{List, _∷_}
 use Prim.Native.Nat.{ℕ, zero, suc, _+_, _*_, _-_, _<_, _≤_}
 use native.Mathlib.Omega.{arith}
-use lib.Bits.{bitOr, bitXor, or-self, xor-self}
-use lib.Dec.{ltb}
-use borrow.Author.Tests.{ltb-true, ltb-false}
+use lib.Dec.{eqb, ltb}
+use borrow.Author.Tests.{eq-eqb, ltb-true, ltb-false}
 use lib.ListN.{length, take, drop, getD, length-drop}
 use lib.Seq.{take-take, getD-take, getD-drop, length-take-le, drop-cons}
 use Rattle.search.specs.Bytes.{sameBytes}
 use Rattle.search.proofs.Laws.{no, same-equal}
 use Rattle.store.specs.Table.{isPair}
 use Rattle.store.specs.Layout.{labelAt, ruleAt}
-use Rattle.places.specs.Places.{NoPair}
+use Rattle.places.specs.Places.{Unlike, NoLabel, NoPair}
 
 -- ---- a label told by its length and its last byte
 
@@ -42,20 +41,30 @@ module _ (t : List ℕ) (k : ℕ) (size : length t ≡ 16384) (inside : k < 64) 
           ∙ sym (getD-take (getD t (k * 256) 0) (drop (suc (k * 256)) t) m 0 small)
           ∙ sym (ap (λ (x : List ℕ). getD x m 0) (e ∙ held-is))
 
-  -- so a label that differs from the place in one of them is not that label
-  pub unlike :
-      (l : List ℕ) (last : ℕ) → last ≡ getD (0 ∷ l) (length l) 0 →
-      (bitOr (bitXor (getD t (k * 256) 0) (length l)) (bitXor (getD t (k * 256 + length l) 0) last) ≡ 0 → ⊥) →
-      sameBytes l (labelAt t k) ≡ false
+  -- so a place that differs in one of them holds another label
+  pub unlike : (l : List ℕ) (last : ℕ) → last ≡ getD (0 ∷ l) (length l) 0 → Unlike t k (length l) last → sameBytes l (labelAt t k) ≡ false
   unlike l last is e = by-test (sameBytes l (labelAt t k)) refl
     where
       by-test : (b : Bool) → sameBytes l (labelAt t k) ≡ b → sameBytes l (labelAt t k) ≡ false
       by-test true q =
           let h = same-length-and-last l (same-equal l (labelAt t k) q) in
-          let f : bitXor (getD t (k * 256) 0) (length l) ≡ 0 = ap (λ (x : ℕ). bitXor x (length l)) (h .0) ∙ xor-self (length l) in
-          let g : bitXor (getD t (k * 256 + length l) 0) last ≡ 0 = ap (λ (x : ℕ). bitXor x last) (h .1 ∙ sym is) ∙ xor-self last in
-          absurd (e (ap (λ (x : ℕ). bitOr x (bitXor (getD t (k * 256 + length l) 0) last)) f ∙ ap (bitOr 0) g ∙ or-self 0))
+          let f : eqb (getD t (k * 256) 0) (length l) ≡ true = eq-eqb _ _ (h .0) in
+          let g : eqb (getD t (k * 256 + length l) 0) last ≡ true = eq-eqb _ _ (h .1 ∙ sym is) in
+          absurd (no (sym (rw (g, f) at e)))
       by-test false q = q
+
+-- past one block of 8 places more
+pub no-label-more :
+    (l t : List ℕ) (last b : ℕ) → length t ≡ 16384 → b < 8 → ((k : ℕ) → getD t k 0 ≤ 255) → last ≡ getD (0 ∷ l) (length l) 0 →
+    NoLabel l t (b * 8) → ((k : ℕ) → k < 8 → Unlike t (b * 8 + k) (length l) last) → NoLabel l t ((b + 1) * 8)
+no-label-more l t last b size few bytes is before here k h = by-test (ltb k (b * 8)) refl
+  where
+    by-test : (c : Bool) → ltb k (b * 8) ≡ c → sameBytes l (labelAt t k) ≡ false
+    by-test true q = before k (ltb-true k (b * 8) q)
+    by-test false q =
+        let past = ltb-false k (b * 8) q in
+        let same : b * 8 + (k - b * 8) ≡ k = omega arith in
+        unlike t k size (omega arith) (bytes (k * 256)) l last is (ap (λ (j : ℕ). (eqb (getD t (j * 256 + length l) 0) last && eqb (getD t (j * 256) 0) (length l))) (sym same) ∙ here (k - b * 8) (omega arith))
 
 -- ---- a pair sought in blocks of 32 places
 

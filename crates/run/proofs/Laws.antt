@@ -9,12 +9,12 @@ use lib.Dec.{ltb}
 use lib.ListN.{length, drop, getD, drop-of-length-le}
 use lib.Seq.{drop-cons}
 use borrow.Author.Tests.{ltb-true, ltb-false}
-use Rattle.cipso.specs.Cipso.{lowerOf, lowestOf}
-use Rattle.cipso.proofs.Laws.{Lowest, Unmatched, lowest-found, lowest-none, none-lowest}
-use Rattle.cipso.specs.declared.Record.{Record}
-use Rattle.cipso.specs.declared.Best.{Best}
-use Rattle.cipso.specs.declared.Best.the-variants as best
-use Rattle.cipso.specs.declared.Label.the-variants as label
+use Rattle.lookups.specs.Lookups.{lowerOf, lowestOf}
+use Rattle.lookups.proofs.Laws.{Lowest, Unmatched, lowest-found, lowest-none, none-lowest}
+use Rattle.lookups.specs.declared.Record.{Record}
+use Rattle.lookups.specs.declared.Best.{Best}
+use Rattle.lookups.specs.declared.Best.the-variants as best
+use Rattle.lookups.specs.declared.Label.the-variants as label
 use Rattle.run.specs.Run.{sought, said, settledOf, runOf, recordsOf}
 use Rattle.run.specs.Within.{searched, Shortest}
 

@@ -1,15 +1,16 @@
 -- 01, the paragraph after the single writes: a lent run of records, each a label number, a level and a set, of any length and content,
--- searched for the lowest label number whose level and set both match, or none. Refusal 9 comes first. `lowestOf` of the crate cipso is
+-- searched for the lowest label number whose level and set both match, or none. Refusal 9 comes first. `lowestOf` of the crate lookups is
 -- the best of a run; that it is the lowest of those that match is shown there. Assumes nothing.
 use Prim.Native.Nat.{ℕ}
 use mathlib.Core.Bool.{Bool, cond, _&&_}
 use mathlib.Core.List.{List, [], _∷_}
-use Rattle.cipso.specs.Cipso.{isLevel, knownSet, lowestOf}
-use Rattle.cipso.specs.declared.Record.{Record}
-use Rattle.cipso.specs.declared.Best.{Best}
-use Rattle.cipso.specs.declared.Best.the-variants as best
-use Rattle.cipso.specs.declared.Label.{Label}
-use Rattle.cipso.specs.declared.Label.the-variants as label
+use Rattle.cipso.specs.Cipso.{isLevel, knownSet}
+use Rattle.lookups.specs.Lookups.{lowestOf}
+use Rattle.lookups.specs.declared.Record.{Record}
+use Rattle.lookups.specs.declared.Best.{Best}
+use Rattle.lookups.specs.declared.Best.the-variants as best
+use Rattle.lookups.specs.declared.Label.{Label}
+use Rattle.lookups.specs.declared.Label.the-variants as label
 
 -- a level and a set that can be searched for
 unfoldable pub sought : ℕ → ℕ → Bool

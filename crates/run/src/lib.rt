@@ -1,8 +1,8 @@
 // A run of records that the host lends, searched for the lowest label number whose level and set both match (01, Single writes, the
 // paragraph after them). A run may have any length and content. It is no part of the state, so no search of it gets 0.
-use cipso::Best;
-use cipso::Label;
-use cipso::Record;
+use lookups::Best;
+use lookups::Label;
+use lookups::Record;
 ghost use mathlib.Core.Path.{_≡_};
 ghost use Rattle.run.specs.Run.{sought, settledOf, runOf, recordsOf};
 ghost use Rattle.run.specs.Within.{searched, Shortest};
@@ -60,13 +60,13 @@ pub fn lowest_of(labels: &[u64], levels: &[u64], sets: &[u64], level: u64, set: 
             level: levels[i],
             set: sets[i],
         };
-        best = cipso::lower(best, entry, level, set);
+        best = lookups::lower(best, entry, level, set);
         i += 1;
     }
     settled(best, level, set)
 }
 
-// The search of a run of records. It reads a record whole, and `cipso::lower` compares it by value.
+// The search of a run of records. It reads a record whole, and `lookups::lower` compares it by value.
 pub fn lowest(run: &[Record], level: u64, set: u64) -> Label
     ensures { λ r. ⌜ r ≡ runOf (now (run .entry)) level set ⌝ }
 {
@@ -74,7 +74,7 @@ pub fn lowest(run: &[Record], level: u64, set: u64) -> Label
     let mut best = Best::Nothing;
     let mut i = 0;
     while i < count {
-        best = cipso::lower(best, run[i], level, set);
+        best = lookups::lower(best, run[i], level, set);
         i += 1;
     }
     settled(best, level, set)

@@ -22,10 +22,10 @@ use Rattle.access.specs.declared.Answer.the-variants.{Refused}
 use Rattle.load.specs.declared.Ended.{Ended}
 use Rattle.load.specs.declared.Ended.the-variants as e
 use Rattle.load.specs.Loader.{Load, load, pieceAnswer, pieceAfter, endAnswer, endAfter}
-use Rattle.load.specs.Reader.{Counts, Reader, startOn, endLine, takeByte, takePiece, finish, limitedCounts, Reply, done, report, answered, refusal, says}
-use Rattle.load.proofs.Follows.{Holds}
-use Rattle.load.proofs.Trace.{end-reply}
-use Rattle.load.proofs.Undivided.{piece-law, end-law, question-law}
+use Rattle.lists.specs.Reader.{Counts, Reader, startOn, endLine, takeByte, takePiece, finish, limitedCounts, Reply, done, report, answered, refusal, says}
+use Rattle.lists.proofs.Follows.{Holds}
+use Rattle.lists.proofs.Trace.{end-reply}
+use Rattle.lists.proofs.Undivided.{piece-law, end-law, question-law}
 use Rattle.session.specs.Program.{isMark, asked, answerTo, answerLine, reportLine}
 use Rattle.session.specs.Session.{State, keptLine, lineLoaded, textEnded, endedText, lineAfter, lineSays, keepByte}
 

@@ -2,13 +2,13 @@
 use mathlib.Core.Path.{_≡_, refl, sym, ap, _∙_, subst}
 use mathlib.Core.Bool.{Bool, true, false, cond, _&&_}
 use mathlib.Core.List.{List, [], _∷_, _++_, append-assoc, append-nil, foldl-append}
-use Prim.Native.Nat.{ℕ, zero, suc, _+_, _*_, _/_, _%_, _<_, _≤_}
+use Prim.Native.Nat.{ℕ, zero, suc, _+_, _-_, _*_, _/_, _%_, _<_, _≤_}
 use native.Mathlib.Numerals.{add-one}
 use native.Mathlib.Omega.{arith}
 use lib.Dec.{ltb, leb, eqb}
 use borrow.Author.Tests.{lt-ltb, le-ltb, ltb-true, ltb-false, eq-eqb, ne-eqb, eqb-true, leb-true, le-leb, lt-leb}
-use lib.ListN.{length, take, drop, set, getD, length-append, length-set, take-append-drop}
-use lib.Seq.{take-at, drop-append-add, drop-drop, set-split, take-suc, take-suc-set, length-take-le}
+use lib.ListN.{length, take, drop, set, length-append, length-set, take-append-drop}
+use lib.Seq.{take-at, drop-append-add, drop-drop, set-split, sets, take-suc-set, length-take-le}
 use Rattle.search.specs.Bytes.{written, sameBytes}
 use Rattle.search.proofs.Laws.{length-written, and-both}
 use Rattle.alphabet.specs.Alphabet.{fields, fieldAt, part}
@@ -21,7 +21,8 @@ use Rattle.access.specs.declared.Answer.{Answer}
 use Rattle.access.specs.declared.Answer.the-variants.{Refused}
 use Rattle.store.specs.Layout.{Store}
 use Rattle.load.specs.declared.Loader.{Loader}
-use Rattle.load.specs.Loader.{Load, load, ready, pieceAfter, endAfter, endAnswer}
+use Rattle.load.specs.Loader.{Load, load, ready, pieceAfter, endAfter, endAnswer, beforeNewline}
+use Rattle.load.proofs.Laws.{NoNewline, run-first, run-rest, run-take, run-drop, run-between, run-last, line-taken, set-written}
 use Rattle.session.specs.declared.Session.{Session}
 use Rattle.session.specs.declared.Turn.the-variants as t
 use Rattle.session.specs.Program.{digits, decimal, wordOf, endingOf, answerLine, asked, answerTo, isMark}
@@ -383,31 +384,116 @@ pub fits-input : (s : State) (input : List ℕ) → Fits s → Fits (stepInput s
 fits-input s [] f = f
 fits-input s (b ∷ bs) f = fits-input (stepByte s b) bs (fits-step s b f)
 
--- ---- a piece, byte by byte
+-- ---- a run of bytes with no newline joins the line under way, and says nothing
 
-say-snoc : (s : State) (input : List ℕ) (b : ℕ) → sayInput s (input ++ (b ∷ [])) ≡ sayInput s input ++ sayByte (stepInput s input) b
-say-snoc s [] b = append-nil (sayByte s b)
-say-snoc s (x ∷ xs) b = ap (λ (l : List ℕ). sayByte s x ++ l) (say-snoc (stepByte s x) xs b) ∙ sym (append-assoc (sayByte s x) (sayInput (stepByte s x) xs) (sayByte (stepInput (stepByte s x) xs) b))
+abbrev keptAs : State → List ℕ → ℕ → State
+keptAs s text kept = record { load = s .load; text = text; loading = s .loading; kept = kept }
 
-pub say-more :
-    (s here : State) (input : List ℕ) (i : ℕ) →
-    i < length input →
-    here ≡ stepInput s (take i input) →
-    sayInput s (take i input) ++ sayByte here (getD input i 0) ≡ sayInput s (take (i + 1) input)
-say-more s here input i h e =
-    ap (λ (x : State). sayInput s (take i input) ++ sayByte x (getD input i 0)) e
-    ∙ sym (say-snoc s (take i input) (getD input i 0))
-    ∙ ap (λ (l : List ℕ). sayInput s l) (sym (ap (λ (k : ℕ). take k input) (add-one i) ∙ take-suc input i 0 h))
+run-set : (s : State) (run : List ℕ) → NoNewline run → s .kept + length run ≤ 601 → stepInput s run ≡ keptAs s (sets (s .text) (s .kept) run) (s .kept + length run)
+run-set s [] e h =
+    let z : s .kept ≡ s .kept + 0 = omega arith in
+    ap (λ (k : ℕ). keptAs s (s .text) k) z
+run-set s (b ∷ bs) e h =
+    let z : s .kept + 1 + length bs ≡ s .kept + suc (length bs) = omega arith in
+    ap (λ (x : State). stepInput x bs) (sym (byte-kept s b (omega arith) ∙ byte-after s b (run-first b bs e)))
+    ∙ run-set (keptAs s (set (s .text) (s .kept) b) (s .kept + 1)) bs (run-rest b bs e) (omega arith)
+    ∙ ap (λ (k : ℕ). keptAs s (sets (set (s .text) (s .kept) b) k bs) (s .kept + 1 + length bs)) (add-one (s .kept))
+    ∙ ap (λ (k : ℕ). keptAs s (sets (s .text) (s .kept) (b ∷ bs)) k) z
 
-pub step-more :
-    (s here : State) (input : List ℕ) (i : ℕ) →
-    i < length input →
-    here ≡ stepInput s (take i input) →
-    stepByte here (getD input i 0) ≡ stepInput s (take (i + 1) input)
-step-more s here input i h e =
-    ap (λ (x : State). stepByte x (getD input i 0)) e
-    ∙ sym (foldl-append stepByte s (take i input) (getD input i 0 ∷ []))
-    ∙ ap (λ (l : List ℕ). stepInput s l) (sym (ap (λ (k : ℕ). take k input) (add-one i) ∙ take-suc input i 0 h))
+pub run-full : (s : State) (run : List ℕ) → NoNewline run → 601 ≤ s .kept → stepInput s run ≡ s
+run-full s [] e h = refl
+run-full s (b ∷ bs) e h =
+    ap (λ (x : State). stepInput x bs) (sym (byte-full s b h ∙ byte-after s b (run-first b bs e)))
+    ∙ run-full s bs (run-rest b bs e) h
+
+run-cut : (s : State) (run : List ℕ) (room : ℕ) → NoNewline run → s .kept + room ≡ 601 → room < length run → stepInput s run ≡ keptAs s (sets (s .text) (s .kept) (take room run)) 601
+run-cut s run room e h more =
+    let size = length-take-le room run (omega arith) in
+    let full : s .kept + length (take room run) ≡ 601 = omega (arith, size, h) in
+    ap (λ (t : List ℕ). stepInput s t) (sym (take-append-drop room run))
+    ∙ foldl-append stepByte s (take room run) (drop room run)
+    ∙ ap (λ (x : State). stepInput x (drop room run)) (run-set s (take room run) (run-take room run e) (omega (arith, full)) ∙ ap (λ (k : ℕ). keptAs s (sets (s .text) (s .kept) (take room run)) k) full)
+    ∙ run-full (keptAs s (sets (s .text) (s .kept) (take room run)) 601) (drop room run) (run-drop room run e) (omega arith)
+
+pub run-kept :
+    (s : State) (run : List ℕ) {text : List ℕ} →
+    length (s .text) ≡ 602 →
+    NoNewline run →
+    s .kept + length run ≤ 601 →
+    text ≡ written (s .text) (s .kept) run →
+    keptAs s text (s .kept + length run) ≡ stepInput s run
+run-kept s run size e h p =
+    ap (λ (t : List ℕ). keptAs s t (s .kept + length run)) (p ∙ set-written (s .text) (s .kept) run (omega (arith, size)))
+    ∙ sym (run-set s run e h)
+
+pub run-over :
+    (s : State) (run : List ℕ) (room : ℕ) {text : List ℕ} →
+    length (s .text) ≡ 602 →
+    NoNewline run →
+    s .kept + room ≡ 601 →
+    room < length run →
+    text ≡ written (s .text) (s .kept) (take room run) →
+    keptAs s text 601 ≡ stepInput s run
+run-over s run room size e h more p =
+    ap (λ (t : List ℕ). keptAs s t 601) (p ∙ set-written (s .text) (s .kept) (take room run) (omega (arith, size, h, length-take-le room run (omega arith))))
+    ∙ sym (run-cut s run room e h more)
+
+run-says : (s : State) (run : List ℕ) → NoNewline run → sayInput s run ≡ []
+run-says s [] e = refl
+run-says s (b ∷ bs) e =
+    ap (λ (l : List ℕ). l ++ sayInput (stepByte s b) bs) (sym (byte-says s b (run-first b bs e)))
+    ∙ run-says (stepByte s b) bs (run-rest b bs e)
+
+-- ---- a piece, line by line
+
+say-append : (s : State) (a b : List ℕ) → sayInput s (a ++ b) ≡ sayInput s a ++ sayInput (stepInput s a) b
+say-append s [] b = refl
+say-append s (x ∷ xs) b = ap (λ (l : List ℕ). sayByte s x ++ l) (say-append (stepByte s x) xs b) ∙ sym (append-assoc (sayByte s x) (sayInput (stepByte s x) xs) (sayInput (stepInput (stepByte s x) xs) b))
+
+-- a run and its newline
+line-step : (s : State) (run : List ℕ) → stepInput s (run ++ (10 ∷ [])) ≡ lineAfter (stepInput s run)
+line-step s run = foldl-append stepByte s run (10 ∷ []) ∙ sym (newline-after (stepInput s run) 10 refl)
+
+line-say : (s : State) (run : List ℕ) → NoNewline run → sayInput s (run ++ (10 ∷ [])) ≡ lineSays (stepInput s run)
+line-say s run e =
+    say-append s run (10 ∷ [])
+    ∙ ap (λ (l : List ℕ). l ++ sayInput (stepInput s run) (10 ∷ [])) (run-says s run e)
+    ∙ append-nil (sayByte (stepInput s run) 10)
+    ∙ sym (newline-says (stepInput s run) 10 refl)
+
+-- at an index i of the input, whose line ends at `end`: `here` is where the bytes before i lead, `run` where those of the line lead
+module _ (s here run : State) (input : List ℕ) (i end : ℕ) (h : i ≤ length input) (e : end ≡ i + beforeNewline (drop i input)) (p : here ≡ stepInput s (take i input)) (q : run ≡ stepInput here (take (end - i) (drop i input))) where
+  led : run ≡ stepInput (stepInput s (take i input)) (take (end - i) (drop i input))
+  led = q ∙ ap (λ (x : State). stepInput x (take (end - i) (drop i input))) p
+
+  pub line-after : end < length input → lineAfter run ≡ stepInput s (take (end + 1) input)
+  line-after less =
+      ap lineAfter led
+      ∙ sym (line-step (stepInput s (take i input)) (take (end - i) (drop i input)))
+      ∙ sym (foldl-append stepByte s (take i input) (take (end - i) (drop i input) ++ (10 ∷ [])))
+      ∙ ap (λ (t : List ℕ). stepInput s t) (sym (line-taken input i end h e less))
+
+  pub line-says : end < length input → sayInput s (take i input) ++ lineSays run ≡ sayInput s (take (end + 1) input)
+  line-says less =
+      ap (λ (l : List ℕ). sayInput s (take i input) ++ l) (ap lineSays led ∙ sym (line-say (stepInput s (take i input)) (take (end - i) (drop i input)) (run-between input i end h e)))
+      ∙ sym (say-append s (take i input) (take (end - i) (drop i input) ++ (10 ∷ [])))
+      ∙ ap (λ (t : List ℕ). sayInput s t) (sym (line-taken input i end h e less))
+
+  all-taken : end ≡ length input → take i input ++ take (end - i) (drop i input) ≡ input
+  all-taken z = ap (λ (t : List ℕ). take i input ++ t) (run-last input i end h e z) ∙ take-append-drop i input
+
+  pub rest-after : end ≡ length input → run ≡ stepInput s input
+  rest-after z =
+      led
+      ∙ sym (foldl-append stepByte s (take i input) (take (end - i) (drop i input)))
+      ∙ ap (λ (t : List ℕ). stepInput s t) (all-taken z)
+
+  pub rest-says : end ≡ length input → sayInput s (take i input) ≡ sayInput s input
+  rest-says z =
+      sym (append-nil (sayInput s (take i input)))
+      ∙ ap (λ (l : List ℕ). sayInput s (take i input) ++ l) (sym (run-says (stepInput s (take i input)) (take (end - i) (drop i input)) (run-between input i end h e)))
+      ∙ sym (say-append s (take i input) (take (end - i) (drop i input)))
+      ∙ ap (λ (t : List ℕ). sayInput s t) (all-taken z)
 
 -- ---- the two calls
 

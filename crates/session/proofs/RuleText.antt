@@ -10,7 +10,7 @@ use lib.ListN.{length}
 use Rattle.search.specs.Search.{all}
 use Rattle.search.proofs.Laws.{all-snoc}
 use Rattle.store.specs.Table.{Table, fresh}
-use Rattle.load.specs.Reader.{Counts, zeros, Reader, startOn, endLine, takeByte, takePiece, finish, limitedCounts}
+use Rattle.lists.specs.Reader.{Counts, zeros, Reader, startOn, endLine, takeByte, takePiece, finish, limitedCounts}
 use Rattle.session.specs.Program.{linesFrom, lines, isMark, ruleLines, questionLines, textOf, reportLine, output}
 use Rattle.session.proofs.Follows.{line-ends}
 

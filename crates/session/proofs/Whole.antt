@@ -17,11 +17,11 @@ use Rattle.store.specs.Layout.{Store, store, Sizes, freshStore}
 use Rattle.store.proofs.Laws.{fresh-is, fresh-undamaged}
 use Rattle.access.specs.Access.{answer}
 use Rattle.load.specs.Loader.{load, ready, endAnswer, endAfter, freshLoader}
-use Rattle.load.specs.Reader.{Reader, startOn, takeByte, takePiece, finish, limitedCounts}
+use Rattle.lists.specs.Reader.{Reader, startOn, takeByte, takePiece, finish, limitedCounts}
 use Rattle.load.proofs.Laws.{is-ready}
-use Rattle.load.proofs.Follows.{Holds, fresh-holds}
-use Rattle.load.proofs.Undivided.{end-law}
-use Rattle.load.proofs.Trace.{Called}
+use Rattle.lists.proofs.Follows.{Holds, fresh-holds}
+use Rattle.lists.proofs.Undivided.{end-law}
+use Rattle.lists.proofs.Trace.{Called}
 use Rattle.session.proofs.begin.Kinds as begin-kinds
 use Rattle.session.proofs.begin.Reads as begin-reads
 use Rattle.session.proofs.feed.Kinds as feed-kinds

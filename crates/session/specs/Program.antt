@@ -10,7 +10,7 @@ use Rattle.store.specs.Table.{Table, fresh}
 use Rattle.access.specs.Access.{answer, shown}
 use Rattle.access.specs.declared.Answer.{Answer}
 use Rattle.access.specs.declared.Answer.the-variants.{Granted, Denied, Override, Refused}
-use Rattle.load.specs.Reader.{Counts, Reader, startOn, takePiece, finish, limitedCounts}
+use Rattle.lists.specs.Reader.{Counts, Reader, startOn, takePiece, finish, limitedCounts}
 
 -- ---- the lines of the input
 

@@ -7,15 +7,15 @@ use load::Fed;
 use load::Loader;
 use load::Report;
 ghost use mathlib.Core.Path.{_≡_};
-ghost use mathlib.Core.List.{[], _∷_, _++_};
-ghost use Prim.Native.Nat.{_+_, _≤_, _<_};
+ghost use mathlib.Core.List.{List, [], _∷_, _++_};
+ghost use Prim.Native.Nat.{ℕ, _+_, _≤_, _<_};
 ghost use lib.ListN.{length};
 ghost use Rattle.search.specs.Bytes.{written};
-ghost use Rattle.store.specs.Layout.{store, freshStore};
+ghost use Rattle.store.specs.Layout.{Store, store, freshStore};
 ghost use Rattle.access.specs.Access.{questionOf};
-ghost use Rattle.load.specs.Loader.{load, endAnswer};
+ghost use Rattle.load.specs.Loader.{load, endAnswer, beforeNewline};
 ghost use Rattle.session.specs.Program.{decimal, wordOf, answerLine, answerTo};
-ghost use Rattle.session.specs.Session.{state, freshSession, readyAll, lineLoaded, textEnded, endedText, reportText, lineAfter, lineSays, stepByte, sayByte, closeAfter, closeSays, feedAnswer, feedAfter, feedSays, finishAnswer, finishAfter, finishSays, wentSession, wentCount, Front, Put};
+ghost use Rattle.session.specs.Session.{state, freshSession, readyAll, lineLoaded, textEnded, endedText, reportText, lineAfter, lineSays, stepInput, closeAfter, closeSays, feedAnswer, feedAfter, feedSays, finishAnswer, finishAfter, finishSays, wentSession, wentCount, Front, Put};
 
 // The most bytes of a question line.
 const LIMIT: usize = 600;
@@ -308,40 +308,34 @@ fn end_line(
     Step { session: next, at }
 }
 
-// Takes one byte of the input. Who calls it has made sure that there is room.
-fn take_byte(
-    labels: &mut [u8],
-    entries: &mut [u8],
-    words: &mut [u64],
-    line: &mut [u8],
-    text: &mut [u8],
-    out: &mut [u8],
-    step: Step,
-    b: u8,
-) -> Step
-    requires { ⌜ (length (now text) ≡ 602) × (step .session .kept ≤ 601) × (step .at + 66 ≤ length (now out)) ⌝ }
-    ensures { λ r. ⌜ state (store (now (labels .exit)) (now (entries .exit)) (now (words .exit))) (now (line .exit)) (now (text .exit)) (r .session) ≡ stepByte (state (store (now (labels .entry)) (now (entries .entry)) (now (words .entry))) (now (line .entry)) (now (text .entry)) (step .session)) b ⌝ }
-    ensures { λ r. ⌜ Put 66 (now (out .entry)) (step .at) (sayByte (state (store (now (labels .entry)) (now (entries .entry)) (now (words .entry))) (now (line .entry)) (now (text .entry)) (step .session)) b) (now (out .exit)) (r .at) ⌝ }
+// Takes bytes of one line, none of them its newline. They join the line under way in one go, as many as there is room for. Who calls it
+// has made sure that the line's slice is of its full size.
+fn take_run(text: &mut [u8], s: Session, run: &[u8]) -> Session
+    requires { ⌜ (length (now text) ≡ 602) × (beforeNewline (now run) ≡ length (now run)) ⌝ }
+    ensures { λ r. ⌜ ((st : Store) (line : List ℕ) → state st line (now (text .exit)) r ≡ stepInput (state st line (now (text .entry)) s) (now (run .entry))) ⌝ }
 {
-    if b == 10 {
-        return end_line(labels, entries, words, line, text, out, step);
-    }
-    let s = step.session;
     let kept = s.kept;
     let loader = s.loader;
-    let at = step.at;
-    if kept < KEPT {
-        text[kept] = b;
-        return Step {
-            session: Session {
-                loading: s.loading,
-                kept: kept + 1,
-                loader,
-            },
-            at,
+    let n = run.len();
+    if KEPT <= kept {
+        return s;
+    }
+    let room = KEPT - kept;
+    if n <= room {
+        search::copy_at(text, kept, run);
+        let longer = kept + n;
+        return Session {
+            loading: s.loading,
+            kept: longer,
+            loader,
         };
     }
-    step
+    search::copy_at(text, kept, &run[..room]);
+    Session {
+        loading: s.loading,
+        kept: KEPT,
+        loader,
+    }
 }
 
 // Ends the rule text where it has not ended. Who calls it has made sure that there is room.
@@ -404,12 +398,18 @@ pub fn feed(
     }
     let mut step = Step { session: s, at: 0 };
     let mut i = 0;
-    while i < input.len() {
-        step = take_byte(labels, entries, words, line, text, out, step, input[i]);
-        i += 1;
+    loop {
+        let end = load::line_end(input, i);
+        let at = step.at;
+        let begun = step.session;
+        let next = take_run(text, begun, &input[i..end]);
+        if end == input.len() {
+            return Turn::Went(next, at);
+        }
+        let whole = Step { session: next, at };
+        step = end_line(labels, entries, words, line, text, out, whole);
+        i = end + 1;
     }
-    let next = step.session;
-    Turn::Went(next, step.at)
 }
 
 // The end of the input: bytes after the last newline are one more line, and rule text that has not ended does.

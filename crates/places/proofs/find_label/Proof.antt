@@ -1,12 +1,13 @@
 -- `places::find_label` meets its contract: no label passed has the bytes. Assumes nothing.
 use Prim.Native.Nat.{ℕ, _*_, _≤_, _<_, _-_}
-use mathlib.Core.Path.{_≡_, sym, _∙_}
+use mathlib.Core.Path.{_≡_, sym, ap, _∙_}
 use mathlib.Core.Bool.{true, false}
 use borrow.Author.Count.{below-more}
 use lib.ListN.{getD, length}
 use Rattle.search.specs.Bytes.{sameBytes}
 use Rattle.search.proofs.Laws.{found-at, found-none, same-lengths}
 use Rattle.store.specs.Layout.{labelAt}
+use Rattle.places.specs.Places.{NoLabel}
 use Rattle.places.proofs.Laws.{held-length}
 use borrow.Author.Needs.{needs}
 use native.Mathlib.Omega.{arith}
@@ -14,7 +15,7 @@ use Rattle.places.proofs.find_label.Statement.{statement}
 use Rattle.places.proofs.find_label.Tie as tie
 
 abbrev Inv-loop : tie.InvT-loop
-Inv-loop labels count label last i₀ i = (i ≤ count) × ((k : ℕ) → k < i → sameBytes label (labelAt labels k) ≡ false)
+Inv-loop labels count label last i₀ i = NoLabel label labels i
 
 abbrev μ-loop : tie.MeasureT-loop
 μ-loop labels count label last i₀ i = count - i
@@ -35,18 +36,24 @@ returns c =
 last-byte-requires : tie.Need-last-byte-requires Inv-loop μ-loop
 last-byte-requires c κs = search needs
 
-loop-holds : tie.Need-loop-holds Inv-loop μ-loop
-loop-holds c = (omega arith, λ k h. absurd (omega arith))
+pass-labels-requires : tie.Need-pass-labels-requires Inv-loop μ-loop
+pass-labels-requires c κs = let s = c .before .before .before .before in (s .pre .0, s .pre .1, omega arith, c .last-byte .ensures)
 
-is-label-requires : tie.Need-is-label-requires Inv-loop μ-loop
-is-label-requires c κs = (c .before .before .before .before .before .before .pre .0, omega arith, omega arith, c .before .before .last-byte .ensures)
+loop-holds : tie.Need-loop-holds Inv-loop μ-loop
+loop-holds c = c .pass-labels .ensures
+
+label-at-requires : tie.Need-label-at-requires Inv-loop μ-loop
+label-at-requires c κs = let s = c .before .before .before .before .before .before .before in (s .pre .0, omega (arith, s .pre .1))
+
+same-bytes-requires : tie.Need-same-bytes-requires Inv-loop μ-loop
+same-bytes-requires c κs = search needs
 
 returns-2 : tie.Need-returns-2 Inv-loop μ-loop
 returns-2 c =
-    let l = c .before .before .before in
-    let a = l .before .before .before .before .before .args in
-    let here : sameBytes (a .label .now) (labelAt (a .labels .now) (l .loop .i)) ≡ true = sym (c .before .is-label .ensures) ∙ c .if2 .taken in
-    sym (found-at (sameBytes (a .label .now)) (labelAt (a .labels .now)) (a .count) (l .loop .i) (omega arith) (l .loop .inv .1) here)
+    let l = c .before .before .before .before in
+    let a = l .before .before .before .before .before .before .args in
+    let here : sameBytes (a .label .now) (labelAt (a .labels .now) (l .loop .i)) ≡ true = sym (c .before .same-bytes .ensures ∙ ap (sameBytes (a .label .now)) (c .before .before .label-at .ensures)) ∙ c .if2 .taken in
+    sym (found-at (sameBytes (a .label .now)) (labelAt (a .labels .now)) (a .count) (l .loop .i) (omega arith) (l .loop .inv) here)
 
 add-i : tie.Need-add-i Inv-loop μ-loop
 add-i c = omega arith
@@ -56,16 +63,16 @@ loop-less c = omega arith
 
 loop-again : tie.Need-loop-again Inv-loop μ-loop
 loop-again c =
-    let l = c .before .before .before in
-    let a = l .before .before .before .before .before .args in
-    let here : sameBytes (a .label .now) (labelAt (a .labels .now) (l .loop .i)) ≡ false = sym (c .before .is-label .ensures) ∙ c .if2 .left in
-    (omega arith, below-more _ _ (l .loop .inv .1) here)
+    let l = c .before .before .before .before in
+    let a = l .before .before .before .before .before .before .args in
+    let here : sameBytes (a .label .now) (labelAt (a .labels .now) (l .loop .i)) ≡ false = sym (c .before .same-bytes .ensures ∙ ap (sameBytes (a .label .now)) (c .before .before .label-at .ensures)) ∙ c .if2 .left in
+    below-more _ _ (l .loop .inv) here
 
 returns-3 : tie.Need-returns-3 Inv-loop μ-loop
 returns-3 c =
     let l = c .before in
-    let a = l .before .before .before .before .before .args in
-    sym (found-none (sameBytes (a .label .now)) (labelAt (a .labels .now)) (a .count) (λ k h. l .loop .inv .1 k (omega arith)))
+    let a = l .before .before .before .before .before .before .args in
+    sym (found-none (sameBytes (a .label .now)) (labelAt (a .labels .now)) (a .count) (λ k h. l .loop .inv k (omega arith)))
 
 pub find-label-spec : {M : Type 1} → statement M
 find-label-spec =
@@ -75,8 +82,10 @@ find-label-spec =
     μ-loop
     returns
     last-byte-requires
+    pass-labels-requires
     loop-holds
-    is-label-requires
+    label-at-requires
+    same-bytes-requires
     returns-2
     add-i
     loop-less

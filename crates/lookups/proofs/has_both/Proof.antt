@@ -1,4 +1,4 @@
--- `cipso::has_both` meets its contract: each answer is that of the definition, by the tests that led to it. Assumes nothing.
+-- `lookups::has_both` meets its contract: each answer is that of the definition, by the tests that led to it. Assumes nothing.
 use Prim.Native.Nat.{ℕ, _+_, _<_}
 use mathlib.Core.Path.{_≡_, sym, _∙_, ap}
 use mathlib.Core.List.{List}
@@ -9,11 +9,11 @@ use Rattle.search.specs.Bytes.{sameBytes}
 use Rattle.search.specs.declared.Found.{Found}
 use Rattle.search.specs.declared.Found.the-variants.{At}
 use Rattle.store.specs.Layout.{labelAt, mappingAt}
 use Rattle.cipso.specs.Cipso.{names}
 use borrow.Author.Needs.{needs}
-use Rattle.cipso.proofs.Laws.{mapping-below, both-none, both-level, both-set, both-label}
-use Rattle.cipso.proofs.has_both.Statement.{statement}
-use Rattle.cipso.proofs.has_both.Tie as tie
+use Rattle.lookups.proofs.Laws.{mapping-below, both-none, both-level, both-set, both-label}
+use Rattle.lookups.proofs.has_both.Statement.{statement}
+use Rattle.lookups.proofs.has_both.Tie as tie
 
 -- the first mapping that names the label
 found : (c : tie.After-k) → first (names (c .before .before .before .before .before .before .before .before .args .n)) (entries (mappingAt (c .before .before .before .before .before .before .before .before .args .entries .now) (c .before .before .before .before .before .before .before .before .args .words .now)) (getD (c .before .before .before .before .before .before .before .before .args .words .now) 2 0)) ≡ At (c .k .given .0 .0)

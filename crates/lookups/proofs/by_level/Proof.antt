@@ -1,4 +1,4 @@
--- `cipso::by_level` meets its contract: no label number passed has both. Assumes nothing.
+-- `lookups::by_level` meets its contract: no label number passed has both. Assumes nothing.
 use Prim.Native.Nat.{ℕ, _≤_, _<_, _-_}
 use mathlib.Core.Path.{_≡_, sym, _∙_}
 use mathlib.Core.Bool.{true, false}
@@ -7,11 +7,11 @@ use borrow.Author.Tests.{not-true, not-false}
 use borrow.Author.Count.{below-more}
 use Rattle.store.specs.Layout.{store, tableOf, undamagedOf}
 use Rattle.store.proofs.Laws.{Undamaged, undamaged-is}
-use Rattle.cipso.specs.Cipso.{hasBoth}
+use Rattle.lookups.specs.Lookups.{hasBoth}
 use borrow.Author.Needs.{needs}
-use Rattle.cipso.proofs.Laws.{level-damaged, level-high, level-unknown, level-found, level-none}
-use Rattle.cipso.proofs.by_level.Statement.{statement}
-use Rattle.cipso.proofs.by_level.Tie as tie
+use Rattle.lookups.proofs.Laws.{level-damaged, level-high, level-unknown, level-found, level-none}
+use Rattle.lookups.proofs.by_level.Statement.{statement}
+use Rattle.lookups.proofs.by_level.Tie as tie
 
 abbrev Inv-loop : tie.InvT-loop
 Inv-loop labels entries words level set stored n₀ n = (n ≤ stored) × ((j : ℕ) → j < n → hasBoth (tableOf (store labels entries words)) level set j ≡ false)

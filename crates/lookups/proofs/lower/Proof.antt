@@ -1,9 +1,9 @@
--- `cipso::lower` meets its contract: it makes the definition's tests in their order. Assumes nothing.
+-- `lookups::lower` meets its contract: it makes the definition's tests in their order. Assumes nothing.
 use borrow.Author.Tests.{eq-eqb, ne-eqb, lt-ltb, le-ltb}
-use Rattle.cipso.specs.Cipso.{lowerOf}
+use Rattle.lookups.specs.Lookups.{lowerOf}
 use borrow.Author.Needs.{needs}
-use Rattle.cipso.proofs.lower.Statement.{statement}
-use Rattle.cipso.proofs.lower.Tie as tie
+use Rattle.lookups.proofs.lower.Statement.{statement}
+use Rattle.lookups.proofs.lower.Tie as tie
 
 returns : tie.Need-returns
 unfolding lowerOf

@@ -1,4 +1,4 @@
--- `cipso::by_label` meets its contract: each answer is that of the definition, by the tests that led to it, and no set of an undamaged store has
+-- `lookups::by_label` meets its contract: each answer is that of the definition, by the tests that led to it, and no set of an undamaged store has
 -- a bit that is no category. Assumes nothing.
 use Prim.Native.Nat.{ℕ, _+_, _<_}
 use mathlib.Core.Path.{_≡_, sym, _∙_, ap}
@@ -12,12 +12,12 @@ use Rattle.search.specs.declared.Found.the-variants.{At, Nothing}
 use Rattle.alphabet.specs.Alphabet.{faultOf}
 use Rattle.store.specs.Layout.{store, labelAt, mappingAt, undamagedOf}
 use Rattle.store.proofs.Laws.{Undamaged, undamaged-is}
 use Rattle.cipso.specs.Cipso.{names}
-use Rattle.cipso.specs.declared.Lookup.the-variants.{Mapped}
+use Rattle.lookups.specs.declared.Lookup.the-variants.{Mapped}
 use borrow.Author.Needs.{needs}
-use Rattle.cipso.proofs.Laws.{mapping-below, stored-known, label-damaged, label-unformed, label-unknown, label-unmapped, label-mapped}
-use Rattle.cipso.proofs.by_label.Statement.{statement}
-use Rattle.cipso.proofs.by_label.Tie as tie
+use Rattle.lookups.proofs.Laws.{mapping-below, stored-known, label-damaged, label-unformed, label-unknown, label-unmapped, label-mapped}
+use Rattle.lookups.proofs.by_label.Statement.{statement}
+use Rattle.lookups.proofs.by_label.Tie as tie
 
 -- what the tests that were passed say
 tested : (c : tie.Else1) → undamagedOf (store (c .before .before .before .before .before .before .args .labels .now) (c .before .before .before .before .before .before .args .entries .now) (c .before .before .before .before .before .before .args .words .now)) ≡ true
