@@ -1,5 +1,5 @@
 -- Laws of the searches. Assumes nothing.
-use mathlib.Core.Path.{_≡_, refl, sym, ap, _∙_}
+use mathlib.Core.Path.{_≡_, refl, sym, ap, _∙_, subst}
 use mathlib.Core.Bool.{Bool, true, false, _&&_, _||_}
 use mathlib.Core.List.{List, _∷_}
 use Prim.Native.Nat.{ℕ, zero, suc, _+_, _*_, _-_, _<_, _≤_}
@@ -9,10 +9,13 @@ use borrow.Author.Tests.{eq-eqb, ltb-true, ltb-false}
 use lib.ListN.{length, take, drop, getD, length-drop}
 use lib.Seq.{take-take, getD-take, getD-drop, length-take-le, drop-cons}
 use Rattle.search.specs.Bytes.{sameBytes}
-use Rattle.search.proofs.Laws.{no, same-equal}
+use Rattle.search.specs.Search.{first, entries}
+use Rattle.search.specs.declared.Found.{Found}
+use Rattle.search.specs.declared.Found.the-variants.{At, Nothing}
+use Rattle.search.proofs.Laws.{no, same-equal, found-at}
 use Rattle.store.specs.Table.{isPair}
 use Rattle.store.specs.Layout.{labelAt, ruleAt}
-use Rattle.places.specs.Places.{Unlike, NoLabel, NoPair}
+use Rattle.places.specs.Places.{Unlike, InBlock, NoPair}
 
 -- ---- a label told by its length and its last byte
 
@@ -53,18 +56,38 @@ module _ (t : List ℕ) (k : ℕ) (size : length t ≡ 16384) (inside : k < 64) 
           absurd (no (sym (rw (g, f) at e)))
       by-test false q = q
 
--- past one block of 8 places more
-pub no-label-more :
-    (l t : List ℕ) (last b : ℕ) → length t ≡ 16384 → b < 8 → ((k : ℕ) → getD t k 0 ≤ 255) → last ≡ getD (0 ∷ l) (length l) 0 →
-    NoLabel l t (b * 8) → ((k : ℕ) → k < 8 → Unlike t (b * 8 + k) (length l) last) → NoLabel l t ((b + 1) * 8)
-no-label-more l t last b size few bytes is before here k h = by-test (ltb k (b * 8)) refl
+-- a block that looks like none holds none
+pub none-alike :
+    (l t : List ℕ) (last from count : ℕ) → length t ≡ 16384 → from ≤ 56 → ((k : ℕ) → getD t k 0 ≤ 255) → last ≡ getD (0 ∷ l) (length l) 0 →
+    ((k : ℕ) → k < 8 → Unlike t (from + k) (length l) last) → InBlock l t from count Nothing
+none-alike l t last from count size few bytes is here k above h stored =
+    let same : from + (k - from) ≡ k = omega arith in
+    unlike t k size (omega arith) (bytes (k * 256)) l last is (ap (λ (j : ℕ). (eqb (getD t (j * 256 + length l) 0) last && eqb (getD t (j * 256) 0) (length l))) (sym same) ∙ here (k - from) (omega arith))
+
+-- past one block of 8 places more: of the stored ones none
+abbrev pub Passed : List ℕ → List ℕ → ℕ → ℕ → Type 0
+Passed l t count n = (k : ℕ) → k < n → k < count → sameBytes l (labelAt t k) ≡ false
+
+pub passed-more : (l t : List ℕ) (count b : ℕ) → Passed l t count (b * 8) → InBlock l t (b * 8) count Nothing → Passed l t count ((b + 1) * 8)
+passed-more l t count b before here k h stored = by-test (ltb k (b * 8)) refl
   where
     by-test : (c : Bool) → ltb k (b * 8) ≡ c → sameBytes l (labelAt t k) ≡ false
-    by-test true q = before k (ltb-true k (b * 8) q)
-    by-test false q =
-        let past = ltb-false k (b * 8) q in
-        let same : b * 8 + (k - b * 8) ≡ k = omega arith in
-        unlike t k size (omega arith) (bytes (k * 256)) l last is (ap (λ (j : ℕ). (eqb (getD t (j * 256 + length l) 0) last && eqb (getD t (j * 256) 0) (length l))) (sym same) ∙ here (k - b * 8) (omega arith))
+    by-test true q = before k (ltb-true k (b * 8) q) stored
+    by-test false q = here k (ltb-false k (b * 8) q) (omega arith) stored
+
+-- and before the place that a block's search found
+pub passed-upto : (l t : List ℕ) (count b i : ℕ) → Passed l t count (b * 8) → InBlock l t (b * 8) count (At i) → (k : ℕ) → k < i → sameBytes l (labelAt t k) ≡ false
+passed-upto l t count b i before here k h = by-test (ltb k (b * 8)) refl
+  where
+    by-test : (c : Bool) → ltb k (b * 8) ≡ c → sameBytes l (labelAt t k) ≡ false
+    by-test true q = before k (ltb-true k (b * 8) q) (omega (arith, here .0))
+    by-test false q = here .2 k (ltb-false k (b * 8) q) h
+
+-- so that place is the label's
+pub block-found : (l t : List ℕ) (count b : ℕ) (r : Found) (i : ℕ) → r ≡ At i → Passed l t count (b * 8) → InBlock l t (b * 8) count r → r ≡ first (sameBytes l) (entries (labelAt t) count)
+block-found l t count b r i e before here =
+    let h = subst (InBlock l t (b * 8) count) e here in
+    e ∙ sym (found-at (sameBytes l) (labelAt t) count i (h .0) (passed-upto l t count b i before h) (h .1))
 
 -- ---- a pair sought in blocks of 32 places
 

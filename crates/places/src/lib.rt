@@ -10,7 +10,7 @@ ghost use Rattle.search.specs.Search.{first, entries as listed};
 ghost use Rattle.search.specs.Bytes.{sameBytes};
 ghost use Rattle.store.specs.Table.{isPair};
 ghost use Rattle.store.specs.Layout.{labelAt, ruleAt};
-ghost use Rattle.places.specs.Places.{Unlike, NoLabel, NoPair};
+ghost use Rattle.places.specs.Places.{Unlike, InBlock, NoPair};
 
 // The very part of the label store that holds label k. Who calls it has tested the store.
 pub fn label_at(labels: &[u8], k: usize) -> &[u8]
@@ -48,21 +48,28 @@ fn block_looks_like(labels: &[u8], from: usize, n: usize, last: u8) -> bool
     any
 }
 
-// An index before which no place holds a label, whose last byte is `last`: the first block of 8 that may hold it, or one past the stored ones.
-// Who calls it has tested the store and the label's length.
-fn pass_labels(labels: &[u8], count: usize, label: &[u8], last: u8) -> usize
-    requires { ⌜ (length (now labels) ≡ 16384) × (count ≤ 64) × (length (now label) ≤ 255) × (last ≡ getD (0 ∷ now label) (length (now label)) 0) ⌝ }
-    ensures { λ r. ⌜ NoLabel (now (label .entry)) (now (labels .entry)) r ⌝ }
+// The first of 8 places, from an index on, that holds a label, whose last byte is `last`. Who calls it has tested the store and the label's
+// length.
+fn find_in_block(labels: &[u8], from: usize, count: usize, label: &[u8], last: u8) -> Found
+    requires { ⌜ (length (now labels) ≡ 16384) × (from ≤ 56) × (count ≤ 64) × (length (now label) ≤ 255) × (last ≡ getD (0 ∷ now label) (length (now label)) 0) ⌝ }
+    ensures { λ r. ⌜ InBlock (now (label .entry)) (now (labels .entry)) from count r ⌝ }
 {
-    let n = label.len();
-    let mut block = 0;
-    while block * 8 < count {
-        if block_looks_like(labels, block * 8, n, last) {
-            return block * 8;
-        }
-        block += 1;
+    if !block_looks_like(labels, from, label.len(), last) {
+        return Found::Nothing;
     }
-    block * 8
+    let after = from + 8;
+    let mut i = from;
+    while i < after {
+        if count <= i {
+            return Found::Nothing;
+        }
+        let held = label_at(labels, i);
+        if search::same_bytes(label, held) {
+            return Found::At(i);
+        }
+        i += 1;
+    }
+    Found::Nothing
 }
 
 // The number of a label among the first `count`: the first that has its bytes. Who calls it has tested the store.
@@ -74,13 +81,13 @@ pub fn find_label(labels: &[u8], count: usize, label: &[u8]) -> Found
         return Found::Nothing;
     }
     let last = last_byte(label);
-    let mut i = pass_labels(labels, count, label, last);
-    while i < count {
-        let held = label_at(labels, i);
-        if search::same_bytes(label, held) {
-            return Found::At(i);
-        }
-        i += 1;
+    let mut block = 0;
+    while block * 8 < count {
+        let found = find_in_block(labels, block * 8, count, label, last);
+        let Found::Nothing = found else {
+            return found;
+        };
+        block += 1;
     }
     Found::Nothing
 }

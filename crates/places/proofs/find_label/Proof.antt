@@ -1,24 +1,23 @@
--- `places::find_label` meets its contract: no label passed has the bytes. Assumes nothing.
+-- `places::find_label` meets its contract: no block passed holds the label. Assumes nothing.
 use Prim.Native.Nat.{ℕ, _*_, _≤_, _<_, _-_}
-use mathlib.Core.Path.{_≡_, sym, ap, _∙_}
-use mathlib.Core.Bool.{true, false}
-use borrow.Author.Count.{below-more}
+use mathlib.Core.Path.{_≡_, sym, subst}
+use mathlib.Core.Bool.{false}
 use lib.ListN.{getD, length}
 use Rattle.search.specs.Bytes.{sameBytes}
-use Rattle.search.proofs.Laws.{found-at, found-none, same-lengths}
+use Rattle.search.proofs.Laws.{found-none, same-lengths}
 use Rattle.store.specs.Layout.{labelAt}
-use Rattle.places.specs.Places.{NoLabel}
-use Rattle.places.proofs.Laws.{held-length}
+use Rattle.places.specs.Places.{InBlock}
+use Rattle.places.proofs.Laws.{Passed, held-length, passed-more, block-found}
 use borrow.Author.Needs.{needs}
 use native.Mathlib.Omega.{arith}
 use Rattle.places.proofs.find_label.Statement.{statement}
 use Rattle.places.proofs.find_label.Tie as tie
 
 abbrev Inv-loop : tie.InvT-loop
-Inv-loop labels count label last i₀ i = NoLabel label labels i
+Inv-loop labels count label last block₀ block = (block ≤ 8) × Passed label labels count (block * 8)
 
 abbrev μ-loop : tie.MeasureT-loop
-μ-loop labels count label last i₀ i = count - i
+μ-loop labels count label last block₀ block = 8 - block
 
 -- a place holds at most 255 bytes
 too-long : (c : tie.Then1 Inv-loop μ-loop) (k : ℕ) → k < c .before .before .before .args .count → sameBytes (c .before .before .before .args .label .now) (labelAt (c .before .before .before .args .labels .now) k) ≡ false
@@ -36,27 +35,32 @@ returns c =
 last-byte-requires : tie.Need-last-byte-requires Inv-loop μ-loop
 last-byte-requires c κs = search needs
 
-pass-labels-requires : tie.Need-pass-labels-requires Inv-loop μ-loop
-pass-labels-requires c κs = let s = c .before .before .before .before in (s .pre .0, s .pre .1, omega arith, c .last-byte .ensures)
-
 loop-holds : tie.Need-loop-holds Inv-loop μ-loop
-loop-holds c = c .pass-labels .ensures
+loop-holds c = (omega arith, λ k h stored. absurd (omega arith))
 
-label-at-requires : tie.Need-label-at-requires Inv-loop μ-loop
-label-at-requires c κs = let s = c .before .before .before .before .before .before .before in (s .pre .0, omega (arith, s .pre .1))
+mul-loop : tie.Need-mul-loop Inv-loop μ-loop
+mul-loop c = omega arith
 
-same-bytes-requires : tie.Need-same-bytes-requires Inv-loop μ-loop
-same-bytes-requires c κs = search needs
+mul-find-in-block : tie.Need-mul-find-in-block Inv-loop μ-loop
+mul-find-in-block c = omega arith
+
+find-in-block-requires : tie.Need-find-in-block-requires Inv-loop μ-loop
+find-in-block-requires c κs = let s = c .before .before .before .before .before .before in (s .pre .0, omega (arith, s .pre .1), s .pre .1, omega arith, c .before .before .last-byte .ensures)
+
+enum-told : tie.Need-enum-told Inv-loop μ-loop
+enum-told c = search needs
+
+enum-told-2 : tie.Need-enum-told-2 Inv-loop μ-loop
+enum-told-2 c = search needs
 
 returns-2 : tie.Need-returns-2 Inv-loop μ-loop
 returns-2 c =
     let l = c .before .before .before .before in
-    let a = l .before .before .before .before .before .before .args in
-    let here : sameBytes (a .label .now) (labelAt (a .labels .now) (l .loop .i)) ≡ true = sym (c .before .same-bytes .ensures ∙ ap (sameBytes (a .label .now)) (c .before .before .label-at .ensures)) ∙ c .if2 .taken in
-    sym (found-at (sameBytes (a .label .now)) (labelAt (a .labels .now)) (a .count) (l .loop .i) (omega arith) (l .loop .inv) here)
+    let a = l .before .before .before .before .before .args in
+    block-found (a .label .now) (a .labels .now) (a .count) (l .loop .block) _ _ (c .enum-told2 .given .1) (l .loop .inv .1) (c .before .before .find-in-block .ensures)
 
-add-i : tie.Need-add-i Inv-loop μ-loop
-add-i c = omega arith
+add-block : tie.Need-add-block Inv-loop μ-loop
+add-block c = omega arith
 
 loop-less : tie.Need-loop-less Inv-loop μ-loop
 loop-less c = omega arith
@@ -64,15 +68,14 @@ loop-less c = omega arith
 loop-again : tie.Need-loop-again Inv-loop μ-loop
 loop-again c =
     let l = c .before .before .before .before in
-    let a = l .before .before .before .before .before .before .args in
-    let here : sameBytes (a .label .now) (labelAt (a .labels .now) (l .loop .i)) ≡ false = sym (c .before .same-bytes .ensures ∙ ap (sameBytes (a .label .now)) (c .before .before .label-at .ensures)) ∙ c .if2 .left in
-    below-more _ _ (l .loop .inv) here
+    let a = l .before .before .before .before .before .args in
+    (omega arith, passed-more (a .label .now) (a .labels .now) (a .count) (l .loop .block) (l .loop .inv .1) (subst (InBlock (a .label .now) (a .labels .now) (l .loop .block * 8) (a .count)) (c .enum-told .given .1) (c .before .before .find-in-block .ensures)))
 
 returns-3 : tie.Need-returns-3 Inv-loop μ-loop
 returns-3 c =
     let l = c .before in
-    let a = l .before .before .before .before .before .before .args in
-    sym (found-none (sameBytes (a .label .now)) (labelAt (a .labels .now)) (a .count) (λ k h. l .loop .inv k (omega arith)))
+    let a = l .before .before .before .before .before .args in
+    sym (found-none (sameBytes (a .label .now)) (labelAt (a .labels .now)) (a .count) (λ k h. l .loop .inv .1 k (omega arith) h))
 
 pub find-label-spec : {M : Type 1} → statement M
 find-label-spec =
@@ -82,12 +85,14 @@ find-label-spec =
     μ-loop
     returns
     last-byte-requires
-    pass-labels-requires
     loop-holds
-    label-at-requires
-    same-bytes-requires
+    mul-loop
+    mul-find-in-block
+    find-in-block-requires
+    enum-told
+    enum-told-2
     returns-2
-    add-i
+    add-block
     loop-less
     loop-again
     returns-3)
