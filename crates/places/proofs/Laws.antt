@@ -1,6 +1,6 @@
 -- Laws of the searches. Assumes nothing.
-use mathlib.Core.Path.{_≡_, refl, sym, ap, _∙_, subst}
-use mathlib.Core.Bool.{Bool, true, false, _&&_, _||_}
+use mathlib.Core.Path.{_≡_, refl, sym, ap, _∙_}
+use mathlib.Core.Bool.{Bool, true, false, not, _||_}
 use mathlib.Core.List.{List, _∷_}
 use Prim.Native.Nat.{ℕ, zero, suc, _+_, _*_, _-_, _<_, _≤_}
 use native.Mathlib.Omega.{arith}
@@ -9,13 +9,10 @@ use borrow.Author.Tests.{eq-eqb, ltb-true, ltb-false}
 use lib.ListN.{length, take, drop, getD, length-drop}
 use lib.Seq.{take-take, getD-take, getD-drop, length-take-le, drop-cons}
 use Rattle.search.specs.Bytes.{sameBytes}
-use Rattle.search.specs.Search.{first, entries}
-use Rattle.search.specs.declared.Found.{Found}
-use Rattle.search.specs.declared.Found.the-variants.{At, Nothing}
-use Rattle.search.proofs.Laws.{no, same-equal, found-at}
+use Rattle.search.proofs.Laws.{no, same-equal}
 use Rattle.store.specs.Table.{isPair}
 use Rattle.store.specs.Layout.{labelAt, ruleAt}
-use Rattle.places.specs.Places.{Unlike, InBlock, NoPair}
+use Rattle.places.specs.Places.{NoPair}
 
 -- ---- a label told by its length and its last byte
 
@@ -44,8 +41,11 @@ module _ (t : List ℕ) (k : ℕ) (size : length t ≡ 16384) (inside : k < 64) 
           ∙ sym (getD-take (getD t (k * 256) 0) (drop (suc (k * 256)) t) m 0 small)
           ∙ sym (ap (λ (x : List ℕ). getD x m 0) (e ∙ held-is))
 
-  -- so a place that differs in one of them holds another label
-  pub unlike : (l : List ℕ) (last : ℕ) → last ≡ getD (0 ∷ l) (length l) 0 → Unlike t k (length l) last → sameBytes l (labelAt t k) ≡ false
+  -- so a label that differs from the place in one of them is not that label
+  pub unlike :
+      (l : List ℕ) (last : ℕ) → last ≡ getD (0 ∷ l) (length l) 0 →
+      (not (eqb (getD t (k * 256 + length l) 0) last) || not (eqb (getD t (k * 256) 0) (length l))) ≡ true →
+      sameBytes l (labelAt t k) ≡ false
   unlike l last is e = by-test (sameBytes l (labelAt t k)) refl
     where
       by-test : (b : Bool) → sameBytes l (labelAt t k) ≡ b → sameBytes l (labelAt t k) ≡ false
@@ -53,41 +53,8 @@ module _ (t : List ℕ) (k : ℕ) (size : length t ≡ 16384) (inside : k < 64) 
           let h = same-length-and-last l (same-equal l (labelAt t k) q) in
           let f : eqb (getD t (k * 256) 0) (length l) ≡ true = eq-eqb _ _ (h .0) in
           let g : eqb (getD t (k * 256 + length l) 0) last ≡ true = eq-eqb _ _ (h .1 ∙ sym is) in
-          absurd (no (sym (rw (g, f) at e)))
+          absurd (no (rw (g, f) at e))
       by-test false q = q
-
--- a block that looks like none holds none
-pub none-alike :
-    (l t : List ℕ) (last from count : ℕ) → length t ≡ 16384 → from ≤ 56 → ((k : ℕ) → getD t k 0 ≤ 255) → last ≡ getD (0 ∷ l) (length l) 0 →
-    ((k : ℕ) → k < 8 → Unlike t (from + k) (length l) last) → InBlock l t from count Nothing
-none-alike l t last from count size few bytes is here k above h stored =
-    let same : from + (k - from) ≡ k = omega arith in
-    unlike t k size (omega arith) (bytes (k * 256)) l last is (ap (λ (j : ℕ). (eqb (getD t (j * 256 + length l) 0) last && eqb (getD t (j * 256) 0) (length l))) (sym same) ∙ here (k - from) (omega arith))
-
--- past one block of 8 places more: of the stored ones none
-abbrev pub Passed : List ℕ → List ℕ → ℕ → ℕ → Type 0
-Passed l t count n = (k : ℕ) → k < n → k < count → sameBytes l (labelAt t k) ≡ false
-
-pub passed-more : (l t : List ℕ) (count b : ℕ) → Passed l t count (b * 8) → InBlock l t (b * 8) count Nothing → Passed l t count ((b + 1) * 8)
-passed-more l t count b before here k h stored = by-test (ltb k (b * 8)) refl
-  where
-    by-test : (c : Bool) → ltb k (b * 8) ≡ c → sameBytes l (labelAt t k) ≡ false
-    by-test true q = before k (ltb-true k (b * 8) q) stored
-    by-test false q = here k (ltb-false k (b * 8) q) (omega arith) stored
-
--- and before the place that a block's search found
-pub passed-upto : (l t : List ℕ) (count b i : ℕ) → Passed l t count (b * 8) → InBlock l t (b * 8) count (At i) → (k : ℕ) → k < i → sameBytes l (labelAt t k) ≡ false
-passed-upto l t count b i before here k h = by-test (ltb k (b * 8)) refl
-  where
-    by-test : (c : Bool) → ltb k (b * 8) ≡ c → sameBytes l (labelAt t k) ≡ false
-    by-test true q = before k (ltb-true k (b * 8) q) (omega (arith, here .0))
-    by-test false q = here .2 k (ltb-false k (b * 8) q) h
-
--- so that place is the label's
-pub block-found : (l t : List ℕ) (count b : ℕ) (r : Found) (i : ℕ) → r ≡ At i → Passed l t count (b * 8) → InBlock l t (b * 8) count r → r ≡ first (sameBytes l) (entries (labelAt t) count)
-block-found l t count b r i e before here =
-    let h = subst (InBlock l t (b * 8) count) e here in
-    e ∙ sym (found-at (sameBytes l) (labelAt t) count i (h .0) (passed-upto l t count b i before h) (h .1))
 
 -- ---- a pair sought in blocks of 32 places
 

@@ -4,13 +4,13 @@ use search::Found;
 ghost use mathlib.Core.Path.{_≡_};
 ghost use mathlib.Core.Bool.{false};
 ghost use mathlib.Core.List.{_∷_};
-ghost use Prim.Native.Nat.{ℕ, _+_, _<_, _≤_};
+ghost use Prim.Native.Nat.{_<_, _≤_};
 ghost use lib.ListN.{length, getD};
 ghost use Rattle.search.specs.Search.{first, entries as listed};
 ghost use Rattle.search.specs.Bytes.{sameBytes};
 ghost use Rattle.store.specs.Table.{isPair};
 ghost use Rattle.store.specs.Layout.{labelAt, ruleAt};
-ghost use Rattle.places.specs.Places.{Unlike, InBlock, NoPair};
+ghost use Rattle.places.specs.Places.{NoPair};
 
 // The very part of the label store that holds label k. Who calls it has tested the store.
 pub fn label_at(labels: &[u8], k: usize) -> &[u8]
@@ -31,45 +31,19 @@ fn last_byte(label: &[u8]) -> u8
     if n == 0 { 0 } else { label[n - 1] }
 }
 
-// Whether one of the 8 places from an index on has a label of length n with this last byte. It reads all of them, stored or not, so that the
-// processor need not guess at each. Its contract speaks of "no" alone: after a "yes" they are looked at one by one. Who calls it has
-// tested the store and the label's length.
-fn block_looks_like(labels: &[u8], from: usize, n: usize, last: u8) -> bool
-    requires { ⌜ (length (now labels) ≡ 16384) × (from ≤ 56) × (n ≤ 255) ⌝ }
-    ensures { λ r. ⌜ (r ≡ false → (k : ℕ) → k < 8 → Unlike (now (labels .entry)) (from + k) n last) ⌝ }
+// Whether place k holds a label, whose last byte is `last`. Few places have that byte there, and fewer also the label's length; only these are
+// compared whole. Who calls it has tested the store and the label's length.
+fn is_label(labels: &[u8], k: usize, label: &[u8], last: u8) -> bool
+    requires { ⌜ (length (now labels) ≡ 16384) × (k < 64) × (length (now label) ≤ 255) × (last ≡ getD (0 ∷ now label) (length (now label)) 0) ⌝ }
+    ensures { λ r. ⌜ r ≡ sameBytes (now (label .entry)) (labelAt (now (labels .entry)) k) ⌝ }
 {
-    let mut any = false;
-    let mut i = 0;
-    while i < 8 {
-        let at = (from + i) * 256;
-        any = any | ((labels[at + n] == last) & (labels[at] as usize == n));
-        i += 1;
+    let n = label.len();
+    let at = k * 256;
+    if (labels[at + n] != last) | (labels[at] as usize != n) {
+        return false;
     }
-    any
-}
-
-// The first of 8 places, from an index on, that holds a label, whose last byte is `last`. Who calls it has tested the store and the label's
-// length.
-fn find_in_block(labels: &[u8], from: usize, count: usize, label: &[u8], last: u8) -> Found
-    requires { ⌜ (length (now labels) ≡ 16384) × (from ≤ 56) × (count ≤ 64) × (length (now label) ≤ 255) × (last ≡ getD (0 ∷ now label) (length (now label)) 0) ⌝ }
-    ensures { λ r. ⌜ InBlock (now (label .entry)) (now (labels .entry)) from count r ⌝ }
-{
-    if !block_looks_like(labels, from, label.len(), last) {
-        return Found::Nothing;
-    }
-    let after = from + 8;
-    let mut i = from;
-    while i < after {
-        if count <= i {
-            return Found::Nothing;
-        }
-        let held = label_at(labels, i);
-        if search::same_bytes(label, held) {
-            return Found::At(i);
-        }
-        i += 1;
-    }
-    Found::Nothing
+    let held = label_at(labels, k);
+    search::same_bytes(label, held)
 }
 
 // The number of a label among the first `count`: the first that has its bytes. Who calls it has tested the store.
@@ -81,13 +55,12 @@ pub fn find_label(labels: &[u8], count: usize, label: &[u8]) -> Found
         return Found::Nothing;
     }
     let last = last_byte(label);
-    let mut block = 0;
-    while block * 8 < count {
-        let found = find_in_block(labels, block * 8, count, label, last);
-        let Found::Nothing = found else {
-            return found;
-        };
-        block += 1;
+    let mut i = 0;
+    while i < count {
+        if is_label(labels, i, label, last) {
+            return Found::At(i);
+        }
+        i += 1;
     }
     Found::Nothing
 }

@@ -1,23 +1,23 @@
--- `places::find_label` meets its contract: no block passed holds the label. Assumes nothing.
+-- `places::find_label` meets its contract: no label passed has the bytes. Assumes nothing.
 use Prim.Native.Nat.{ℕ, _*_, _≤_, _<_, _-_}
-use mathlib.Core.Path.{_≡_, sym, subst}
-use mathlib.Core.Bool.{false}
+use mathlib.Core.Path.{_≡_, sym, _∙_}
+use mathlib.Core.Bool.{true, false}
+use borrow.Author.Count.{below-more}
 use lib.ListN.{getD, length}
 use Rattle.search.specs.Bytes.{sameBytes}
-use Rattle.search.proofs.Laws.{found-none, same-lengths}
+use Rattle.search.proofs.Laws.{found-at, found-none, same-lengths}
 use Rattle.store.specs.Layout.{labelAt}
-use Rattle.places.specs.Places.{InBlock}
-use Rattle.places.proofs.Laws.{Passed, held-length, passed-more, block-found}
+use Rattle.places.proofs.Laws.{held-length}
 use borrow.Author.Needs.{needs}
 use native.Mathlib.Omega.{arith}
 use Rattle.places.proofs.find_label.Statement.{statement}
 use Rattle.places.proofs.find_label.Tie as tie
 
 abbrev Inv-loop : tie.InvT-loop
-Inv-loop labels count label last block₀ block = (block ≤ 8) × Passed label labels count (block * 8)
+Inv-loop labels count label last i₀ i = (i ≤ count) × ((k : ℕ) → k < i → sameBytes label (labelAt labels k) ≡ false)
 
 abbrev μ-loop : tie.MeasureT-loop
-μ-loop labels count label last block₀ block = 8 - block
+μ-loop labels count label last i₀ i = count - i
 
 -- a place holds at most 255 bytes
 too-long : (c : tie.Then1 Inv-loop μ-loop) (k : ℕ) → k < c .before .before .before .args .count → sameBytes (c .before .before .before .args .label .now) (labelAt (c .before .before .before .args .labels .now) k) ≡ false
@@ -36,46 +36,36 @@ last-byte-requires : tie.Need-last-byte-requires Inv-loop μ-loop
 last-byte-requires c κs = search needs
 
 loop-holds : tie.Need-loop-holds Inv-loop μ-loop
-loop-holds c = (omega arith, λ k h stored. absurd (omega arith))
+loop-holds c = (omega arith, λ k h. absurd (omega arith))
 
-mul-loop : tie.Need-mul-loop Inv-loop μ-loop
-mul-loop c = omega arith
-
-mul-find-in-block : tie.Need-mul-find-in-block Inv-loop μ-loop
-mul-find-in-block c = omega arith
-
-find-in-block-requires : tie.Need-find-in-block-requires Inv-loop μ-loop
-find-in-block-requires c κs = let s = c .before .before .before .before .before .before in (s .pre .0, omega (arith, s .pre .1), s .pre .1, omega arith, c .before .before .last-byte .ensures)
-
-enum-told : tie.Need-enum-told Inv-loop μ-loop
-enum-told c = search needs
-
-enum-told-2 : tie.Need-enum-told-2 Inv-loop μ-loop
-enum-told-2 c = search needs
+is-label-requires : tie.Need-is-label-requires Inv-loop μ-loop
+is-label-requires c κs = (c .before .before .before .before .before .before .pre .0, omega arith, omega arith, c .before .before .last-byte .ensures)
 
 returns-2 : tie.Need-returns-2 Inv-loop μ-loop
 returns-2 c =
-    let l = c .before .before .before .before in
+    let l = c .before .before .before in
     let a = l .before .before .before .before .before .args in
-    block-found (a .label .now) (a .labels .now) (a .count) (l .loop .block) _ _ (c .enum-told2 .given .1) (l .loop .inv .1) (c .before .before .find-in-block .ensures)
+    let here : sameBytes (a .label .now) (labelAt (a .labels .now) (l .loop .i)) ≡ true = sym (c .before .is-label .ensures) ∙ c .if2 .taken in
+    sym (found-at (sameBytes (a .label .now)) (labelAt (a .labels .now)) (a .count) (l .loop .i) (omega arith) (l .loop .inv .1) here)
 
-add-block : tie.Need-add-block Inv-loop μ-loop
-add-block c = omega arith
+add-i : tie.Need-add-i Inv-loop μ-loop
+add-i c = omega arith
 
 loop-less : tie.Need-loop-less Inv-loop μ-loop
 loop-less c = omega arith
 
 loop-again : tie.Need-loop-again Inv-loop μ-loop
 loop-again c =
-    let l = c .before .before .before .before in
+    let l = c .before .before .before in
     let a = l .before .before .before .before .before .args in
-    (omega arith, passed-more (a .label .now) (a .labels .now) (a .count) (l .loop .block) (l .loop .inv .1) (subst (InBlock (a .label .now) (a .labels .now) (l .loop .block * 8) (a .count)) (c .enum-told .given .1) (c .before .before .find-in-block .ensures)))
+    let here : sameBytes (a .label .now) (labelAt (a .labels .now) (l .loop .i)) ≡ false = sym (c .before .is-label .ensures) ∙ c .if2 .left in
+    (omega arith, below-more _ _ (l .loop .inv .1) here)
 
 returns-3 : tie.Need-returns-3 Inv-loop μ-loop
 returns-3 c =
     let l = c .before in
     let a = l .before .before .before .before .before .args in
-    sym (found-none (sameBytes (a .label .now)) (labelAt (a .labels .now)) (a .count) (λ k h. l .loop .inv .1 k (omega arith) h))
+    sym (found-none (sameBytes (a .label .now)) (labelAt (a .labels .now)) (a .count) (λ k h. l .loop .inv .1 k (omega arith)))
 
 pub find-label-spec : {M : Type 1} → statement M
 find-label-spec =
@@ -86,13 +76,9 @@ find-label-spec =
     returns
     last-byte-requires
     loop-holds
-    mul-loop
-    mul-find-in-block
-    find-in-block-requires
-    enum-told
-    enum-told-2
+    is-label-requires
     returns-2
-    add-block
+    add-i
     loop-less
     loop-again
     returns-3)
