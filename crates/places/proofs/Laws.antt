@@ -1,6 +1,6 @@
 -- Laws of the searches. Assumes nothing.
 use mathlib.Core.Path.{_≡_, refl, sym, ap, _∙_}
-use mathlib.Core.Bool.{Bool, true, false, not, _||_}
+use mathlib.Core.Bool.{Bool, true, false, _&&_, _||_}
 use mathlib.Core.List.{List, _∷_}
 use Prim.Native.Nat.{ℕ, zero, suc, _+_, _*_, _-_, _<_, _≤_}
 use native.Mathlib.Omega.{arith}
@@ -12,7 +12,7 @@ use Rattle.search.specs.Bytes.{sameBytes}
 use Rattle.search.proofs.Laws.{no, same-equal}
 use Rattle.store.specs.Table.{isPair}
 use Rattle.store.specs.Layout.{labelAt, ruleAt}
-use Rattle.places.specs.Places.{NoPair}
+use Rattle.places.specs.Places.{Unlike, NoPair}
 
 -- ---- a label told by its length and its last byte
 
@@ -41,11 +41,8 @@ module _ (t : List ℕ) (k : ℕ) (size : length t ≡ 16384) (inside : k < 64) 
           ∙ sym (getD-take (getD t (k * 256) 0) (drop (suc (k * 256)) t) m 0 small)
           ∙ sym (ap (λ (x : List ℕ). getD x m 0) (e ∙ held-is))
 
-  -- so a label that differs from the place in one of them is not that label
-  pub unlike :
-      (l : List ℕ) (last : ℕ) → last ≡ getD (0 ∷ l) (length l) 0 →
-      (not (eqb (getD t (k * 256 + length l) 0) last) || not (eqb (getD t (k * 256) 0) (length l))) ≡ true →
-      sameBytes l (labelAt t k) ≡ false
+  -- so a place that differs in one of them holds another label
+  pub unlike : (l : List ℕ) (last : ℕ) → last ≡ getD (0 ∷ l) (length l) 0 → Unlike t k (length l) last → sameBytes l (labelAt t k) ≡ false
   unlike l last is e = by-test (sameBytes l (labelAt t k)) refl
     where
       by-test : (b : Bool) → sameBytes l (labelAt t k) ≡ b → sameBytes l (labelAt t k) ≡ false
@@ -53,8 +50,19 @@ module _ (t : List ℕ) (k : ℕ) (size : length t ≡ 16384) (inside : k < 64) 
           let h = same-length-and-last l (same-equal l (labelAt t k) q) in
           let f : eqb (getD t (k * 256) 0) (length l) ≡ true = eq-eqb _ _ (h .0) in
           let g : eqb (getD t (k * 256 + length l) 0) last ≡ true = eq-eqb _ _ (h .1 ∙ sym is) in
-          absurd (no (rw (g, f) at e))
+          absurd (no (sym (rw (g, f) at e)))
       by-test false q = q
+
+-- no place up to the next that is like a label, of the stored ones, holds it
+pub none-before :
+    (l t : List ℕ) (last count i j : ℕ) → length t ≡ 16384 → count ≤ 64 → ((k : ℕ) → getD t k 0 ≤ 255) → last ≡ getD (0 ∷ l) (length l) 0 →
+    ((k : ℕ) → k < i → sameBytes l (labelAt t k) ≡ false) → ((k : ℕ) → i ≤ k → k < j → Unlike t k (length l) last) →
+    (k : ℕ) → k < j → k < count → sameBytes l (labelAt t k) ≡ false
+none-before l t last count i j size few bytes is before here k h stored = by-test (ltb k i) refl
+  where
+    by-test : (c : Bool) → ltb k i ≡ c → sameBytes l (labelAt t k) ≡ false
+    by-test true q = before k (ltb-true k i q)
+    by-test false q = unlike t k size (omega arith) (bytes (k * 256)) l last is (here k (ltb-false k i q) h)
 
 -- ---- a pair sought in blocks of 32 places
 

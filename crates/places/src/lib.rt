@@ -4,13 +4,13 @@ use search::Found;
 ghost use mathlib.Core.Path.{_≡_};
 ghost use mathlib.Core.Bool.{false};
 ghost use mathlib.Core.List.{_∷_};
-ghost use Prim.Native.Nat.{_<_, _≤_};
+ghost use Prim.Native.Nat.{ℕ, _<_, _≤_};
 ghost use lib.ListN.{length, getD};
 ghost use Rattle.search.specs.Search.{first, entries as listed};
 ghost use Rattle.search.specs.Bytes.{sameBytes};
 ghost use Rattle.store.specs.Table.{isPair};
 ghost use Rattle.store.specs.Layout.{labelAt, ruleAt};
-ghost use Rattle.places.specs.Places.{NoPair};
+ghost use Rattle.places.specs.Places.{Unlike, NoPair};
 
 // The very part of the label store that holds label k. Who calls it has tested the store.
 pub fn label_at(labels: &[u8], k: usize) -> &[u8]
@@ -31,19 +31,21 @@ fn last_byte(label: &[u8]) -> u8
     if n == 0 { 0 } else { label[n - 1] }
 }
 
-// Whether place k holds a label, whose last byte is `last`. Few places have that byte there, and fewer also the label's length; only these are
-// compared whole. Who calls it has tested the store and the label's length.
-fn is_label(labels: &[u8], k: usize, label: &[u8], last: u8) -> bool
-    requires { ⌜ (length (now labels) ≡ 16384) × (k < 64) × (length (now label) ≤ 255) × (last ≡ getD (0 ∷ now label) (length (now label)) 0) ⌝ }
-    ensures { λ r. ⌜ r ≡ sameBytes (now (label .entry)) (labelAt (now (labels .entry)) k) ⌝ }
+// The next place from an index on, of the first `count`, that has a label of length n with this last byte, or one past them. Few places have that
+// byte there, and fewer also that length. Who calls it has tested the store and the length.
+fn next_like(labels: &[u8], from: usize, count: usize, n: usize, last: u8) -> usize
+    requires { ⌜ (length (now labels) ≡ 16384) × (count ≤ 64) × (n ≤ 255) ⌝ }
+    ensures { λ r. ⌜ (from ≤ r) × ((k : ℕ) → from ≤ k → k < r → Unlike (now (labels .entry)) k n last) ⌝ }
 {
-    let n = label.len();
-    let at = k * 256;
-    if (labels[at + n] != last) | (labels[at] as usize != n) {
-        return false;
+    let mut i = from;
+    while i < count {
+        let at = i * 256;
+        if (labels[at + n] == last) & (labels[at] as usize == n) {
+            return i;
+        }
+        i += 1;
     }
-    let held = label_at(labels, k);
-    search::same_bytes(label, held)
+    i
 }
 
 // The number of a label among the first `count`: the first that has its bytes. Who calls it has tested the store.
@@ -51,16 +53,22 @@ pub fn find_label(labels: &[u8], count: usize, label: &[u8]) -> Found
     requires { ⌜ (length (now labels) ≡ 16384) × (count ≤ 64) ⌝ }
     ensures { λ r. ⌜ r ≡ first (sameBytes (now (label .entry))) (listed (labelAt (now (labels .entry))) count) ⌝ }
 {
-    if 255 < label.len() {
+    let n = label.len();
+    if 255 < n {
         return Found::Nothing;
     }
     let last = last_byte(label);
     let mut i = 0;
     while i < count {
-        if is_label(labels, i, label, last) {
-            return Found::At(i);
+        let k = next_like(labels, i, count, n, last);
+        if count <= k {
+            return Found::Nothing;
         }
-        i += 1;
+        let held = label_at(labels, k);
+        if search::same_bytes(label, held) {
+            return Found::At(k);
+        }
+        i = k + 1;
     }
     Found::Nothing
 }

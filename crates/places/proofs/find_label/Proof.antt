@@ -1,23 +1,23 @@
--- `places::find_label` meets its contract: no label passed has the bytes. Assumes nothing.
+-- `places::find_label` meets its contract: no place passed holds the label. Assumes nothing.
 use Prim.Native.Nat.{ℕ, _*_, _≤_, _<_, _-_}
-use mathlib.Core.Path.{_≡_, sym, _∙_}
+use mathlib.Core.Path.{_≡_, sym, ap, _∙_}
 use mathlib.Core.Bool.{true, false}
 use borrow.Author.Count.{below-more}
 use lib.ListN.{getD, length}
 use Rattle.search.specs.Bytes.{sameBytes}
 use Rattle.search.proofs.Laws.{found-at, found-none, same-lengths}
 use Rattle.store.specs.Layout.{labelAt}
-use Rattle.places.proofs.Laws.{held-length}
+use Rattle.places.proofs.Laws.{held-length, none-before}
 use borrow.Author.Needs.{needs}
 use native.Mathlib.Omega.{arith}
 use Rattle.places.proofs.find_label.Statement.{statement}
 use Rattle.places.proofs.find_label.Tie as tie
 
 abbrev Inv-loop : tie.InvT-loop
-Inv-loop labels count label last i₀ i = (i ≤ count) × ((k : ℕ) → k < i → sameBytes label (labelAt labels k) ≡ false)
+Inv-loop labels count label n last i₀ i = (k : ℕ) → k < i → sameBytes label (labelAt labels k) ≡ false
 
 abbrev μ-loop : tie.MeasureT-loop
-μ-loop labels count label last i₀ i = count - i
+μ-loop labels count label n last i₀ i = count - i
 
 -- a place holds at most 255 bytes
 too-long : (c : tie.Then1 Inv-loop μ-loop) (k : ℕ) → k < c .before .before .before .args .count → sameBytes (c .before .before .before .args .label .now) (labelAt (c .before .before .before .args .labels .now) k) ≡ false
@@ -36,36 +36,57 @@ last-byte-requires : tie.Need-last-byte-requires Inv-loop μ-loop
 last-byte-requires c κs = search needs
 
 loop-holds : tie.Need-loop-holds Inv-loop μ-loop
-loop-holds c = (omega arith, λ k h. absurd (omega arith))
+loop-holds c = λ k h. absurd (omega arith)
 
-is-label-requires : tie.Need-is-label-requires Inv-loop μ-loop
-is-label-requires c κs = (c .before .before .before .before .before .before .pre .0, omega arith, omega arith, c .before .before .last-byte .ensures)
+next-like-requires : tie.Need-next-like-requires Inv-loop μ-loop
+next-like-requires c κs = let s = c .before .before .before .before .before .before in (s .pre .0, s .pre .1, omega arith)
+
+-- no stored place before the one that `next_like` answered holds the label
+passed : (c : tie.After-next-like Inv-loop μ-loop) (k : ℕ) → k < c .next-like .result → k < c .before .before .before .before .before .before .before .args .count → sameBytes (c .before .before .before .before .before .before .before .args .label .now) (labelAt (c .before .before .before .before .before .before .before .args .labels .now) k) ≡ false
+passed c =
+    let l = c .before .before in
+    let s = l .before .before .before .before .before in
+    let bytes : (k : ℕ) → getD (s .args .labels .now) k 0 ≤ 255 = λ k. omega (arith, l .before .before .before .before .shared-slice-known .given k) in
+    none-before (s .args .label .now) (s .args .labels .now) (l .before .last-byte .result) (s .args .count) (l .loop .i) (c .next-like .result) (s .pre .0) (s .pre .1) bytes (l .before .last-byte .ensures) (l .loop .inv) (c .next-like .ensures .1)
 
 returns-2 : tie.Need-returns-2 Inv-loop μ-loop
 returns-2 c =
-    let l = c .before .before .before in
-    let a = l .before .before .before .before .before .args in
-    let here : sameBytes (a .label .now) (labelAt (a .labels .now) (l .loop .i)) ≡ true = sym (c .before .is-label .ensures) ∙ c .if2 .taken in
-    sym (found-at (sameBytes (a .label .now)) (labelAt (a .labels .now)) (a .count) (l .loop .i) (omega arith) (l .loop .inv .1) here)
+    let a = c .before .before .before .before .before .before .before .before .args in
+    sym (found-none (sameBytes (a .label .now)) (labelAt (a .labels .now)) (a .count) (λ k h. passed (c .before) k (omega (arith, c .if2 .taken)) h))
 
-add-i : tie.Need-add-i Inv-loop μ-loop
-add-i c = omega arith
+label-at-requires : tie.Need-label-at-requires Inv-loop μ-loop
+label-at-requires c κs = let s = c .before .before .before .before .before .before .before .before in (s .pre .0, omega (arith, s .pre .1, c .if2 .left))
 
-loop-less : tie.Need-loop-less Inv-loop μ-loop
-loop-less c = omega arith
-
-loop-again : tie.Need-loop-again Inv-loop μ-loop
-loop-again c =
-    let l = c .before .before .before in
-    let a = l .before .before .before .before .before .args in
-    let here : sameBytes (a .label .now) (labelAt (a .labels .now) (l .loop .i)) ≡ false = sym (c .before .is-label .ensures) ∙ c .if2 .left in
-    (omega arith, below-more _ _ (l .loop .inv .1) here)
+same-bytes-requires : tie.Need-same-bytes-requires Inv-loop μ-loop
+same-bytes-requires c κs = search needs
 
 returns-3 : tie.Need-returns-3 Inv-loop μ-loop
 returns-3 c =
+    let n = c .before .before .before .before in
+    let a = n .before .before .before .before .before .before .before .args in
+    let stored : n .next-like .result < a .count = omega (arith, c .before .before .before .if2 .left) in
+    let here : sameBytes (a .label .now) (labelAt (a .labels .now) (n .next-like .result)) ≡ true = sym (c .before .same-bytes .ensures ∙ ap (sameBytes (a .label .now)) (c .before .before .label-at .ensures)) ∙ c .if3 .taken in
+    sym (found-at (sameBytes (a .label .now)) (labelAt (a .labels .now)) (a .count) (n .next-like .result) stored (λ k h. passed n k h (omega (arith, stored, h))) here)
+
+add-i : tie.Need-add-i Inv-loop μ-loop
+add-i c = omega (arith, c .before .before .before .if2 .left)
+
+loop-less : tie.Need-loop-less Inv-loop μ-loop
+loop-less c = omega (arith, c .before .before .before .before .next-like .ensures .0)
+
+loop-again : tie.Need-loop-again Inv-loop μ-loop
+loop-again c =
+    let n = c .before .before .before .before in
+    let a = n .before .before .before .before .before .before .before .args in
+    let stored : n .next-like .result < a .count = omega (arith, c .before .before .before .if2 .left) in
+    let here : sameBytes (a .label .now) (labelAt (a .labels .now) (n .next-like .result)) ≡ false = sym (c .before .same-bytes .ensures ∙ ap (sameBytes (a .label .now)) (c .before .before .label-at .ensures)) ∙ c .if3 .left in
+    below-more _ _ (λ k h. passed n k h (omega (arith, stored, h))) here
+
+returns-4 : tie.Need-returns-4 Inv-loop μ-loop
+returns-4 c =
     let l = c .before in
     let a = l .before .before .before .before .before .args in
-    sym (found-none (sameBytes (a .label .now)) (labelAt (a .labels .now)) (a .count) (λ k h. l .loop .inv .1 k (omega arith)))
+    sym (found-none (sameBytes (a .label .now)) (labelAt (a .labels .now)) (a .count) (λ k h. l .loop .inv k (omega arith)))
 
 pub find-label-spec : {M : Type 1} → statement M
 find-label-spec =
@@ -76,9 +97,12 @@ find-label-spec =
     returns
     last-byte-requires
     loop-holds
-    is-label-requires
+    next-like-requires
     returns-2
+    label-at-requires
+    same-bytes-requires
+    returns-3
     add-i
     loop-less
     loop-again
-    returns-3)
+    returns-4)
