@@ -10,6 +10,7 @@ ghost use Rattle.lists.specs.Reader.{Call, Reply, events, reports};
 ghost use Rattle.lists.proofs.Trace.{Fresh, Runs};
 ghost use Rattle.lists.proofs.Undivided.{PlainReaders, refusal-of};
 ghost use Rattle.claims.specs.Cases.{right, cases};
+ghost use Rattle.claims.specs.Listed.{FromTheList};
 ghost use Rattle.claims.specs.Refusals.{NothingChanges};
 ghost use Rattle.claims.specs.Tables.{TablesFollow};
 
@@ -17,6 +18,12 @@ ghost use Rattle.claims.specs.Tables.{TablesFollow};
 // refusal leaves the tables, the loader and every lent buffer holding what they held before.
 pub fn demand_1()
     ensures { λ _. ⌜ NothingChanges ⌝ }
+{}
+
+// Demand 1, that bad input is refused by a number from the list: a refusal of a call, or of a line of rule text, has one of the numbers that 01
+// gives for it.
+pub fn refusals_are_listed()
+    ensures { λ _. ⌜ FromTheList ⌝ }
 {}
 
 // What each write leaves in the lent slices is what 01 says it does to the tables, and an undamaged state stays undamaged.

@@ -1,0 +1,55 @@
+-- Demand 1, its first half: bad input is refused by a number from the list. 01, The refusal numbers, with the calls in its order: a refusal of
+-- a call has one of these numbers, which stand in the order in which 01 gives them, 0 before every other. Assumes nothing.
+use Prim.Native.Nat.{ℕ}
+use mathlib.Core.Path.{_≡_}
+use mathlib.Core.Bool.{Bool, true, false, _||_}
+use mathlib.Core.List.{List, [], _∷_}
+use lib.Dec.{eqb}
+use Rattle.store.specs.declared.Done.the-variants as d
+use Rattle.store.specs.Layout.{Store, freshAnswer}
+use Rattle.load.specs.Loader.{Load, pieceAnswer, endAnswer}
+use Rattle.load.specs.declared.Fed.the-variants as f
+use Rattle.load.specs.declared.Ended.the-variants as e
+use Rattle.writes.specs.Writes.{lineVerdict, changeAnswer}
+use Rattle.writes.specs.declared.Verdict.the-variants as v
+use Rattle.revoke.specs.Revoke.{revokeAnswer}
+use Rattle.revoke.specs.declared.Revoked.the-variants as r
+use Rattle.onlycap.specs.Onlycap.{onlycapAnswer}
+use Rattle.cipso.specs.Cipso.{mapAnswer}
+use Rattle.lookups.specs.Lookups.{byLabelOf, byLevelOf}
+use Rattle.lookups.specs.declared.Lookup.the-variants as lookup
+use Rattle.lookups.specs.declared.Label.the-variants as label
+use Rattle.lookups.specs.declared.Record.{Record}
+use Rattle.run.specs.Run.{runOf}
+use Rattle.access.specs.Access.{questionOf}
+use Rattle.access.specs.declared.Answer.the-variants as a
+use Rattle.listing.specs.Listing.{listAnswer, labelAnswer}
+use Rattle.listing.specs.declared.Listed.the-variants as l
+
+-- n is one of the numbers ns
+unfoldable pub isAmong : ℕ → List ℕ → Bool
+isAmong n [] = false
+isAmong n (m ∷ ms) = eqb n m || isAmong n ms
+
+abbrev pub Among : ℕ → List ℕ → Type 0
+Among n ns = isAmong n ns ≡ true
+
+-- a fresh table, a piece and the end call have 0 alone; a line of rule text has no answer of its own, and its number stands in the report; a run
+-- is no part of the state, and never gets 0
+pub record FromTheList : Type 0 where
+  pub fresh-table : (st : Store) (n : ℕ) → freshAnswer st ≡ d.Refused n → Among n (0 ∷ [])
+  pub piece : (s : Load) (text : List ℕ) (n : ℕ) → pieceAnswer s text ≡ f.Refused n → Among n (0 ∷ [])
+  pub end-call : (s : Load) (n : ℕ) → endAnswer s ≡ e.Refused n → Among n (0 ∷ [])
+  pub line : (st : Store) (text : List ℕ) (n : ℕ) → lineVerdict st text ≡ v.Refused n → Among n (1 ∷ 2 ∷ 3 ∷ 4 ∷ 5 ∷ 6 ∷ 7 ∷ [])
+  pub change : (st : Store) (text : List ℕ) (n : ℕ) → changeAnswer st text ≡ d.Refused n → Among n (0 ∷ 1 ∷ 2 ∷ 3 ∷ 4 ∷ 5 ∷ 6 ∷ 7 ∷ [])
+  pub revoke : (st : Store) (label : List ℕ) (n : ℕ) → revokeAnswer st label ≡ r.Refused n → Among n (0 ∷ 1 ∷ 3 ∷ [])
+  pub onlycap : (st : Store) (text : List ℕ) (n : ℕ) → onlycapAnswer st text ≡ d.Refused n → Among n (0 ∷ 1 ∷ 2 ∷ 3 ∷ 11 ∷ 6 ∷ [])
+  pub mapping : (st : Store) (text : List ℕ) (n : ℕ) → mapAnswer st text ≡ d.Refused n → Among n (0 ∷ 1 ∷ 2 ∷ 3 ∷ 9 ∷ 6 ∷ 10 ∷ [])
+  pub mapping-by-label : (st : Store) (label : List ℕ) (n : ℕ) → byLabelOf st label ≡ lookup.Refused n → Among n (0 ∷ 3 ∷ [])
+  pub by-level-and-set : (st : Store) (level set n : ℕ) → byLevelOf st level set ≡ label.Refused n → Among n (0 ∷ 9 ∷ [])
+  pub in-a-run : (run : List Record) (level set n : ℕ) → runOf run level set ≡ label.Refused n → Among n (9 ∷ [])
+  pub question :
+      (st : Store) (subject object request : List ℕ) (capable : Bool) (n : ℕ) →
+      questionOf st subject object request capable ≡ a.Refused n → Among n (0 ∷ 3 ∷ 8 ∷ [])
+  pub listing : (st : Store) (k : ℕ) (out : List ℕ) (n : ℕ) → listAnswer st k out ≡ l.Refused n → Among n (0 ∷ 13 ∷ 12 ∷ [])
+  pub label-by-number : (st : Store) (k n : ℕ) → labelAnswer st k ≡ d.Refused n → Among n (0 ∷ 13 ∷ [])
