@@ -26,7 +26,8 @@ use Rattle.lists.specs.Reader.{Counts, Reader, startOn, endLine, takeByte, take
 use Rattle.lists.proofs.Follows.{Holds}
 use Rattle.lists.proofs.Trace.{end-reply}
 use Rattle.lists.proofs.Undivided.{piece-law, end-law, question-law}
-use Rattle.session.specs.Program.{isMark, asked, answerTo, answerLine, reportLine}
+use Rattle.replies.specs.Replies.{asked, answerTo, answerLine}
+use Rattle.session.specs.Program.{isMark, reportLine}
 use Rattle.session.specs.Session.{State, keptLine, lineLoaded, textEnded, endedText, lineAfter, lineSays, keepByte}
 
 -- ---- what is still to be read: rule text, by a plain reader, or questions, of a table

@@ -1,180 +1,29 @@
--- Laws of what is written: bytes put one behind the other, decimal numbers, and the parts of a session's state. Assumes nothing.
-use mathlib.Core.Path.{_≡_, refl, sym, ap, _∙_, subst}
+-- Laws of a session's state: its parts, a line that ends, a run of bytes, a piece line by line, and the two calls. Assumes nothing.
+use mathlib.Core.Path.{_≡_, refl, sym, ap, _∙_}
 use mathlib.Core.Bool.{Bool, true, false, cond, _&&_}
 use mathlib.Core.List.{List, [], _∷_, _++_, append-assoc, append-nil, foldl-append}
-use Prim.Native.Nat.{ℕ, zero, suc, _+_, _-_, _*_, _/_, _%_, _<_, _≤_}
+use Prim.Native.Nat.{ℕ, suc, _+_, _-_, _*_, _<_, _≤_}
 use native.Mathlib.Numerals.{add-one}
 use native.Mathlib.Omega.{arith}
 use lib.Dec.{ltb, leb, eqb}
-use borrow.Author.Tests.{lt-ltb, le-ltb, ltb-true, ltb-false, eq-eqb, ne-eqb, eqb-true, leb-true, le-leb, lt-leb}
-use lib.ListN.{length, take, drop, set, length-append, length-set, take-append-drop}
-use lib.Seq.{take-at, drop-append-add, drop-drop, set-split, sets, take-suc-set, length-take-le}
-use Rattle.search.specs.Bytes.{written, sameBytes}
-use Rattle.search.proofs.Laws.{length-written, and-both}
-use Rattle.alphabet.specs.Alphabet.{fields, fieldAt, part}
-use Rattle.alphabet.specs.declared.Field.the-variants.{Part, End}
-use Rattle.alphabet.proofs.Laws.{field-some, field-none}
-use Rattle.lines.proofs.Answers.{One, Two, Three, Four}
-use Rattle.access.specs.Access.{shown}
-use Rattle.access.specs.declared.Shown.{Shown}
-use Rattle.access.specs.declared.Answer.{Answer}
-use Rattle.access.specs.declared.Answer.the-variants.{Refused}
+use borrow.Author.Tests.{lt-ltb, le-ltb, ltb-true, eq-eqb, ne-eqb, eqb-true, leb-true, le-leb, lt-leb}
+use lib.ListN.{length, take, drop, set, length-set, take-append-drop}
+use lib.Seq.{sets, take-suc-set, length-take-le}
+use Rattle.search.specs.Bytes.{written}
+use Rattle.search.proofs.Laws.{and-both}
 use Rattle.store.specs.Layout.{Store}
+use Rattle.access.specs.Access.{questionOf}
+use Rattle.access.specs.declared.Answer.{Answer}
 use Rattle.load.specs.declared.Loader.{Loader}
 use Rattle.load.specs.Loader.{Load, load, ready, pieceAfter, endAfter, endAnswer, beforeNewline}
-use Rattle.load.proofs.Laws.{NoNewline, run-first, run-rest, run-take, run-drop, run-between, run-last, line-taken, set-written}
+use Rattle.load.proofs.Laws.{NoNewline, run-first, run-rest, run-take, run-drop, run-between, run-last, line-taken, end-behind, set-written}
+use Rattle.replies.specs.Replies.{answerTo, answerLine}
+use Rattle.replies.specs.Put.{Put}
+use Rattle.replies.proofs.Laws.{written-none, put-none, put-length, put-said, put-next}
 use Rattle.session.specs.declared.Session.{Session}
 use Rattle.session.specs.declared.Turn.the-variants as t
-use Rattle.session.specs.Program.{digits, decimal, wordOf, endingOf, answerLine, asked, answerTo, isMark}
-use Rattle.session.specs.Session.{State, state, keptLine, lineLoaded, textEnded, endedText, closeAfter, closeSays, lineAsked, askedText, lineAfter, lineSays, keepByte, stepByte, sayByte, stepInput, sayInput, readyAll, sessionOf, lastAfter, lastSays, feedTest, feedSays, feedAfter, feedAnswer, finishTest, finishSays, finishAfter, finishAnswer, Front, Put}
-
--- ---- bytes put one behind the other
-
-written-twice :
-    (d : List ℕ) (at : ℕ) (s t : List ℕ) →
-    at + length s ≤ length d →
-    written (written d at s) (at + length s) t ≡ written d at (s ++ t)
-unfolding written
-written-twice d at s t h =
-    let n = at + length s in
-    let front : length (take at d ++ s) ≡ n = length-append (take at d) s ∙ ap (λ (k : ℕ). k + length s) (length-take-le at d (omega arith)) in
-    let joined : take at d ++ (s ++ drop n d) ≡ (take at d ++ s) ++ drop n d = sym (append-assoc (take at d) s (drop n d)) in
-    let size : at + length (s ++ t) ≡ n + length t = omega (arith, length-append s t) in
-    ap (λ (l : List ℕ). take n l ++ (t ++ drop (n + length t) l)) joined
-    ∙ ap (λ (l : List ℕ). l ++ (t ++ drop (n + length t) ((take at d ++ s) ++ drop n d))) (take-at (take at d ++ s) (drop n d) n front)
-    ∙ ap (λ (k : ℕ). (take at d ++ s) ++ (t ++ drop (k + length t) ((take at d ++ s) ++ drop n d))) (sym front)
-    ∙ ap (λ (l : List ℕ). (take at d ++ s) ++ (t ++ l)) (drop-append-add (take at d ++ s) (drop n d) (length t) ∙ drop-drop (length t) n d)
-    ∙ append-assoc (take at d) s (t ++ drop (n + length t) d)
-    ∙ ap (λ (l : List ℕ). take at d ++ l) (sym (append-assoc s t (drop (n + length t) d)))
-    ∙ ap (λ (k : ℕ). take at d ++ ((s ++ t) ++ drop k d)) (sym size)
-
-written-none : (d : List ℕ) (at : ℕ) → written d at [] ≡ d
-unfolding written
-written-none d at = ap (λ (k : ℕ). take at d ++ drop k d) zero-more ∙ take-append-drop at d
-  where
-    zero-more : at + 0 ≡ at
-    zero-more = omega arith
-
-one-byte : (d : List ℕ) (at b : ℕ) → at < length d → set d at b ≡ written d at (b ∷ [])
-unfolding written
-one-byte d at b h = set-split d at b h ∙ ap (λ (k : ℕ). take at d ++ (b ∷ drop k d)) (sym (add-one at))
-
-pub put-none : (most : ℕ) (d : List ℕ) (at : ℕ) → Put most d at [] d at
-put-none most d at = record { bytes = sym (written-none d at); ends = omega arith; short = omega arith }
-
-pub put-all : (most : ℕ) (d : List ℕ) (at : ℕ) (s : List ℕ) {e : List ℕ} → e ≡ written d at s → length s ≤ most → Put most d at s e (at + length s)
-put-all most d at s e h = record { bytes = e; ends = refl; short = h }
-
-pub put-then :
-    {m k : ℕ} {d e f s t : List ℕ} {at x y : ℕ} (most : ℕ) →
-    Put m d at s e x →
-    Put k e x t f y →
-    at + length s ≤ length d →
-    m + k ≤ most →
-    Put most d at (s ++ t) f y
-put-then {d = d} {s = s} {t = t} {at = at} {x = x} most p q h room =
-    record {
-      bytes =
-          q .bytes
-          ∙ ap (λ (l : List ℕ). written l x t) (p .bytes)
-          ∙ ap (λ (i : ℕ). written (written d at s) i t) (p .ends)
-          ∙ written-twice d at s t h;
-      ends = omega (arith, q .ends, p .ends, length-append s t);
-      short = omega (arith, p .short, q .short, length-append s t);
-    }
-
-pub put-first : (d : List ℕ) (at b : ℕ) → at < length d → Put 1 d at (b ∷ []) (set d at b) (at + 1)
-put-first d at b h = record { bytes = one-byte d at b h; ends = refl; short = omega arith }
-
-pub put-byte :
-    {m : ℕ} {d e s : List ℕ} {at x : ℕ} (most b : ℕ) →
-    Put m d at s e x →
-    x < length e →
-    at + length s ≤ length d →
-    m + 1 ≤ most →
-    Put most d at (s ++ (b ∷ [])) (set e x b) (x + 1)
-put-byte {e = e} {x = x} most b p h room more = put-then most p (put-first e x b h) room more
-
--- what was put, said otherwise, or with a larger limit
-pub put-said : {m : ℕ} {d e s t : List ℕ} {at x : ℕ} (most : ℕ) → Put m d at s e x → s ≡ t → m ≤ most → Put most d at t e x
-put-said {d = d} {e = e} {at = at} {x = x} most p q h = subst (λ (l : List ℕ). Put most d at l e x) q (record { bytes = p .bytes; ends = p .ends; short = omega (arith, p .short) })
-
-pub put-short : {m : ℕ} {d e s : List ℕ} {at x : ℕ} (most : ℕ) → Put m d at s e x → length s ≤ most → Put most d at s e x
-put-short most p h = record { bytes = p .bytes; ends = p .ends; short = h }
-
-pub put-length : {m : ℕ} {d e s : List ℕ} {at x : ℕ} → Put m d at s e x → at + length s ≤ length d → length e ≡ length d
-put-length {d = d} {s = s} {at = at} p h = ap length (p .bytes) ∙ length-written d at s h
-
--- the same, with the room that the limits ask for
-pub put-next :
-    {m k : ℕ} {d e f s t : List ℕ} {at x y : ℕ} (most : ℕ) →
-    Put m d at s e x →
-    Put k e x t f y →
-    at + m ≤ length d →
-    m + k ≤ most →
-    Put most d at (s ++ t) f y
-put-next most p q h room = put-then most p q (omega (arith, p .short)) room
-
-pub put-left : {m : ℕ} {d e s : List ℕ} {at x : ℕ} → Put m d at s e x → (n : ℕ) → at + m + n ≤ length d → x + n ≤ length e
-put-left p n h = let z = put-length p (omega (arith, p .short)) in omega (arith, p .short, p .ends)
-
--- ---- decimal numbers
-
-enough : (k m n : ℕ) → n < k → n < m → digits k n ≡ digits m n
-enough zero m n h i = absurd (omega arith)
-enough (suc k) zero n h i = absurd (omega arith)
-enough (suc k) (suc m) n h i = by-test (ltb n 10) refl (λ less more. enough k m (n / 10) less more)
-  where
-    by-test :
-        (t : Bool) →
-        ltb n 10 ≡ t →
-        (n / 10 < k → n / 10 < m → digits k (n / 10) ≡ digits m (n / 10)) →
-        cond t ((48 + n) ∷ []) (digits k (n / 10) ++ ((48 + n % 10) ∷ [])) ≡ cond t ((48 + n) ∷ []) (digits m (n / 10) ++ ((48 + n % 10) ∷ []))
-    by-test true e rest = refl
-    by-test false e rest =
-        let z = ltb-false n 10 e in
-        ap (λ (l : List ℕ). l ++ ((48 + n % 10) ∷ [])) (rest (omega arith) (omega arith))
-
-pub decimal-one : (n : ℕ) → n < 10 → decimal n ≡ (48 + n) ∷ []
-unfolding decimal
-decimal-one n h = rw (lt-ltb n 10 h)
-
-pub decimal-more : (n : ℕ) → 10 ≤ n → decimal n ≡ decimal (n / 10) ++ ((48 + n % 10) ∷ [])
-unfolding decimal
-decimal-more n h = rw (le-ltb n 10 h) (ap (λ (l : List ℕ). l ++ ((48 + n % 10) ∷ [])) (enough n (suc (n / 10)) (n / 10) (omega arith) (omega arith)))
-
-pub decimal-size : (n : ℕ) → 10 ≤ n → length (decimal n) ≡ length (decimal (n / 10)) + 1
-decimal-size n h = ap length (decimal-more n h) ∙ length-append (decimal (n / 10)) ((48 + n % 10) ∷ [])
-
-pub decimal-some : (n : ℕ) → 1 ≤ length (decimal n)
-decimal-some n = by-test (ltb n 10) refl
-  where
-    by-test : (t : Bool) → ltb n 10 ≡ t → 1 ≤ length (decimal n)
-    by-test true e = let z = ltb-true n 10 e in omega (arith, ap length (decimal-one n z))
-    by-test false e = let z = ltb-false n 10 e in omega (arith, decimal-size n z)
-
-one-digit : (n : ℕ) → n < 10 → length (decimal n) ≤ 1
-one-digit n h = omega (arith, ap length (decimal-one n h))
-
-one-more-digit : (m k : ℕ) → 1 ≤ k → ((n : ℕ) → n < m → length (decimal n) ≤ k) → (n : ℕ) → n < 10 * m → length (decimal n) ≤ k + 1
-one-more-digit m k o short n h = by-test (ltb n 10) refl
-  where
-    by-test : (t : Bool) → ltb n 10 ≡ t → length (decimal n) ≤ k + 1
-    by-test true e = let z = ltb-true n 10 e in omega (arith, one-digit n z)
-    by-test false e = let z = ltb-false n 10 e in let i = short (n / 10) (omega arith) in omega (arith, decimal-size n z)
-
--- a number of 32 bits has at most ten digits
-pub ten-digits : (n : ℕ) → n < 10000000000 → length (decimal n) ≤ 10
-ten-digits =
-    one-more-digit 1000000000 9 (omega arith)
-    (one-more-digit 100000000 8 (omega arith)
-    (one-more-digit 10000000 7 (omega arith)
-    (one-more-digit 1000000 6 (omega arith)
-    (one-more-digit 100000 5 (omega arith)
-    (one-more-digit 10000 4 (omega arith)
-    (one-more-digit 1000 3 (omega arith)
-    (one-more-digit 100 2 (omega arith)
-    (one-more-digit 10 1 (omega arith) one-digit))))))))
+use Rattle.session.specs.Program.{isMark}
+use Rattle.session.specs.Session.{State, state, keptLine, lineLoaded, textEnded, endedText, closeAfter, closeSays, lineAsked, askedText, lineAfter, lineSays, keepByte, stepByte, sayByte, stepInput, sayInput, readyAll, sessionOf, lastAfter, lastSays, feedTest, feedSays, feedAfter, feedAnswer, finishTest, finishSays, finishAfter, finishAnswer, Front}
 
 -- ---- the state
 
@@ -205,79 +54,6 @@ pub text-ended :
     state st line (s .text) (record { loading = false; kept = 0; loader = next }) ≡ textEnded s
 text-ended {st} {line} s p q = same-state false 0 (ap (λ (l : Loader). load st line l) (sym p) ∙ q) refl
 
--- ---- a report and an answer, as they are put together
-
-pub six-fields : (a b c d e f : List ℕ) → ((((a ++ b) ++ c) ++ d) ++ e) ++ f ≡ a ++ (b ++ (c ++ (d ++ (e ++ f))))
-six-fields a b c d e f = simp append-assoc
-
-pub answer-said :
-    (a : Answer) (sh : Shown) (b : Bool) →
-    sh ≡ shown a →
-    sh .bringup ≡ b →
-    (wordOf a ++ decimal (sh .number)) ++ endingOf b ≡ answerLine a
-unfolding answerLine
-answer-said a sh b p q =
-    append-assoc (wordOf a) (decimal (sh .number)) (endingOf b)
-    ∙ ap (λ (t : Bool). wordOf a ++ (decimal (sh .number) ++ endingOf t)) (sym q)
-    ∙ ap (λ (x : Shown). wordOf a ++ (decimal (x .number) ++ endingOf (x .bringup))) p
-
--- ---- a question line, by its fields
-
-pub asks-long : (ask : List ℕ → List ℕ → List ℕ → Bool → Answer) (line : List ℕ) → 600 < length line → Refused 1 ≡ answerTo ask line
-unfolding answerTo
-asks-long ask line h = rw (lt-ltb 600 (length line) h)
-
-asks-fields : (ask : List ℕ → List ℕ → List ℕ → Bool → Answer) (line : List ℕ) (fs : List (List ℕ)) → length line ≤ 600 → fields line ≡ fs → asked ask fs ≡ answerTo ask line
-unfolding answerTo
-asks-fields ask line fs h e = rw (le-ltb 600 (length line) h, e)
-
-module _ (ask : List ℕ → List ℕ → List ℕ → Bool → Answer) where
-  pub asks-none : (line : List ℕ) → length line ≤ 600 → fieldAt line 0 ≡ End → Refused 2 ≡ answerTo ask line
-  asks-none line h e = asks-fields ask line [] h (field-none line 0 e)
-
-  module _ {line : List ℕ} {a b : ℕ} (w : One line a b) where
-    first-field : fields line ≡ part line a b ∷ fields (drop b line)
-    first-field = field-some line 0 a b (w .field) .first-of
-
-    pub asks-one : fieldAt line b ≡ End → Refused 2 ≡ answerTo ask line
-    asks-one e = asks-fields ask line (part line a b ∷ []) (w .short) (first-field ∙ ap (λ (l : List (List ℕ)). part line a b ∷ l) (field-none line b e))
-
-  module _ {line : List ℕ} {a b c d : ℕ} (w : Two line a b c d) where
-    two-fields : fields line ≡ part line a b ∷ part line c d ∷ fields (drop d line)
-    two-fields = first-field (w .first) ∙ ap (λ (l : List (List ℕ)). part line a b ∷ l) (field-some line b c d (w .field) .first-of)
-
-    pub asks-two : fieldAt line d ≡ End → Refused 2 ≡ answerTo ask line
-    asks-two e = asks-fields ask line (part line a b ∷ part line c d ∷ []) (w .first .short) (two-fields ∙ ap (λ (l : List (List ℕ)). part line a b ∷ part line c d ∷ l) (field-none line d e))
-
-  module _ {line : List ℕ} {a b c d e f : ℕ} (w : Three line a b c d e f) where
-    abbrev fields-before : List (List ℕ) → List (List ℕ)
-    fields-before l = part line a b ∷ part line c d ∷ part line e f ∷ l
-
-    three-fields : fields line ≡ fields-before (fields (drop f line))
-    three-fields = two-fields (w .first) ∙ ap (λ (l : List (List ℕ)). part line a b ∷ part line c d ∷ l) (field-some line d e f (w .field) .first-of)
-
-    pub asks-three : fieldAt line f ≡ End → ask (part line a b) (part line c d) (part line e f) false ≡ answerTo ask line
-    asks-three x = asks-fields ask line (fields-before []) (w .first .first .short) (three-fields ∙ ap fields-before (field-none line f x))
-
-  module _ {line : List ℕ} {a b c d e f g h : ℕ} (w : Four line a b c d e f g h) where
-    four-fields : fields line ≡ fields-before (w .first) (part line g h ∷ fields (drop h line))
-    four-fields = three-fields (w .first) ∙ ap (fields-before (w .first)) (field-some line f g h (w .field) .first-of)
-
-    pub asks-five : {i j : ℕ} → fieldAt line h ≡ Part i j → Refused 2 ≡ answerTo ask line
-    asks-five {i} {j} x =
-        asks-fields ask line (fields-before (w .first) (part line g h ∷ part line i j ∷ fields (drop j line))) (w .first .first .first .short)
-        (four-fields ∙ ap (λ (l : List (List ℕ)). fields-before (w .first) (part line g h ∷ l)) (field-some line h i j x .first-of))
-
-    pub asks-four :
-        {t : Bool} →
-        fieldAt line h ≡ End →
-        sameBytes (part line g h) (111 ∷ []) ≡ t →
-        cond t (ask (part line a b) (part line c d) (part line e f) true) (Refused 2) ≡ answerTo ask line
-    asks-four x q =
-        ap (λ (z : Bool). cond z (ask (part line a b) (part line c d) (part line e f) true) (Refused 2)) (sym q)
-        ∙ asks-fields ask line (fields-before (w .first) (part line g h ∷ [])) (w .first .first .first .short)
-        (four-fields ∙ ap (λ (l : List (List ℕ)). fields-before (w .first) (part line g h ∷ l)) (field-none line h x))
-
 -- ---- the end of the rule text
 
 module _ (s : State) where
@@ -295,29 +71,40 @@ module _ (s : State) where
 
   -- ---- a line that ends
 
-  pub asked-after : s .loading ≡ false → lineAsked s ≡ lineAfter s
+  asked-after : s .loading ≡ false → lineAsked s ≡ lineAfter s
   unfolding lineAfter
   asked-after e = rw e
 
-  pub asked-says : s .loading ≡ false → askedText s ≡ lineSays s
+  asked-says : s .loading ≡ false → askedText s ≡ lineSays s
   unfolding lineSays
   asked-says e = rw e
 
-  pub mark-after : s .loading ≡ true → isMark (keptLine s) ≡ true → textEnded s ≡ lineAfter s
+  mark-after : s .loading ≡ true → isMark (keptLine s) ≡ true → textEnded s ≡ lineAfter s
   unfolding lineAfter
   mark-after e m = rw (e, m)
 
-  pub mark-says : s .loading ≡ true → isMark (keptLine s) ≡ true → endedText (endAnswer (s .load)) ≡ lineSays s
+  mark-says : s .loading ≡ true → isMark (keptLine s) ≡ true → endedText (endAnswer (s .load)) ≡ lineSays s
   unfolding lineSays
   mark-says e m = rw (e, m)
 
-  pub rule-after : s .loading ≡ true → isMark (keptLine s) ≡ false → lineLoaded s ≡ lineAfter s
+  rule-after : s .loading ≡ true → isMark (keptLine s) ≡ false → lineLoaded s ≡ lineAfter s
   unfolding lineAfter
   rule-after e m = rw (e, m)
 
-  pub rule-says : s .loading ≡ true → isMark (keptLine s) ≡ false → [] ≡ lineSays s
+  rule-says : s .loading ≡ true → isMark (keptLine s) ≡ false → [] ≡ lineSays s
   unfolding lineSays
   rule-says e m = rw (e, m)
+
+  -- the state that a line leaves and what it puts into an output, by what the line is
+  module _ {out out′ : List ℕ} {at n : ℕ} where
+    pub line-asked : {a : Answer} → s .loading ≡ false → a ≡ answerTo (questionOf (s .load .store)) (keptLine s) → Put 66 out at (answerLine a) out′ n → (lineAsked s ≡ lineAfter s) × Put 66 out at (lineSays s) out′ n
+    line-asked e p q = (asked-after e, put-said 66 q (ap answerLine p ∙ asked-says e) (omega arith))
+
+    pub line-marked : {left : State} → s .loading ≡ true → isMark (keptLine s) ≡ true → left ≡ textEnded s → Put 66 out at (endedText (endAnswer (s .load))) out′ n → (left ≡ lineAfter s) × Put 66 out at (lineSays s) out′ n
+    line-marked e m p q = (p ∙ mark-after e m, put-said 66 q (mark-says e m) (omega arith))
+
+  pub line-ruled : {left : State} {out : List ℕ} {at : ℕ} → s .loading ≡ true → isMark (keptLine s) ≡ false → left ≡ lineLoaded s → (left ≡ lineAfter s) × Put 66 out at (lineSays s) out at
+  line-ruled {out = out} {at = at} e m p = (p ∙ rule-after e m, put-said 66 (put-none 66 out at) (rule-says e m) (omega arith))
 
   -- ---- a byte
 
@@ -466,18 +253,31 @@ module _ (s here run : State) (input : List ℕ) (i end : ℕ) (h : i ≤ length
   led : run ≡ stepInput (stepInput s (take i input)) (take (end - i) (drop i input))
   led = q ∙ ap (λ (x : State). stepInput x (take (end - i) (drop i input))) p
 
-  pub line-after : end < length input → lineAfter run ≡ stepInput s (take (end + 1) input)
+  line-after : end < length input → lineAfter run ≡ stepInput s (take (end + 1) input)
   line-after less =
       ap lineAfter led
       ∙ sym (line-step (stepInput s (take i input)) (take (end - i) (drop i input)))
       ∙ sym (foldl-append stepByte s (take i input) (take (end - i) (drop i input) ++ (10 ∷ [])))
       ∙ ap (λ (t : List ℕ). stepInput s t) (sym (line-taken input i end h e less))
 
-  pub line-says : end < length input → sayInput s (take i input) ++ lineSays run ≡ sayInput s (take (end + 1) input)
+  line-says : end < length input → sayInput s (take i input) ++ lineSays run ≡ sayInput s (take (end + 1) input)
   line-says less =
       ap (λ (l : List ℕ). sayInput s (take i input) ++ l) (ap lineSays led ∙ sym (line-say (stepInput s (take i input)) (take (end - i) (drop i input)) (run-between input i end h e)))
       ∙ sym (say-append s (take i input) (take (end - i) (drop i input) ++ (10 ∷ [])))
       ∙ ap (λ (t : List ℕ). sayInput s t) (sym (line-taken input i end h e less))
+
+  -- the same, with what the line puts into the output behind what the bytes before i put there
+  pub line-turn :
+      {next : State} {out mid out′ : List ℕ} {at n : ℕ} →
+      end < length input →
+      66 * length input ≤ length out →
+      next ≡ lineAfter run →
+      Put (66 * i) out 0 (sayInput s (take i input)) mid at →
+      Put 66 mid at (lineSays run) out′ n →
+      (next ≡ stepInput s (take (end + 1) input)) × Put (66 * (end + 1)) out 0 (sayInput s (take (end + 1) input)) out′ n
+  line-turn less room to before turn =
+      let behind = end-behind input i end h e in
+      (to ∙ line-after less, put-said (66 * (end + 1)) (put-next (66 * (end + 1)) before turn (omega (arith, room, h)) (omega (arith, behind))) (line-says less) (omega arith))
 
   all-taken : end ≡ length input → take i input ++ take (end - i) (drop i input) ≡ input
   all-taken z = ap (λ (t : List ℕ). take i input ++ t) (run-last input i end h e z) ∙ take-append-drop i input
@@ -564,7 +364,7 @@ module _ (s : State) (out : List ℕ) where
   unfolding finishAnswer finishAfter finishSays
   finish-refused k e z = (rw (e, z), (rw (e, z), (rw (e, z) (sym (written-none out 0)), front 0 out (omega arith))))
 
-  pub finish-went :
+  finish-went :
       (st : Store) (line text : List ℕ) (x : Session) (out′ : List ℕ) (n : ℕ) →
       readyAll s ≡ true →
       132 ≤ length out →
@@ -579,14 +379,42 @@ module _ (s : State) (out : List ℕ) where
 
 -- the last line: none, or one that has a byte
 module _ (s : State) where
-  pub last-none : s .kept ≡ 0 → s ≡ lastAfter s
+  last-none : s .kept ≡ 0 → s ≡ lastAfter s
   last-none e = rw (le-ltb 0 (s .kept) (omega (arith, e)))
 
-  pub last-silent : s .kept ≡ 0 → [] ≡ lastSays s
+  last-silent : s .kept ≡ 0 → [] ≡ lastSays s
   last-silent e = rw (le-ltb 0 (s .kept) (omega (arith, e)))
 
-  pub last-some : 0 < s .kept → lineAfter s ≡ lastAfter s
+  last-some : 0 < s .kept → lineAfter s ≡ lastAfter s
   last-some h = rw (lt-ltb 0 (s .kept) h)
 
-  pub last-says : 0 < s .kept → lineSays s ≡ lastSays s
+  last-says : 0 < s .kept → lineSays s ≡ lastSays s
   last-says h = rw (lt-ltb 0 (s .kept) h)
+
+  -- what the end of the input comes to, with no byte after the last newline, and with some
+  pub finish-none :
+      (out : List ℕ) {st : Store} {line text : List ℕ} {x : Session} {out′ : List ℕ} {n : ℕ} →
+      readyAll s ≡ true →
+      132 ≤ length out →
+      s .kept ≡ 0 →
+      state st line text x ≡ closeAfter s →
+      Put 66 out 0 (closeSays s) out′ n →
+      (t.Went x n ≡ finishAnswer s (length out)) × ((state st line text x ≡ finishAfter s (length out)) × ((out′ ≡ written out 0 (finishSays s (length out))) × Front n out′))
+  finish-none out {st} {line} {text} {x} {out′} {n} e h z p q =
+      finish-went s out st line text x out′ n e h (p ∙ ap closeAfter (last-none z))
+      (put-said 132 q (ap (λ (y : State). closeSays y) (last-none z) ∙ ap (λ (l : List ℕ). l ++ closeSays (lastAfter s)) (last-silent z)) (omega arith))
+
+  pub finish-some :
+      (out : List ℕ) {ended : State} {mid : List ℕ} {m : ℕ} {st : Store} {line text : List ℕ} {x : Session} {out′ : List ℕ} {n : ℕ} →
+      readyAll s ≡ true →
+      132 ≤ length out →
+      0 < s .kept →
+      ended ≡ lineAfter s →
+      Put 66 out 0 (lineSays s) mid m →
+      state st line text x ≡ closeAfter ended →
+      Put 66 mid m (closeSays ended) out′ n →
+      (t.Went x n ≡ finishAnswer s (length out)) × ((state st line text x ≡ finishAfter s (length out)) × ((out′ ≡ written out 0 (finishSays s (length out))) × Front n out′))
+  finish-some out {st = st} {line} {text} {x} {out′} {n} e h z a b p q =
+      let after = a ∙ last-some z in
+      finish-went s out st line text x out′ n e h (p ∙ ap closeAfter after)
+      (put-next 132 (put-said 66 b (last-says z) (omega arith)) (put-said 66 q (ap closeSays after) (omega arith)) (omega (arith, h)) (omega arith))

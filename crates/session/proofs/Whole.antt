@@ -28,9 +28,10 @@ use Rattle.session.proofs.feed.Kinds as feed-kinds
 use Rattle.session.proofs.feed.Reads as feed-reads
 use Rattle.session.proofs.finish.Kinds as finish-kinds
 use Rattle.session.proofs.finish.Reads as finish-reads
+use Rattle.replies.specs.Replies.{answerTo, answerLine}
 use Rattle.session.specs.declared.Session.{Session}
 use Rattle.session.specs.declared.Turn.{Turn}
-use Rattle.session.specs.Program.{linesFrom, lines, isMark, ruleLines, questionLines, textOf, answerTo, answerLine, answerLines, reportLine, output}
+use Rattle.session.specs.Program.{linesFrom, lines, isMark, ruleLines, questionLines, textOf, answerLines, reportLine, output}
 use Rattle.session.specs.Session.{State, state, freshSession, readyAll, lineAfter, lineSays, keepByte, stepByte, sayByte, stepInput, sayInput, lastAfter, lastSays, closeSays, feedAnswer, feedAfter, feedSays, finishAnswer, finishSays, wentSession, wentCount}
 use Rattle.session.proofs.Laws.{feed-fine, finish-fine}
 use Rattle.session.proofs.Follows.{Phase, loads, asks, phaseBy, saidBy, lineTo, lineSaid, InPhase, Stands, Kept, line-follows, keep-follows, report-text, empty-line}

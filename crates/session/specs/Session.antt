@@ -6,17 +6,16 @@ use mathlib.Core.Bool.{Bool, true, false, cond, _&&_}
 use mathlib.Core.List.{List, [], _∷_, _++_, foldl}
 use lib.ListN.{length, take, set}
 use lib.Dec.{ltb, leb, eqb}
-use Rattle.search.specs.Bytes.{written}
 use Rattle.store.specs.Layout.{Store}
 use Rattle.access.specs.Access.{questionOf}
-use Rattle.load.specs.declared.Report.{Report}
 use Rattle.load.specs.declared.Ended.{Ended}
 use Rattle.load.specs.declared.Ended.the-variants as e
 use Rattle.load.specs.Loader.{Load, load, ready, freshLoader, pieceAfter, endAfter, endAnswer}
+use Rattle.replies.specs.Replies.{answerTo, reportText, answerLine}
 use Rattle.session.specs.declared.Session.{Session}
 use Rattle.session.specs.declared.Turn.{Turn}
 use Rattle.session.specs.declared.Turn.the-variants.{Went, Refused}
-use Rattle.session.specs.Program.{isMark, answerTo, numbersLine, answerLine}
+use Rattle.session.specs.Program.{isMark}
 
 -- the lent memory and the session: the loader's state, the slice of the line under way, whether rule text is still read, and how many
 -- bytes of that line are kept
@@ -53,9 +52,6 @@ lineLoaded s = record { load = pieceAfter (s .load) (keptLine s ++ (10 ∷ []));
 -- the rule text ends: the end call, whose report is written
 abbrev pub textEnded : State → State
 textEnded s = record { load = endAfter (s .load); text = s .text; loading = false; kept = 0 }
-
-abbrev pub reportText : Report → List ℕ
-reportText r = numbersLine (r .lines ∷ r .accepted ∷ r .skipped ∷ r .refused ∷ r .first ∷ r .reason ∷ [])
 
 abbrev pub endedText : Ended → List ℕ
 endedText (e.Report r l) = reportText r
@@ -157,11 +153,3 @@ wentCount (Refused n) = 0
 -- so many bytes stand at the front of an output. (The second part follows from the first: lending that part asks for both.)
 abbrev pub Front : ℕ → List ℕ → Type 0
 Front n out = (n ≤ length out) × (n ≡ length (take n out))
-
--- ---- bytes put into an output from an index on
-
--- `said` stands from `at` on, `end` is the index behind it, and it is no longer than `most`
-pub record Put (most : ℕ) (out : List ℕ) (at : ℕ) (said : List ℕ) (after : List ℕ) (end : ℕ) : Type 0 where
-  pub bytes : after ≡ written out at said
-  pub ends : end ≡ at + length said
-  pub short : length said ≤ most

@@ -3,7 +3,8 @@ use mathlib.Core.Path.{_∙_}
 use native.Mathlib.Omega.{arith}
 use Rattle.store.specs.Layout.{store}
 use Rattle.session.specs.Session.{state}
-use Rattle.session.proofs.Laws.{close-after, close-says, closed-after, closed-says, put-none, put-said}
+use Rattle.replies.proofs.Laws.{put-none, put-said}
+use Rattle.session.proofs.Laws.{close-after, close-says, closed-after, closed-says}
 use borrow.Author.Needs.{needs}
 use Rattle.session.proofs.close.Statement.{statement}
 use Rattle.session.proofs.close.Tie as tie

@@ -1,15 +1,19 @@
 -- `session::end_line` meets its contract: the line is a question, the mark or rule text, by the definition's tests. Assumes nothing.
-use mathlib.Core.Path.{sym, _∙_, ap}
+use mathlib.Core.Path.{sym, _∙_}
 use lib.Seq.{length-take-le}
 use native.Mathlib.Omega.{arith}
 use borrow.Author.Tests.{not-true, not-false}
 use Rattle.store.specs.Layout.{store}
-use Rattle.session.specs.Session.{state}
-use Rattle.session.specs.Program.{answerLine}
-use Rattle.session.proofs.Laws.{asked-after, asked-says, mark-after, mark-says, rule-after, rule-says, put-none, put-said}
+use Rattle.session.specs.Session.{State, state}
+use Rattle.session.proofs.Laws.{line-asked, line-marked, line-ruled}
 use borrow.Author.Needs.{needs}
 use Rattle.session.proofs.end_line.Statement.{statement}
 use Rattle.session.proofs.end_line.Tie as tie
+
+-- where the function began
+module _ (k : tie.After-struct-known) where
+  abbrev begun : State
+  begun = state (store (k .before .before .before .before .before .before .before .before .before .args .labels .now) (k .before .before .before .before .before .before .before .before .before .args .entries .now) (k .before .before .before .before .before .before .before .before .before .args .words .now)) (k .before .before .before .before .before .before .before .before .before .args .line .now) (k .before .before .before .before .before .before .before .before .before .args .text .now) (k .before .before .before .before .before .before .before .before .before .args .step .session)
 
 slice-reshare-prefix-question-line : tie.Need-slice-reshare-prefix-question-line
 slice-reshare-prefix-question-line c = search needs
@@ -40,11 +44,7 @@ same-length-5 : tie.Need-same-length-5
 same-length-5 c = search needs
 
 returns : tie.Need-returns
-returns c =
-    let a = c .before .before .before .before .before .before .before .before .before .before .before .before .before .before .before .before .before .before .before .args in
-    let s = state (store (a .labels .now) (a .entries .now) (a .words .now)) (a .line .now) (a .text .now) (a .step .session) in
-    let e = not-true _ (c .before .before .before .before .before .before .before .before .before .if1 .taken) in
-    (asked-after s e, put-said 66 (c .before .before .write-answer .ensures) (ap answerLine (c .before .before .before .before .question-line .ensures) ∙ asked-says s e) (omega arith))
+returns c = line-asked (begun (c .before .before .before .before .before .before .before .before .before .before)) (not-true _ (c .before .before .before .before .before .before .before .before .before .if1 .taken)) (c .before .before .before .before .question-line .ensures) (c .before .before .write-answer .ensures)
 
 slice-reshare-prefix-same-bytes : tie.Need-slice-reshare-prefix-same-bytes
 slice-reshare-prefix-same-bytes c = search needs
@@ -82,12 +82,9 @@ same-length-11 c = search needs
 
 returns-2 : tie.Need-returns-2
 returns-2 c =
-    let a = c .before .before .before .before .before .before .before .before .before .before .before .before .before .before .before .before .before .before .before .before .before .before .before .before .before .before .before .before .before .before .before .args in
-    let s = state (store (a .labels .now) (a .entries .now) (a .words .now)) (a .line .now) (a .text .now) (a .step .session) in
-    let e = not-false _ (c .before .before .before .before .before .before .before .before .before .before .before .before .before .before .before .before .before .before .before .before .before .if1 .left) in
     let m = sym (c .before .before .before .before .before .before .before .before .before .before .before .before .before .before .before .before .before .before .same-bytes .ensures) ∙ c .before .before .before .before .before .before .before .before .before .before .before .before .before .before .before .before .before .if2 .taken in
     let end = c .before .before .before .before .before .before .before .before .before .before .end-text .ensures in
-    (end .0 ∙ mark-after s e m, put-said 66 (end .1) (mark-says s e m) (omega arith))
+    line-marked (begun (c .before .before .before .before .before .before .before .before .before .before .before .before .before .before .before .before .before .before .before .before .before .before)) (not-false _ (c .before .before .before .before .before .before .before .before .before .before .before .before .before .before .before .before .before .before .before .before .before .if1 .left)) m (end .0) (end .1)
 
 load-line-requires : tie.Need-load-line-requires
 load-line-requires c κs = search needs
@@ -109,11 +106,8 @@ same-length-16 c = search needs
 
 returns-3 : tie.Need-returns-3
 returns-3 c =
-    let a = c .before .before .before .before .before .before .before .before .before .before .before .before .before .before .before .before .before .before .before .before .before .before .before .before .before .before .before .before .before .before .args in
-    let s = state (store (a .labels .now) (a .entries .now) (a .words .now)) (a .line .now) (a .text .now) (a .step .session) in
-    let e = not-false _ (c .before .before .before .before .before .before .before .before .before .before .before .before .before .before .before .before .before .before .before .before .if1 .left) in
     let m = sym (c .before .before .before .before .before .before .before .before .before .before .before .before .before .before .before .before .before .same-bytes .ensures) ∙ c .before .before .before .before .before .before .before .before .before .before .before .before .before .before .before .before .if2 .left in
-    (c .before .before .before .before .before .before .before .before .before .before .load-line .ensures ∙ rule-after s e m, put-said 66 (put-none 66 (a .out .now) (a .step .at)) (rule-says s e m) (omega arith))
+    line-ruled (begun (c .before .before .before .before .before .before .before .before .before .before .before .before .before .before .before .before .before .before .before .before .before)) (not-false _ (c .before .before .before .before .before .before .before .before .before .before .before .before .before .before .before .before .before .before .before .before .if1 .left)) m (c .before .before .before .before .before .before .before .before .before .before .load-line .ensures)
 
 pub end-line-spec : {M : Type 1} → statement M
 end-line-spec =

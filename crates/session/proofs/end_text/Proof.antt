@@ -4,7 +4,8 @@ use native.Mathlib.Omega.{arith}
 use Rattle.store.specs.Layout.{store}
 use Rattle.load.specs.Loader.{endedLoader}
 use Rattle.session.specs.Session.{state, endedText}
-use Rattle.session.proofs.Laws.{text-ended, put-none, put-said}
+use Rattle.replies.proofs.Laws.{put-none, put-said}
+use Rattle.session.proofs.Laws.{text-ended}
 use borrow.Author.Needs.{needs}
 use Rattle.session.proofs.end_text.Statement.{statement}
 use Rattle.session.proofs.end_text.Tie as tie

@@ -1,16 +1,18 @@
 -- `session::feed` meets its contract: at each turn the state and the output are those that the bytes before i leave. Assumes nothing.
 use Prim.Native.Nat.{ℕ, _<_, _≤_, _-_, _+_, _*_}
 use mathlib.Core.Path.{_≡_, refl, sym, _∙_, subst}
-use mathlib.Core.Bool.{true}
+use mathlib.Core.Bool.{Bool, true, false}
 use mathlib.Core.List.{List}
 use borrow.Author.Tests.{not-true, not-false}
 use lib.ListN.{length, take, drop}
 use Rattle.store.specs.Layout.{Store, store}
 use Rattle.load.proofs.Laws.{end-behind, end-within, run-between}
-use Rattle.session.specs.Session.{State, state, readyAll, stepInput, sayInput, Put}
+use Rattle.session.specs.Session.{State, state, readyAll, stepInput, sayInput}
+use Rattle.replies.specs.Put.{Put}
 use borrow.Author.Needs.{needs}
 use native.Mathlib.Omega.{arith}
-use Rattle.session.proofs.Laws.{Fits, ready-fits, fits-input, feed-damaged, feed-short, feed-refused, feed-went, line-after, line-says, rest-after, rest-says, put-none, put-next, put-said, put-left, put-length}
+use Rattle.replies.proofs.Laws.{put-none, put-said, put-left, put-length}
+use Rattle.session.proofs.Laws.{Fits, ready-fits, fits-input, feed-damaged, feed-short, feed-refused, feed-went, line-turn, rest-after, rest-says}
 use Rattle.session.proofs.feed.Statement.{statement}
 use Rattle.session.proofs.feed.Tie as tie
 
@@ -31,13 +33,27 @@ Inv-loop labels₀ entries₀ words₀ line₀ text₀ out₀ input step₀ i₀
 abbrev μ-loop : tie.MeasureT-loop
 μ-loop labels₀ entries₀ words₀ line₀ text₀ out₀ input step₀ i₀ labels entries words line text out step i = length input - i
 
--- the state at the loop's head, and where the function began
+-- where the function began, and its test
+module _ (r : tie.After-is-ready Inv-loop μ-loop) where
+  abbrev given : List ℕ
+  given = r .before .before .before .before .before .before .before .before .before .before .before .before .before .args .input .now
+
+  abbrev lent : List ℕ
+  lent = r .before .before .before .before .before .before .before .before .before .before .before .before .before .args .out .now
+
+  abbrev start : State
+  start = state (store (r .before .before .before .before .before .before .before .before .before .before .before .before .before .args .labels .now) (r .before .before .before .before .before .before .before .before .before .before .before .before .before .args .entries .now) (r .before .before .before .before .before .before .before .before .before .before .before .before .before .args .words .now)) (r .before .before .before .before .before .before .before .before .before .before .before .before .before .args .line .now) (r .before .before .before .before .before .before .before .before .before .before .before .before .before .args .text .now) (r .before .before .before .before .before .before .before .before .before .before .before .before .before .args .s)
+
+  answered : (t : Bool) → r .is-ready .result ≡ t → readyAll start ≡ t
+  answered t e = sym (r .is-ready .ensures) ∙ e
+
+-- the state at the loop's head
 module _ (c : tie.At-loop Inv-loop μ-loop) where
   abbrev input : List ℕ
-  input = c .before .before .before .before .before .before .before .before .before .before .before .before .before .before .before .before .args .input .now
+  input = given (c .before .before .before)
 
   abbrev begun : State
-  begun = state (store (c .before .before .before .before .before .before .before .before .before .before .before .before .before .before .before .before .args .labels .now) (c .before .before .before .before .before .before .before .before .before .before .before .before .before .before .before .before .args .entries .now) (c .before .before .before .before .before .before .before .before .before .before .before .before .before .before .before .before .args .words .now)) (c .before .before .before .before .before .before .before .before .before .before .before .before .before .before .before .before .args .line .now) (c .before .before .before .before .before .before .before .before .before .before .before .before .before .before .before .before .args .text .now) (c .before .before .before .before .before .before .before .before .before .before .before .before .before .before .before .before .args .s)
+  begun = start (c .before .before .before)
 
   abbrev tables : Store
   tables = store (c .loop .labels) (c .loop .entries) (c .loop .words)
@@ -46,15 +62,15 @@ module _ (c : tie.At-loop Inv-loop μ-loop) where
   here = state tables (c .loop .line) (c .loop .text) (c .loop .step .session)
 
   tested : readyAll begun ≡ true
-  tested = sym (c .before .before .before .is-ready .ensures) ∙ not-false _ (c .before .before .if1 .left)
+  tested = answered (c .before .before .before) true (not-false _ (c .before .before .if1 .left))
 
   fits : Fits here
   fits = subst Fits (sym (c .loop .inv .2)) (fits-input begun (take (c .loop .i) input) (ready-fits begun tested))
 
-  roomy : 66 * length input ≤ length (c .before .before .before .before .before .before .before .before .before .before .before .before .before .before .before .before .args .out .now)
+  roomy : 66 * length input ≤ length (lent (c .before .before .before))
   roomy = omega (arith, c .before .if2 .left)
 
-  apart : 0 + 66 * c .loop .i ≤ length (c .before .before .before .before .before .before .before .before .before .before .before .before .before .before .before .before .args .out .now)
+  apart : 0 + 66 * c .loop .i ≤ length (lent (c .before .before .before))
   apart = omega (arith, roomy, c .loop .inv .0)
 
 -- the run that follows, and where it leads
@@ -90,10 +106,7 @@ same-length-5 : tie.Need-same-length-5 Inv-loop μ-loop
 same-length-5 c = search needs
 
 returns : tie.Need-returns Inv-loop μ-loop
-returns c =
-    let a = c .before .before .before .before .before .before .before .before .before .before .before .before .before .before .args in
-    let s = state (store (a .labels .now) (a .entries .now) (a .words .now)) (a .line .now) (a .text .now) (a .s) in
-    feed-refused s (a .out .now) (a .input .now) 0 (feed-damaged s (a .out .now) (a .input .now) (sym (c .before .is-ready .ensures) ∙ not-true _ (c .if1 .taken))) refl
+returns c = feed-refused (start (c .before)) (lent (c .before)) (given (c .before)) 0 (feed-damaged (start (c .before)) (lent (c .before)) (given (c .before)) (answered (c .before) false (not-true _ (c .if1 .taken)))) refl
 
 same-length-6 : tie.Need-same-length-6 Inv-loop μ-loop
 same-length-6 c = search needs
@@ -112,9 +125,9 @@ same-length-10 c = search needs
 
 returns-2 : tie.Need-returns-2 Inv-loop μ-loop
 returns-2 c =
-    let a = c .before .before .before .before .before .before .before .before .before .before .before .before .before .before .before .args in
-    let s = state (store (a .labels .now) (a .entries .now) (a .words .now)) (a .line .now) (a .text .now) (a .s) in
-    feed-refused s (a .out .now) (a .input .now) 12 (feed-short s (a .out .now) (a .input .now) (sym (c .before .before .is-ready .ensures) ∙ not-false _ (c .before .if1 .left)) (omega (arith, c .if2 .taken))) refl
+    feed-refused (start (c .before .before)) (lent (c .before .before)) (given (c .before .before)) 12
+    (feed-short (start (c .before .before)) (lent (c .before .before)) (given (c .before .before)) (answered (c .before .before) true (not-false _ (c .before .if1 .left))) (omega (arith, c .if2 .taken)))
+    refl
 
 loop-holds : tie.Need-loop-holds Inv-loop μ-loop
 loop-holds c =
@@ -188,9 +201,8 @@ loop-again c =
     let l = e .before in
     let less : e .line-end .result < length (input l) = omega (arith, c .before .before .before .before .before .before .before .before .before .before .before .before .before .before .before .before .before .before .before .if3 .left, ends-within e) in
     let led = c .before .before .before .before .before .before .before .before .before .before .before .before .before .before .before .before .before .before .before .before .before .before .take-run .ensures (tables l) (l .loop .line) in
-    let after = line-after (begun l) (here l) _ (input l) (l .loop .i) (e .line-end .result) (l .loop .inv .0) (e .line-end .ensures) (l .loop .inv .2) led less in
-    let said = line-says (begun l) (here l) _ (input l) (l .loop .i) (e .line-end .result) (l .loop .inv .0) (e .line-end .ensures) (l .loop .inv .2) led less in
-    let turn = c .before .before .before .before .before .before .before .before .before .before .before .before .end-line in (
+    let turn = c .before .before .before .before .before .before .before .before .before .before .before .before .end-line in
+    let both = line-turn (begun l) (here l) _ (input l) (l .loop .i) (e .line-end .result) (l .loop .inv .0) (e .line-end .ensures) (l .loop .inv .2) led less (roomy l) (turn .ensures .0) (l .loop .inv .3) (turn .ensures .1) in (
       omega (arith, less),
       record {
         labels = turn .kept .0 ∙ l .loop .inv .1 .labels;
@@ -198,8 +210,8 @@ loop-again c =
         words = turn .kept .1 .1 .0 ∙ l .loop .inv .1 .words;
         line = turn .kept .1 .1 .1 .0 ∙ l .loop .inv .1 .line;
       },
-      turn .ensures .0 ∙ after,
-      put-said (66 * (e .line-end .result + 1)) (put-next (66 * (e .line-end .result + 1)) (l .loop .inv .3) (turn .ensures .1) (apart l) (omega (arith, ends-behind e))) said (omega arith),
+      both .0,
+      both .1,
     )
 
 pub feed-spec : {M : Type 1} → statement M

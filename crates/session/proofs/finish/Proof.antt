@@ -1,15 +1,27 @@
 -- `session::finish` meets its contract: the last line ends where it has a byte, and then the rule text where it has not. Assumes nothing.
-use mathlib.Core.Path.{refl, sym, _∙_, ap}
-use mathlib.Core.List.{List, _++_}
+use mathlib.Core.Path.{_≡_, refl, sym, _∙_}
+use mathlib.Core.Bool.{Bool, true, false}
+use mathlib.Core.List.{List}
 use Prim.Native.Nat.{ℕ, _<_}
 use native.Mathlib.Omega.{arith}
 use borrow.Author.Tests.{not-true, not-false}
 use Rattle.store.specs.Layout.{store}
-use Rattle.session.specs.Session.{State, state, closeAfter, closeSays, lastAfter}
-use Rattle.session.proofs.Laws.{ready-fits, finish-damaged, finish-short, finish-refused, finish-went, last-none, last-silent, last-some, last-says, put-next, put-said}
+use Rattle.session.specs.Session.{State, state, readyAll}
+use Rattle.session.proofs.Laws.{ready-fits, finish-damaged, finish-short, finish-refused, finish-none, finish-some}
 use borrow.Author.Needs.{needs}
 use Rattle.session.proofs.finish.Statement.{statement}
 use Rattle.session.proofs.finish.Tie as tie
+
+-- where the function began, and its test
+module _ (r : tie.After-is-ready) where
+  abbrev begun : State
+  begun = state (store (r .before .before .before .before .before .before .before .before .before .before .before .before .args .labels .now) (r .before .before .before .before .before .before .before .before .before .before .before .before .args .entries .now) (r .before .before .before .before .before .before .before .before .before .before .before .before .args .words .now)) (r .before .before .before .before .before .before .before .before .before .before .before .before .args .line .now) (r .before .before .before .before .before .before .before .before .before .before .before .before .args .text .now) (r .before .before .before .before .before .before .before .before .before .before .before .before .args .s)
+
+  abbrev out : List ℕ
+  out = r .before .before .before .before .before .before .before .before .before .before .before .before .args .out .now
+
+  tested : (t : Bool) → r .is-ready .result ≡ t → readyAll begun ≡ t
+  tested t e = sym (r .is-ready .ensures) ∙ e
 
 is-ready-requires : tie.Need-is-ready-requires
 is-ready-requires c κs = search needs
@@ -30,10 +42,7 @@ same-length-5 : tie.Need-same-length-5
 same-length-5 c = search needs
 
 returns : tie.Need-returns
-returns c =
-    let a = c .before .before .before .before .before .before .before .before .before .before .before .before .before .args in
-    let s = state (store (a .labels .now) (a .entries .now) (a .words .now)) (a .line .now) (a .text .now) (a .s) in
-    finish-refused s (a .out .now) 0 (finish-damaged s (a .out .now) (sym (c .before .is-ready .ensures) ∙ not-true _ (c .if1 .taken))) refl
+returns c = finish-refused (begun (c .before)) (out (c .before)) 0 (finish-damaged (begun (c .before)) (out (c .before)) (tested (c .before) false (not-true _ (c .if1 .taken)))) refl
 
 mul-if2 : tie.Need-mul-if2
 mul-if2 c = search needs
@@ -54,10 +63,7 @@ same-length-10 : tie.Need-same-length-10
 same-length-10 c = search needs
 
 returns-2 : tie.Need-returns-2
-returns-2 c =
-    let a = c .before .before .before .before .before .before .before .before .before .before .before .before .before .before .args in
-    let s = state (store (a .labels .now) (a .entries .now) (a .words .now)) (a .line .now) (a .text .now) (a .s) in
-    finish-refused s (a .out .now) 12 (finish-short s (a .out .now) (sym (c .before .before .is-ready .ensures) ∙ not-false _ (c .before .if1 .left)) (c .if2 .taken)) refl
+returns-2 c = finish-refused (begun (c .before .before)) (out (c .before .before)) 12 (finish-short (begun (c .before .before)) (out (c .before .before)) (tested (c .before .before) true (not-false _ (c .before .if1 .left))) (c .if2 .taken)) refl
 
 close-requires : tie.Need-close-requires
 close-requires c κs = search needs
@@ -82,19 +88,12 @@ same-length-16 c = search needs
 
 returns-3 : tie.Need-returns-3
 returns-3 c =
-    let a = c .before .before .before .before .before .before .before .before .before .before .before .before .before .before .before .before .before .before .before .before .before .before .before .before .before .before .before .before .before .before .before .before .before .args in
-    let s = state (store (a .labels .now) (a .entries .now) (a .words .now)) (a .line .now) (a .text .now) (a .s) in
-    let e = sym (c .before .before .before .before .before .before .before .before .before .before .before .before .before .before .before .before .before .before .before .before .before .is-ready .ensures) ∙ not-false _ (c .before .before .before .before .before .before .before .before .before .before .before .before .before .before .before .before .before .before .before .before .if1 .left) in
-    let none = c .before .before .before .before .before .before .before .before .before .before .before .before .before .before .before .before .before .before .if3 .taken in
     let end = c .before .before .before .before .before .before .before .before .before .before .before .close .ensures in
-    finish-went s (a .out .now) _ _ _ _ _ _ e (c .before .before .before .before .before .before .before .before .before .before .before .before .before .before .before .before .before .before .before .if2 .left) (end .0 ∙ ap closeAfter (last-none s none))
-    (put-said 132 (end .1) (ap (λ (x : State). closeSays x) (last-none s none) ∙ ap (λ (l : List ℕ). l ++ closeSays (lastAfter s)) (last-silent s none)) (omega arith))
+    finish-none (begun (c .before .before .before .before .before .before .before .before .before .before .before .before .before .before .before .before .before .before .before .before .before)) (out (c .before .before .before .before .before .before .before .before .before .before .before .before .before .before .before .before .before .before .before .before .before)) (tested (c .before .before .before .before .before .before .before .before .before .before .before .before .before .before .before .before .before .before .before .before .before) true (not-false _ (c .before .before .before .before .before .before .before .before .before .before .before .before .before .before .before .before .before .before .before .before .if1 .left))) (c .before .before .before .before .before .before .before .before .before .before .before .before .before .before .before .before .before .before .before .if2 .left) (c .before .before .before .before .before .before .before .before .before .before .before .before .before .before .before .before .before .before .if3 .taken) (end .0) (end .1)
 
 end-line-requires : tie.Need-end-line-requires
 end-line-requires c κs =
-    let a = c .before .before .before .before .before .before .before .before .before .before .before .before .before .before .before .before .before .before .before .before .before .args in
-    let s = state (store (a .labels .now) (a .entries .now) (a .words .now)) (a .line .now) (a .text .now) (a .s) in
-    let f = ready-fits s (sym (c .before .before .before .before .before .before .before .before .before .is-ready .ensures) ∙ not-false _ (c .before .before .before .before .before .before .before .before .if1 .left)) in
+    let f = ready-fits (begun (c .before .before .before .before .before .before .before .before .before)) (tested (c .before .before .before .before .before .before .before .before .before) true (not-false _ (c .before .before .before .before .before .before .before .before .if1 .left))) in
     (omega (arith, f .text, f .kept), omega (arith, c .before .before .before .before .before .before .before .if2 .left))
 
 close-requires-2 : tie.Need-close-requires-2
@@ -120,15 +119,10 @@ same-length-22 c = search needs
 
 returns-4 : tie.Need-returns-4
 returns-4 c =
-    let a = c .before .before .before .before .before .before .before .before .before .before .before .before .before .before .before .before .before .before .before .before .before .before .before .before .before .before .before .before .before .before .before .before .before .before .before .before .before .before .before .before .before .before .before .before .before .before .before .before .before .before .before .before .args in
-    let s = state (store (a .labels .now) (a .entries .now) (a .words .now)) (a .line .now) (a .text .now) (a .s) in
-    let e = sym (c .before .before .before .before .before .before .before .before .before .before .before .before .before .before .before .before .before .before .before .before .before .before .before .before .before .before .before .before .before .before .before .before .before .before .before .before .before .before .before .before .is-ready .ensures) ∙ not-false _ (c .before .before .before .before .before .before .before .before .before .before .before .before .before .before .before .before .before .before .before .before .before .before .before .before .before .before .before .before .before .before .before .before .before .before .before .before .before .before .before .if1 .left) in
-    let some : 0 < a .s .kept = omega (arith, c .before .before .before .before .before .before .before .before .before .before .before .before .before .before .before .before .before .before .before .before .before .before .before .before .before .before .before .before .before .before .before .before .before .before .before .before .before .if3 .left) in
+    let some : 0 < c .before .before .before .before .before .before .before .before .before .before .before .before .before .before .before .before .before .before .before .before .before .before .before .before .before .before .before .before .before .before .before .before .before .before .before .before .before .before .before .before .before .before .before .before .before .before .before .before .before .before .before .before .args .s .kept = omega (arith, c .before .before .before .before .before .before .before .before .before .before .before .before .before .before .before .before .before .before .before .before .before .before .before .before .before .before .before .before .before .before .before .before .before .before .before .before .before .if3 .left) in
     let line = c .before .before .before .before .before .before .before .before .before .before .before .before .before .before .before .before .before .before .before .before .before .before .before .before .before .before .before .before .before .before .end-line .ensures in
     let end = c .before .before .before .before .before .before .before .before .before .before .before .close2 .ensures in
-    let after = line .0 ∙ last-some s some in
-    finish-went s (a .out .now) _ _ _ _ _ _ e (c .before .before .before .before .before .before .before .before .before .before .before .before .before .before .before .before .before .before .before .before .before .before .before .before .before .before .before .before .before .before .before .before .before .before .before .before .before .before .if2 .left) (end .0 ∙ ap closeAfter after)
-    (put-next 132 (put-said 66 (line .1) (last-says s some) (omega arith)) (put-said 66 (end .1) (ap closeSays after) (omega arith)) (omega (arith, c .before .before .before .before .before .before .before .before .before .before .before .before .before .before .before .before .before .before .before .before .before .before .before .before .before .before .before .before .before .before .before .before .before .before .before .before .before .before .if2 .left)) (omega arith))
+    finish-some (begun (c .before .before .before .before .before .before .before .before .before .before .before .before .before .before .before .before .before .before .before .before .before .before .before .before .before .before .before .before .before .before .before .before .before .before .before .before .before .before .before .before)) (out (c .before .before .before .before .before .before .before .before .before .before .before .before .before .before .before .before .before .before .before .before .before .before .before .before .before .before .before .before .before .before .before .before .before .before .before .before .before .before .before .before)) (tested (c .before .before .before .before .before .before .before .before .before .before .before .before .before .before .before .before .before .before .before .before .before .before .before .before .before .before .before .before .before .before .before .before .before .before .before .before .before .before .before .before) true (not-false _ (c .before .before .before .before .before .before .before .before .before .before .before .before .before .before .before .before .before .before .before .before .before .before .before .before .before .before .before .before .before .before .before .before .before .before .before .before .before .before .before .if1 .left))) (c .before .before .before .before .before .before .before .before .before .before .before .before .before .before .before .before .before .before .before .before .before .before .before .before .before .before .before .before .before .before .before .before .before .before .before .before .before .before .if2 .left) some (line .0) (line .1) (end .0) (end .1)
 
 pub finish-spec : {M : Type 1} → statement M
 finish-spec =

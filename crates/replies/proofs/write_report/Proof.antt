@@ -1,11 +1,11 @@
--- `session::write_report` meets its contract: six numbers one behind the other. Assumes nothing.
+-- `replies::write_report` meets its contract: six numbers one behind the other. Assumes nothing.
 use mathlib.Core.List.{[], _∷_, _++_}
 use native.Mathlib.Omega.{arith}
-use Rattle.session.specs.Program.{decimal}
-use Rattle.session.proofs.Laws.{put-next, put-said, six-fields}
+use Rattle.replies.specs.Replies.{decimal}
+use Rattle.replies.proofs.Laws.{put-next, put-said, six-fields}
 use borrow.Author.Needs.{needs}
-use Rattle.session.proofs.write_report.Statement.{statement}
-use Rattle.session.proofs.write_report.Tie as tie
+use Rattle.replies.proofs.write_report.Statement.{statement}
+use Rattle.replies.proofs.write_report.Tie as tie
 
 write-field-requires : tie.Need-write-field-requires
 write-field-requires c κs = search needs

@@ -1,11 +1,11 @@
--- `session::question_line` meets its contract: each answer is the definition's, by the fields that were read. Assumes nothing.
+-- `replies::question_line` meets its contract: each answer is the definition's, by the fields that were read. Assumes nothing.
 use mathlib.Core.Path.{sym, _∙_}
 use native.Mathlib.Omega.{arith}
 use Rattle.lines.proofs.Answers.{One, Two, Three, Four, in-one, in-two, in-three, in-four}
-use Rattle.session.proofs.Laws.{asks-long, asks-none, asks-one, asks-two, asks-three, asks-four, asks-five}
+use Rattle.replies.proofs.Laws.{asks-long, asks-none, asks-one, asks-two, asks-three, asks-four, asks-five}
 use borrow.Author.Needs.{needs}
-use Rattle.session.proofs.question_line.Statement.{statement}
-use Rattle.session.proofs.question_line.Tie as tie
+use Rattle.replies.proofs.question_line.Statement.{statement}
+use Rattle.replies.proofs.question_line.Tie as tie
 
 -- the fields that were read
 one : (c : tie.After-a) → One (c .before .before .before .before .before .before .before .before .args .line .now) ((c .a .given .0 .0)) ((c .a .given .0 .1 .0))

@@ -1,13 +1,13 @@
--- `session::write_answer` meets its contract: the word, the number and the ending, one behind the other. Assumes nothing.
+-- `replies::write_answer` meets its contract: the word, the number and the ending, one behind the other. Assumes nothing.
 use mathlib.Core.Path.{_∙_}
 use mathlib.Core.Bool.{true, false}
 use Prim.Native.Nat.{_<_}
 use lib.ListN.{length-set}
 use native.Mathlib.Omega.{arith}
-use Rattle.session.proofs.Laws.{put-all, put-first, put-next, put-said, put-left, put-length, ten-digits, answer-said}
+use Rattle.replies.proofs.Laws.{put-all, put-first, put-next, put-said, put-left, put-length, ten-digits, answer-said}
 use borrow.Author.Needs.{needs}
-use Rattle.session.proofs.write_answer.Statement.{statement}
-use Rattle.session.proofs.write_answer.Tie as tie
+use Rattle.replies.proofs.write_answer.Statement.{statement}
+use Rattle.replies.proofs.write_answer.Tie as tie
 
 show-requires : tie.Need-show-requires
 show-requires c κs = search needs

@@ -1,11 +1,11 @@
--- `session::write_word` meets its contract: a word for each case. Assumes nothing.
+-- `replies::write_word` meets its contract: a word for each case. Assumes nothing.
 use mathlib.Core.Path.{sym, ap}
 use native.Mathlib.Omega.{arith}
-use Rattle.session.specs.Program.{wordOf}
-use Rattle.session.proofs.Laws.{put-all, put-said}
+use Rattle.replies.specs.Replies.{wordOf}
+use Rattle.replies.proofs.Laws.{put-all, put-said}
 use borrow.Author.Needs.{needs}
-use Rattle.session.proofs.write_word.Statement.{statement}
-use Rattle.session.proofs.write_word.Tie as tie
+use Rattle.replies.proofs.write_word.Statement.{statement}
+use Rattle.replies.proofs.write_word.Tie as tie
 
 enum-told : tie.Need-enum-told
 enum-told c = search needs

@@ -1,19 +1,19 @@
--- `session::write_number` meets its contract: a number of one digit is that digit, and a longer one is its tenth and then its last digit. The
+-- `replies::write_number` meets its contract: a number of one digit is that digit, and a longer one is its tenth and then its last digit. The
 -- measure is the number. Assumes nothing.
 use mathlib.Core.Path.{sym}
 use Prim.Native.Nat.{ℕ, _<_, _+_, _≤_, _/_, _%_}
 use lib.ListN.{length}
 use borrow.Author.Needs.{needs}
 use native.Mathlib.Omega.{arith}
-use Rattle.session.specs.Program.{decimal}
-use Rattle.session.proofs.Laws.{put-first, put-byte, put-said, put-short, put-length, decimal-one, decimal-more, decimal-size, decimal-some, ten-digits}
+use Rattle.replies.specs.Replies.{decimal}
+use Rattle.replies.proofs.Laws.{put-first, put-byte, put-said, put-short, put-length, decimal-one, decimal-more, decimal-size, decimal-some, ten-digits}
 use borrow.Fn.Kinds.{In}
 use borrow.Fn.PlainCycle.{Measures, is, falls, and}
-use Rattle.session.proofs.write_number.Reads as write-number
-use Rattle.session.proofs.write_number.Kinds as write-number-kinds
-use Rattle.session.proofs.+write_number.Lts-write_number as write-number-lts
-use Rattle.session.proofs.+write_number.{statement}
-use Rattle.session.proofs.+write_number.Tie.{close}
+use Rattle.replies.proofs.write_number.Reads as write-number
+use Rattle.replies.proofs.write_number.Kinds as write-number-kinds
+use Rattle.replies.proofs.+write_number.Lts-write_number as write-number-lts
+use Rattle.replies.proofs.+write_number.{statement}
+use Rattle.replies.proofs.+write_number.Tie.{close}
 
 abbrev μ-write-number : Measures 1 write-number-kinds.ps ℕ
 μ-write-number κs a = a .1 .1 .0

@@ -1,10 +1,10 @@
--- `session::write_field` meets its contract: the byte goes behind the digits. Assumes nothing.
+-- `replies::write_field` meets its contract: the byte goes behind the digits. Assumes nothing.
 use Prim.Native.Nat.{_<_}
 use native.Mathlib.Omega.{arith}
-use Rattle.session.proofs.Laws.{put-byte, put-left, ten-digits}
+use Rattle.replies.proofs.Laws.{put-byte, put-left, ten-digits}
 use borrow.Author.Needs.{needs}
-use Rattle.session.proofs.write_field.Statement.{statement}
-use Rattle.session.proofs.write_field.Tie as tie
+use Rattle.replies.proofs.write_field.Statement.{statement}
+use Rattle.replies.proofs.write_field.Tie as tie
 
 write-number-requires : tie.Need-write-number-requires
 write-number-requires c κs =

@@ -1,0 +1,64 @@
+-- 01, What the program reads and writes: the answer to a question line, and the lines that are written, as bytes. Assumes nothing.
+use Prim.Native.Nat.{ℕ, zero, suc, _+_, _/_, _%_}
+use mathlib.Core.Bool.{Bool, true, false, cond}
+use mathlib.Core.List.{List, [], _∷_, _++_}
+use lib.ListN.{length}
+use lib.Dec.{ltb}
+use Rattle.search.specs.Bytes.{sameBytes}
+use Rattle.alphabet.specs.Alphabet.{fields}
+use Rattle.access.specs.Access.{shown}
+use Rattle.access.specs.declared.Answer.{Answer}
+use Rattle.access.specs.declared.Answer.the-variants.{Granted, Denied, Override, Refused}
+use Rattle.load.specs.declared.Report.{Report}
+
+-- ---- a question line
+
+-- the question that a line's fields ask: subject, object, request and, where the asker has the capability, a fourth field `o`. Other
+-- fields are refused with 2, before the question's own refusals
+abbrev pub asked : (List ℕ → List ℕ → List ℕ → Bool → Answer) → List (List ℕ) → Answer
+asked ask [] = Refused 2
+asked ask (s ∷ []) = Refused 2
+asked ask (s ∷ o ∷ []) = Refused 2
+asked ask (s ∷ o ∷ r ∷ []) = ask s o r false
+asked ask (s ∷ o ∷ r ∷ c ∷ []) = cond (sameBytes c (111 ∷ [])) (ask s o r true) (Refused 2)
+asked ask (s ∷ o ∷ r ∷ c ∷ x ∷ more) = Refused 2
+
+-- a line over 600 bytes is refused with 1, before every other
+unfoldable pub answerTo : (List ℕ → List ℕ → List ℕ → Bool → Answer) → List ℕ → Answer
+answerTo ask line = cond (ltb 600 (length line)) (Refused 1) (asked ask (fields line))
+
+-- ---- what is written
+
+-- a number in decimal digits, with no leading zero
+abbrev pub digits : ℕ → ℕ → List ℕ
+digits zero n = []
+digits (suc k) n = cond (ltb n 10) ((48 + n) ∷ []) (digits k (n / 10) ++ ((48 + n % 10) ∷ []))
+
+unfoldable pub decimal : ℕ → List ℕ
+decimal n = digits (suc n) n
+
+-- numbers on one line, with a space between
+abbrev pub numbersLine : List ℕ → List ℕ
+numbersLine [] = 10 ∷ []
+numbersLine (n ∷ []) = decimal n ++ (10 ∷ [])
+numbersLine (n ∷ m ∷ ms) = (decimal n ++ (32 ∷ [])) ++ numbersLine (m ∷ ms)
+
+-- the report: lines, accepted, skipped, refused, first refused line, its reason
+abbrev pub reportText : Report → List ℕ
+reportText r = numbersLine (r .lines ∷ r .accepted ∷ r .skipped ∷ r .refused ∷ r .first ∷ r .reason ∷ [])
+
+-- `granted `, `denied `, `override `, `refused `
+abbrev pub wordOf : Answer → List ℕ
+wordOf (Granted n b) = 103 ∷ 114 ∷ 97 ∷ 110 ∷ 116 ∷ 101 ∷ 100 ∷ 32 ∷ []
+wordOf (Denied by) = 100 ∷ 101 ∷ 110 ∷ 105 ∷ 101 ∷ 100 ∷ 32 ∷ []
+wordOf (Override by) = 111 ∷ 118 ∷ 101 ∷ 114 ∷ 114 ∷ 105 ∷ 100 ∷ 101 ∷ 32 ∷ []
+wordOf (Refused n) = 114 ∷ 101 ∷ 102 ∷ 117 ∷ 115 ∷ 101 ∷ 100 ∷ 32 ∷ []
+
+-- the line's end: ` b` where the rule has b, and a newline
+abbrev pub endingOf : Bool → List ℕ
+endingOf true = 32 ∷ 98 ∷ 10 ∷ []
+endingOf false = 10 ∷ []
+
+-- `granted 6`, `granted 6 b`, `denied 7`, `override 7` or `refused 3`, with the number that applies
+unfoldable pub answerLine : Answer → List ℕ
+answerLine a = wordOf a ++ (decimal (shown a .number) ++ endingOf (shown a .bringup))

@@ -1,0 +1,144 @@
+// The lines that the program writes (01, What the program reads and writes): the report and the answers, as bytes of an output; and the
+// answer to a question line.
+use access::Answer;
+use alphabet::Field;
+use load::Report;
+ghost use mathlib.Core.Path.{_≡_};
+ghost use mathlib.Core.List.{[], _∷_, _++_};
+ghost use Prim.Native.Nat.{_+_, _≤_};
+ghost use lib.ListN.{length};
+ghost use Rattle.store.specs.Layout.{store};
+ghost use Rattle.access.specs.Access.{questionOf};
+ghost use Rattle.replies.specs.Replies.{decimal, reportText, wordOf, answerLine, answerTo};
+ghost use Rattle.replies.specs.Put.{Put};
+
+// The most bytes of a question line.
+const LIMIT: usize = 600;
+
+// Writes a number in decimal digits from index `at`, and answers the index behind it. Who calls it has made sure that there is room.
+fn write_number(out: &mut [u8], at: usize, n: u32) -> usize
+    requires { ⌜ at + length (decimal n) ≤ length (now out) ⌝ }
+    ensures { λ r. ⌜ Put 10 (now (out .entry)) at (decimal n) (now (out .exit)) r ⌝ }
+{
+    if n < 10 {
+        out[at] = 48 + n as u8;
+        return at + 1;
+    }
+    let next = write_number(out, at, n / 10);
+    out[next] = 48 + (n % 10) as u8;
+    next + 1
+}
+
+// Writes a number and the byte behind it.
+fn write_field(out: &mut [u8], at: usize, n: u32, behind: u8) -> usize
+    requires { ⌜ at + 11 ≤ length (now out) ⌝ }
+    ensures { λ r. ⌜ Put 11 (now (out .entry)) at (decimal n ++ (behind ∷ [])) (now (out .exit)) r ⌝ }
+{
+    let next = write_number(out, at, n);
+    out[next] = behind;
+    next + 1
+}
+
+// Writes the report on one line, from index `at`. Session's `feed` and `finish` have made sure that there is room for it.
+pub fn write_report(out: &mut [u8], at: usize, report: Report) -> usize
+    requires { ⌜ at + 66 ≤ length (now out) ⌝ }
+    ensures { λ r. ⌜ Put 66 (now (out .entry)) at (reportText report) (now (out .exit)) r ⌝ }
+{
+    let a = write_field(out, at, report.lines, 32);
+    let b = write_field(out, a, report.accepted, 32);
+    let c = write_field(out, b, report.skipped, 32);
+    let d = write_field(out, c, report.refused, 32);
+    let e = write_field(out, d, report.first, 32);
+    write_field(out, e, report.reason as u32, 10)
+}
+
+// Writes an answer's word and a space.
+fn write_word(out: &mut [u8], at: usize, answer: Answer) -> usize
+    requires { ⌜ at + 9 ≤ length (now out) ⌝ }
+    ensures { λ r. ⌜ Put 9 (now (out .entry)) at (wordOf answer) (now (out .exit)) r ⌝ }
+{
+    match answer {
+        Answer::Granted(_, _) => {
+            let word = [103u8, 114, 97, 110, 116, 101, 100, 32];
+            search::copy_at(out, at, &word);
+            at + 8
+        }
+        Answer::Denied(_) => {
+            let word = [100u8, 101, 110, 105, 101, 100, 32];
+            search::copy_at(out, at, &word);
+            at + 7
+        }
+        Answer::Override(_) => {
+            let word = [111u8, 118, 101, 114, 114, 105, 100, 101, 32];
+            search::copy_at(out, at, &word);
+            at + 9
+        }
+        Answer::Refused(_) => {
+            let word = [114u8, 101, 102, 117, 115, 101, 100, 32];
+            search::copy_at(out, at, &word);
+            at + 8
+        }
+    }
+}
+
+// Writes an answer on one line, from index `at`. Session's `feed` and `finish` have made sure that there is room for it.
+pub fn write_answer(out: &mut [u8], at: usize, answer: Answer) -> usize
+    requires { ⌜ at + 66 ≤ length (now out) ⌝ }
+    ensures { λ r. ⌜ Put 66 (now (out .entry)) at (answerLine answer) (now (out .exit)) r ⌝ }
+{
+    let shown = access::show(answer);
+    let word = write_word(out, at, answer);
+    let end = write_number(out, word, shown.number as u32);
+    if shown.bringup {
+        let ending = [32u8, 98, 10];
+        search::copy_at(out, end, &ending);
+        return end + 3;
+    }
+    out[end] = 10;
+    end + 1
+}
+
+// The answer to a question line: refusals 1 and 2 before the question's own.
+pub fn question_line(labels: &[u8], entries: &[u8], words: &[u64], line: &[u8]) -> Answer
+    ensures { λ r. ⌜ r ≡ answerTo (questionOf (store (now (labels .entry)) (now (entries .entry)) (now (words .entry)))) (now (line .entry)) ⌝ }
+{
+    if LIMIT < line.len() {
+        return Answer::Refused(1);
+    }
+    let Field::Part { start: a, end: b } = alphabet::next_field(line, 0) else {
+        return Answer::Refused(2);
+    };
+    let Field::Part { start: c, end: d } = alphabet::next_field(line, b) else {
+        return Answer::Refused(2);
+    };
+    let Field::Part { start: e, end: f } = alphabet::next_field(line, d) else {
+        return Answer::Refused(2);
+    };
+    let Field::Part { start: g, end: h } = alphabet::next_field(line, f) else {
+        return access::question(
+            labels,
+            entries,
+            words,
+            &line[a..b],
+            &line[c..d],
+            &line[e..f],
+            false,
+        );
+    };
+    let Field::End = alphabet::next_field(line, h) else {
+        return Answer::Refused(2);
+    };
+    let capability = [111u8];
+    if search::same_bytes(&line[g..h], &capability) {
+        return access::question(
+            labels,
+            entries,
+            words,
+            &line[a..b],
+            &line[c..d],
+            &line[e..f],
+            true,
+        );
+    }
+    Answer::Refused(2)
+}
