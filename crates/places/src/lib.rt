@@ -34,16 +34,17 @@ fn last_byte(label: &[u8]) -> u8
 // The next place from an index on, of the first `count`, that has a label of length n with this last byte, or one past them. Few places have that
 // byte there, and fewer also that length. Who calls it has tested the store and the length.
 fn next_like(labels: &[u8], from: usize, count: usize, n: usize, last: u8) -> usize
-    requires { ⌜ (length (now labels) ≡ 16384) × (count ≤ 64) × (n ≤ 255) ⌝ }
+    requires { ⌜ (length (now labels) ≡ 16384) × (from ≤ 64) × (count ≤ 64) × (n ≤ 255) ⌝ }
     ensures { λ r. ⌜ (from ≤ r) × ((k : ℕ) → from ≤ k → k < r → Unlike (now (labels .entry)) k n last) ⌝ }
 {
     let mut i = from;
+    let mut at = from * 256;
     while i < count {
-        let at = i * 256;
         if (labels[at + n] == last) & (labels[at] as usize == n) {
             return i;
         }
         i += 1;
+        at += 256;
     }
     i
 }

@@ -39,7 +39,7 @@ loop-holds : tie.Need-loop-holds Inv-loop μ-loop
 loop-holds c = λ k h. absurd (omega arith)
 
 next-like-requires : tie.Need-next-like-requires Inv-loop μ-loop
-next-like-requires c κs = let s = c .before .before .before .before .before .before in (s .pre .0, s .pre .1, omega arith)
+next-like-requires c κs = let s = c .before .before .before .before .before .before in (s .pre .0, omega (arith, s .pre .1), s .pre .1, omega arith)
 
 -- no stored place before the one that `next_like` answered holds the label
 passed : (c : tie.After-next-like Inv-loop μ-loop) (k : ℕ) → k < c .next-like .result → k < c .before .before .before .before .before .before .before .args .count → sameBytes (c .before .before .before .before .before .before .before .args .label .now) (labelAt (c .before .before .before .before .before .before .before .args .labels .now) k) ≡ false
