@@ -17,13 +17,19 @@
  *
  *    0  the lent state has a part not of its full size, a count or length over its limit, a number that names no stored label, or an
  *       unknown mode or category bit. It comes before every other number.
- *    1  a write has over 600 bytes           2  wrong number of fields           3  a label is not well formed
- *    4  an access field has a byte that is not allowed there                     5  subject equals object
- *    6  more new labels than free places     7  256 rules are stored, and the pair has none
+ *    1  a line or a write has over 600 bytes
+ *    2  wrong number of fields: not 3 (line), not 4 (change), under 2 (mapping), none (override list)
+ *    3  a label is not well formed
+ *    4  an access field has a byte that is not allowed there
+ *    5  subject equals object
+ *    6  more new labels than free label places
+ *    7  256 rules are stored, and the pair has none
  *    8  the request is empty or has another byte than r w x a, either case
- *    9  a level is not 0 to 255, or a category not 1 to 63
- *   10  32 mappings are stored, and the label has none                          11  over 8 different labels in an override list
- *   12  the lent output is too short        13  no rule or label of that number
+ *    9  a level is not 0 to 255 or a category not 1 to 63; in a write each is 1 to 3 digits
+ *   10  32 mappings are stored, and the label has none
+ *   11  over 8 different labels in an override list
+ *   12  the lent output is too short
+ *   13  no rule or label of that number
  *
  * Text is bytes with a length and no closing zero. A label has 1 to 255 bytes, each from 33 to 126, none of / \ ' ", and does not begin
  * with a dash.
@@ -162,7 +168,9 @@ bq_finished bq_end(uint8_t *labels, size_t labels_len, uint8_t *entries, size_t 
 
 /* ---- single writes: each is a whole buffer of at most 600 bytes, fields with blanks between */
 
-/* Change: subject, object, modes to allow, modes to deny. Refusals: 0 1 2 3 4 5 6 7. */
+/* Change: subject, object, modes to allow, modes to deny. The pair's new modes are (old or allow) without deny; a pair with no rule starts
+ * from none and goes last. Letters are r w x a t and the dash, either case; b is refused with 4, and a stored b stays.
+ * Refusals: 0 1 2 3 4 5 6 7. */
 bq_written bq_change(uint8_t *labels, size_t labels_len, uint8_t *entries, size_t entries_len, uint64_t *words, size_t words_len,
                      const uint8_t *text, size_t text_len);
 
