@@ -43,8 +43,9 @@ def category(n):
 
 
 class Script:
-    def __init__(self, name, about):
-        self.name, self.lines = name, ["# " + about]
+    def __init__(self, name, about, short=False):
+        """`short`: as stored, calls in a row that expect the same stand under one line `# expect from here`; then from_here() is not to be used."""
+        self.name, self.lines, self.short, self.buffer = name, ["# " + about], short, b"\xee" * (12 if short else 20)
 
     def say(self, text):
         self.lines.append("# " + text)
@@ -55,6 +56,7 @@ class Script:
         self.lines.append(text)
 
     def from_here(self, expect):
+        assert not self.short
         self.lines.append("# expect from here: " + expect)
 
     def fresh(self):
@@ -96,8 +98,9 @@ class Script:
     def ask(self, subject, object_, request, expect, capable=0):
         self.call("question %s %s %s %d" % (w(subject), w(object_), w(request), capable), expect)
 
-    def list(self, k, expect=None, buffer=b"\xee" * 20):
+    def list(self, k, expect=None, buffer=None):
         """`expect` is the line that is listed, or the number of a refusal."""
+        buffer = self.buffer if buffer is None else buffer
         if isinstance(expect, bytes):
             said = "length %d %s" % (len(expect), h(expect + buffer[len(expect):]))
         else:
@@ -113,7 +116,30 @@ class Script:
     def poke(self, part, at, value):
         self.call("poke %s %d %s" % (part, at, value if isinstance(value, str) else h(value) if isinstance(value, bytes) else value), "done")
 
+    def shortened(self):
+        made, here, expect, calls = [], None, None, []
+        for line in self.lines:
+            if line.startswith("# expect: "):
+                expect = line[len("# expect: "):]
+            elif line.startswith("# "):
+                calls.append((None, line))
+            else:
+                calls.append((expect, line))
+                expect = None
+        for k, (expect, line) in enumerate(calls):
+            if not line.startswith("# ") and expect != here:
+                following = [e for e, other in calls[k + 1:k + 8] if not other.startswith("# ")]
+                if expect is None or not expect.startswith("same ") and following.count(expect) > following.count(here):
+                    here = expect
+                    made.append("# expect from here: " + (here or "any"))
+                else:
+                    made.append("# expect: " + expect)
+            made.append(line)
+        return made
+
     def store(self):
+        if self.short:
+            self.lines = self.shortened()
         path = os.path.join(CORPUS, self.name + ".calls")
         text = ("\n".join(self.lines) + "\n").encode()
         with open(path, "wb") as f:
@@ -1290,6 +1316,734 @@ def programs():
 
 
 # ---------------------------------------------------------------------------------------------------------------------------------------------
+# Whole ranges: each length, each byte, each place, each bit. Where an input is made by a loop, what 01 says of it is worked out by the functions below.
+# ---------------------------------------------------------------------------------------------------------------------------------------------
+
+LABEL_BYTES = [b for b in range(33, 127) if b not in b"/\\'\""]
+
+
+def cut(text):
+    """The fields of a line or write."""
+    return [f for f in text.replace(b"\t", b" ").split(b" ") if f]
+
+
+def is_label(field):
+    return 1 <= len(field) <= 255 and all(b in LABEL_BYTES for b in field) and field[:1] != b"-"
+
+
+def is_access(field, letters):
+    return all(b in letters.lower() + letters.upper() + b"-" for b in field)
+
+
+def is_number(field, low, high):
+    return 1 <= len(field) <= 3 and all(b in b"0123456789" for b in field) and low <= int(field) <= high
+
+
+def says_change(text):
+    f = cut(text)
+    if len(text) > 600:
+        return "refused 1"
+    if len(f) != 4:
+        return "refused 2"
+    if not (is_label(f[0]) and is_label(f[1])):
+        return "refused 3"
+    if not (is_access(f[2], b"rwxat") and is_access(f[3], b"rwxat")):
+        return "refused 4"
+    return "refused 5" if f[0] == f[1] else "done"
+
+
+def says_override(text):
+    f = cut(text)
+    if len(text) > 600:
+        return "refused 1"
+    if not f:
+        return "refused 2"
+    if f == [b"-"]:
+        return "done"
+    return "refused 3" if not all(is_label(x) for x in f) else "refused 11" if len(set(f)) > 8 else "done"
+
+
+def says_mapping(text):
+    f = cut(text)
+    if len(text) > 600:
+        return "refused 1"
+    if len(f) < 2:
+        return "refused 2"
+    if not is_label(f[0]):
+        return "refused 3"
+    return "done" if is_number(f[1], 0, 255) and all(is_number(c, 1, 63) for c in f[2:]) else "refused 9"
+
+
+def says_revoke(text, rules):
+    """`rules`: how many rules have which subject."""
+    return "refused 1" if len(text) > 600 else "refused 3" if not is_label(text) else "revoked %d" % rules.get(text, 0)
+
+
+def listed_modes(letters):
+    return b"".join(bytes([c]) for c in b"rwxatb" if c in letters.lower()) or b"-"
+
+
+def ranges_access():
+    s = Script("bytes_access", "01, Modes: access fields and requests of any length; each letter and a bad byte at each place; each change of modes.", True)
+    s.fresh()
+    s.line(b"A B -", None)
+    s.say("Repeats allowed, so a field has any length: one letter, dashes, all letters.")
+    for n in list(range(1, 21)) + [32, 33, 64, 65, 128, 129, 255, 256, 257, 512, 513]:
+        for field in (b"r" * n, b"-" * n, (b"bTaXwR" * n)[:n]):
+            s.line(b"A B " + field, None)
+            s.list(0, b"A B " + listed_modes(field) + b"\n")
+            field = field.replace(b"b", b"A")
+            s.line(b"A B rwxatb", None)
+            s.change(b"A B - " + field)
+            s.list(0, b"A B " + listed_modes(bytes(c for c in b"rwxatb" if c not in field.lower())) + b"\n")
+            s.line(b"A B -", None)
+            s.change(b"A B " + field + b" -")
+            s.list(0, b"A B " + listed_modes(field) + b"\n")
+    for n in (590, 596):
+        s.line(b"A B " + b"x" * n, None)
+        s.change(b"A B " + b"x" * (n - 2) + b" -")
+        s.change(b"A B - " + b"x" * (n - 2))
+        s.list(0, b"A B -\n")
+    s.say("The letter at each place of a field counts, and a bad byte at each place is seen.")
+    for n, places in ((26, range(26)), (594, (255, 256, 593))):
+        for p in places:
+            before, behind = b"-" * p, b"-" * (n - p - 1)
+            s.line(b"A B " + before + b"w" + behind, None)
+            s.list(0, b"A B w\n")
+            s.change(b"A B " + before + b"t" + behind + b" -")
+            s.list(0, b"A B wt\n")
+            s.change(b"A B - " + before + b"w" + behind)
+            s.list(0, b"A B t\n")
+            s.line(b"A B " + before + b"q" + behind, 4)
+            s.change(b"A B " + before + b"b" + behind + b" -", "refused 4")
+            s.change(b"A B - " + before + b"b" + behind, "refused 4")
+            before, behind = b"r" * p, b"r" * (n - p - 1)
+            s.line(b"A B " + before + b"l" + behind, 4)
+            s.change(b"A B " + before + b"q" + behind + b" -", "refused 4")
+            s.change(b"A B - " + before + b"q" + behind, "refused 4")
+            s.list(0, b"A B t\n")
+            s.ask(b"A", b"A", before + b"q" + behind, "refused 8")
+            s.ask(b"A", b"A", before + b"-" + behind, "refused 8")
+            s.ask(b"^", b"A", before + b"w" + behind, "denied 7")
+    s.say("New modes are (old modes or allow) without deny: each letter allowed, each denied, from none, all and each letter alone; a stored b stays.")
+    for old in [b"-", b"rwxatb"] + [bytes([c]) for c in b"rwxatb"]:
+        for allow in b"rwxat-":
+            for deny in b"rwxat-":
+                s.line(b"A B " + old, None)
+                s.change(b"A B %c %c" % (allow, deny))
+                s.list(0, b"A B " + listed_modes(bytes(c for c in b"rwxatb" if (c in old or c == allow) and c != deny)) + b"\n")
+    for k in range(32):
+        some = bytes(c for i, c in enumerate(b"rwxat") if k >> i & 1)
+        s.call("fresh", "done")
+        s.change(b"A B %s -" % (some or b"-").upper())
+        s.list(0, b"A B " + listed_modes(some) + b"\n")
+        s.line(b"A B rwxatb", None)
+        s.change(b"A B - " + (some or b"-"))
+        s.list(0, b"A B " + listed_modes(bytes(c for c in b"rwxatb" if c not in some)) + b"\n")
+    s.store()
+
+
+def ranges_writes():
+    s = Script("bytes_writes", "01, Single writes: every byte before, after and inside a write and a number; numbers; each place of a bad category.", True)
+    s.say("Every byte before and after a write, and before and after the blank at its end. A blank there changes nothing; no other byte is dropped.")
+    for b in range(256):
+        one = bytes([b])
+        s.call("fresh", "done")
+        s.line(b"A B rb", None)
+        more = b < 128 or b in (160, 255)
+        for text in (b"A B x -" + one, one + b"A B x -", b"A B x - " + one, b"A" + one + b"B x -", b"A " + one + b"B x -")[:5 if more else 2]:
+            s.change(text, says_change(text))
+        for text in (b"A" + one, one + b"A", b"A " + one, b"A B" + one + b"C")[:4 if more else 2]:
+            s.override(text, says_override(text))
+        for text in (b"A 9" + one, one + b"A 9", b"A 9 7" + one, b"A 9 " + one, b"A" + one + b"9", b"A" + one + b" 9", b"A 9 7 " + one)[:7 if more else 3]:
+            s.mapping(text, says_mapping(text))
+        s.revoke(b"A" + one, says_revoke(b"A" + one, {one + b"A": 1}))
+        s.revoke(one + b"A", says_revoke(one + b"A", {one + b"A": 1}))
+    s.say("Blanks before, after and between, in each write: as without them.")
+    for blank in (b" ", b"\t", b" \t ", b"\t\t"):
+        s.call("fresh", "done")
+        s.change(blank + blank.join((b"A", b"B", b"rw", b"w")) + blank)
+        s.override(blank + blank.join((b"B", b"C")) + blank)
+        s.mapping(blank + blank.join((b"C", b"9", b"1", b"63")) + blank)
+        s.dump("blanks", True)
+        s.list(0, b"A B r\n")
+        s.bylabel(b"C", "mapping 9 %d 2" % (category(1) | category(63)))
+        s.override(blank + b"-" + blank)
+        s.ask(b"A", b"B", b"w", "override 7", 1)
+        for text in (blank + b"A", b"A" + blank, blank + b"A" + blank, b"A" + blank + b"B"):
+            s.revoke(text, "refused 3")
+        s.list(0, b"A B r\n")
+    s.say("Every byte in a level and in a category.")
+    s.fresh()
+    for b in range(256):
+        one = bytes([b])
+        for text in (b"V 1" + one, b"V 9 " + one, b"V " + one, b"V " + one + b"1", b"V 1" + one + b"1", b"V 9 1" + one, b"V 9 " + one + b"1", b"V 9 0" + one + b"1",
+                     b"V 9 1 2 3 " + one)[:9 if b < 128 else 2]:
+            s.mapping(text, says_mapping(text))
+    s.say("Each number up to 330, and others of three digits, as a level and as a category; with leading zeros; of four digits.")
+    for n in list(range(331)) + list(range(331, 1000, 6)) + [511, 512, 513, 575, 576, 767, 768, 769, 999]:
+        text = b"V %d" % n
+        s.mapping(text, says_mapping(text))
+        if n < 256:
+            s.bylabel(b"V", "mapping %d 0 0" % n)
+        if n < 100 and n % 7 < 2:
+            s.mapping(b"V %03d" % n)
+            s.mapping(b"V %04d" % n, "refused 9")
+            s.mapping(b"V 9 %04d" % n, "refused 9")
+            s.mapping(b"V 9 %03d" % n, says_mapping(b"V 9 %03d" % n))
+        text = b"V 9 %d" % n
+        s.mapping(text, says_mapping(text))
+        if 1 <= n <= 63:
+            s.bylabel(b"V", "mapping 9 %d 1" % category(n))
+    for n in (1001, 1009, 4096, 10000, 65536, 65537, 65545, 4294967296, 4294967297, 4294967305, 18446744073709551617):
+        s.mapping(b"V %d" % n, "refused 9")
+        s.mapping(b"V 9 %d" % n, "refused 9")
+    s.say("Categories in any order and number; a bad one at each place.")
+    for n in range(1, 64):
+        s.mapping(b"V %d " % n + b" ".join(b"%d" % c for c in range(1, n + 1)))
+        s.bylabel(b"V", "mapping %d %d %d" % (n, sum(category(c) for c in range(1, n + 1)), n))
+        s.mapping(b"V %d " % n + b" ".join(b"%d" % c for c in range(63, n - 1, -1)))
+        s.bylabel(b"V", "mapping %d %d %d" % (n, sum(category(c) for c in range(n, 64)), 64 - n))
+    s.mapping(b"V 3 5 9 5 1 9 63 1")
+    s.bylabel(b"V", "mapping 3 %d 4" % sum(category(c) for c in (1, 5, 9, 63)))
+    for n in list(range(1, 13)) + [63, 190]:
+        for p in range(n) if n < 60 else (0, n - 1):
+            for bad in (b"0", b"64", b"257", b"x"):
+                s.mapping(b"V 9 " + b" ".join([b"7"] * p + [bad] + [b"8"] * (n - p - 1)), "refused 9")
+            s.mapping(b"V 256 " + b" ".join([b"7"] * n), "refused 9")
+    s.bylabel(b"V", "mapping 3 %d 4" % sum(category(c) for c in (1, 5, 9, 63)))
+    s.store()
+
+
+def ranges_labels():
+    s = Script("bytes_labels", "01, Labels: lengths, a bad byte at each place, and two labels that differ in one byte alone, for each byte.", True)
+    for n in list(range(1, 40)) + list(range(40, 256, 5)):
+        s.bylabel(b"L" * n, "none")
+    for n in (256, 257, 511, 512, 513):
+        long = b"L" * n
+        s.bylabel(long, "refused 3")
+        s.revoke(long, "refused 3")
+        s.ask(long, b"B", b"r", "refused 3")
+        s.ask(b"B", long, b"r", "refused 3")
+        s.ask(long, long, b"r", "refused 3")
+        s.line(long + b" B r", 3)
+        s.line(b"B " + long + b" r", 3)
+        s.change(long + b" B r -", "refused 3")
+        s.change(b"B " + long + b" r -", "refused 3")
+        s.override(b"B " + long, "refused 3")
+        s.mapping(long + b" 9", "refused 3")
+    for n in (768, 1024, 65541):
+        s.bylabel(b"L" * n, "refused 3")
+    s.label(5, 13)
+    for k in range(255):
+        behind = min(k % 3, 254 - k)
+        s.bylabel(b"m" * k + b"/" + b"m" * behind, "refused 3")
+        if k % 16 < 2 or k == 254:
+            s.bylabel(b"m" * k + b"-" + b"m" * behind, "none" if k else "refused 3")
+    s.say("255 bytes, one of them another: looked up, asked about, revoked.")
+    base = b"m" * 255
+    s.fresh()
+    s.line(base + b" B r", None)
+    s.change(b"B " + base + b" r -")
+    s.mapping(base + b" 9")
+    s.override(base)
+    for k in range(255):
+        other = [b"m" * k + c + b"m" * (254 - k) for c in (b"M", b"n", b"l")]
+        s.bylabel(other[k % 3], "none")
+        length = min(k + 1 + k % 3, 255)
+        s.ask(base[:length], other[k % 2 * 2][:length], b"r", "denied 7")
+        if k % 15 == 0 or k > 252:
+            s.revoke(other[k % 3], "revoked 0")
+            s.ask(other[(k + 1) % 3], b"B", b"r", "denied 7", 1)
+            s.ask(b"B", other[0], b"r", "denied 7", 1)
+    s.ask(base, b"B", b"r", "granted 6")
+    s.ask(b"B", base, b"r", "granted 6")
+    s.revoke(base, "revoked 1")
+    s.say("The same with labels of 26 bytes in each write: they are two labels, and each has its own rule, mapping and place in the list.")
+    base = b"m" * 26
+    for k in range(26):
+        other = b"m" * k + (b"M" if k % 2 else b"n") + b"m" * (25 - k)
+        s.call("fresh", "done")
+        s.line(base + b" " + other + b" r", None)
+        s.change(other + b" " + base + b" w -")
+        s.list(1, other + b" " + base + b" w\n", b"\xee" * 90)
+        s.override(base + b" " + other)
+        s.mapping(base + b" 9")
+        s.mapping(other + b" 8")
+        s.bylabel(base, "mapping 9 0 0")
+        s.bylabel(other, "mapping 8 0 0")
+        s.ask(base, other, b"w", "override 7", 1)
+        s.ask(other, base, b"r", "override 7", 1)
+        s.ask(base[1:], base, b"r", "denied 7", 1)
+        s.override(other)
+        s.ask(base, other, b"w", "denied 7", 1)
+        s.label(5, base)
+        s.label(6, other)
+        s.label(7, 13)
+        s.revoke(base, "revoked 1")
+        s.ask(other, base, b"w", "granted 6")
+    s.say("Each letter in both cases: two labels.")
+    for b in range(65, 91):
+        one, two = bytes([b]), bytes([b + 32])
+        s.call("fresh", "done")
+        s.override(one + b" " + two)
+        s.label(5, one)
+        s.label(6, two)
+        s.ask(one, two, b"r", "override 7", 1)
+        s.line(one + b" " + two + b" r", None)
+        s.change(two + b" " + one + b" w -")
+        s.ask(one, two, b"w", "denied 7")
+        s.ask(two, one, b"w", "granted 6")
+        s.revoke(one, "revoked 1")
+        s.bylabel(one, "none")
+    s.say("Repeats in an override list: equal in all bytes, and only then.")
+    for text in (b"a%db", b"%dab", b"ab%d", b"aaaaaaaaaaaaaaaaaaaaaaaa%dbbbbbbbbbbbbbbbbbbbbbbbb"):
+        s.call("fresh", "done")
+        eight = [text % k for k in range(8)]
+        s.override(b" ".join(eight))
+        for k, label in enumerate(eight):
+            s.label(5 + k, label)
+            s.ask(label, b"X", b"w", "override 7", 1)
+        s.ask(text % 8, b"X", b"w", "denied 7", 1)
+        s.override(b" ".join(eight + [text % 8]), "refused 11")
+        s.override(b" ".join(eight + eight[:1]))
+        s.override(b" ".join(reversed(eight)))
+        s.label(13, 13)
+    s.store()
+
+
+def ranges_questions():
+    s = Script("questions_more", "01, Questions: labels that begin or end as a special one; rules with b beside the rules before 6; a rule of a label with itself; lists of each length.", True)
+    names = [b"**", b"^^", b"__", b"??", b"@@", b"*x", b"^x", b"_x", b"x*", b"x^", b"x_", b"*_", b"_*", b"^*", b"*^", b"_^", b"^_"]
+    for first in range(2):
+        for a in names:
+            for b in names + [b"Air"]:
+                for request in (b"r", b"w"):
+                    s.ask(a, b, request, "granted 5" if a == b else "denied 7")
+            s.ask(a, b"_", b"rx", "granted 3")
+            s.ask(a, b"_", b"w", "denied 7")
+            s.ask(b"^", a, b"rx", "granted 2")
+            s.ask(b"^", a, b"w", "denied 7")
+            s.ask(a, b"*", b"w", "granted 4")
+            s.ask(b"*", a, b"r", "denied 1")
+            s.ask(b"Air", a, b"r", "denied 7")
+            s.ask(a, b"Air", b"r", "override 7", 1)
+        if not first:
+            s.say("The same with the labels stored.")
+            for k in range(0, len(names), 8):
+                s.override(b" ".join(names[k:k + 8]))
+            s.override(b"-")
+    s.say("Each of them has rules like any other.")
+    for k, a in enumerate(names):
+        s.line(a + b" Air rb", None)
+        s.line(b"Air " + a + b" w", None)
+        s.ask(a, b"Air", b"r", "granted 6 b")
+        s.ask(a, b"Air", b"w", "denied 7")
+        s.ask(b"Air", a, b"w", "granted 6")
+        s.ask(b"Air", a, b"r", "denied 7")
+        s.revoke(a, "revoked 1")
+        s.ask(a, b"Air", b"r", "denied 7")
+    s.say("Rules that would grant with b: the rules before 6 decide first, and tell no b.")
+    s.fresh()
+    s.piece(b"^ A rwxatb\nA _ rwxatb\nA * rwxatb\n* A rwxatb\n^ _ rwxatb\n^ * rwxatb\n* _ rwxatb\n_ ^ rwxatb\n")
+    for capable in (0, 1):
+        denied = "override" if capable else "denied"
+        for a, b, request, answer in ((b"^", b"A", b"r", "granted 2"), (b"^", b"A", b"xr", "granted 2"), (b"^", b"A", b"rw", "granted 6 b"), (b"^", b"A", b"a", "granted 6 b"),
+                                      (b"A", b"_", b"r", "granted 3"), (b"A", b"_", b"rxa", "granted 6 b"), (b"A", b"*", b"r", "granted 4"), (b"A", b"*", b"rwxa", "granted 4"),
+                                      (b"*", b"A", b"r", denied + " 1"), (b"*", b"_", b"r", denied + " 1"), (b"*", b"_", b"w", denied + " 1"), (b"^", b"_", b"r", "granted 2"),
+                                      (b"^", b"_", b"w", "granted 6 b"), (b"^", b"*", b"r", "granted 2"), (b"^", b"*", b"w", "granted 4"), (b"_", b"^", b"r", "granted 6 b"),
+                                      (b"^", b"^", b"r", "granted 2"), (b"^", b"^", b"w", "granted 5"), (b"_", b"_", b"r", "granted 3"), (b"_", b"_", b"w", "granted 5")):
+            s.ask(a, b, request, answer, capable)
+    s.say("A lent rule of a label with itself: rule 5 decides before it, whatever its modes.")
+    for number, label in enumerate(FIVE + [b"A"]):
+        for modes in (0, 32, 60, 61, 63):
+            s.fresh()
+            s.line(b"A B r", None)
+            s.poke("entries", 0, bytes([number]))
+            s.poke("entries", 256, bytes([number]))
+            s.poke("entries", 512, bytes([modes]))
+            for request in (b"r", b"w", b"rwxa"):
+                small = request == b"r"
+                s.ask(label, label, request, "denied 1" if label == b"*" else "granted 2" if label == b"^" and small else "granted 3" if label == b"_" and small else "granted 5")
+    s.say("Equal but for the case, or for the last byte: not equal.")
+    for a, b in ((b"A", b"a"), (b"Door", b"door"), (b"Door", b"DOOR"), (b"Q" * 255, b"q" * 255), (b"Q" * 255, b"Q" * 254 + b"R"), (b"Q" * 255, b"Q" * 254), (b"Q" * 255, b"R" + b"Q" * 254)):
+        s.ask(a, b, b"r", "denied 7")
+        s.ask(b, a, b"r", "denied 7")
+    s.say("Override counts only after a denial, under a list of each length, and for each place in the list.")
+    s.fresh()
+    eight = [b"P%d" % k for k in range(8)]
+    s.piece(b"".join(b"%s Air rb\n" % p for p in eight))
+    for n in range(9):
+        s.override(b" ".join(eight[:n]) or b"-")
+        for k, p in enumerate(eight):
+            s.ask(p, b"Air", b"r", "granted 6 b", 1)
+            s.ask(p, b"Air", b"w", "override 7" if n == 0 or k < n else "denied 7", 1)
+            s.ask(p, b"Air", b"w", "denied 7")
+            s.ask(p, p, b"w", "granted 5", 1)
+        s.ask(b"*", b"Air", b"r", "denied 1" if n else "override 1", 1)
+        s.ask(b"Air", b"P0", b"r", "denied 7" if n else "override 7", 1)
+    s.store()
+
+
+def ranges_refusals():
+    s = Script("refusals_enter", "01: a refusal leaves the tables unchanged: no label enters by it. New labels in each write, with places free. And each mixture of what is wrong.", True)
+    nine = b" ".join(b"N%d" % k for k in range(9))
+    wrong = {"line": ((b"New1", 2), (b"New1 New2", 2), (b"New1 New2 r r", 2), (b"New1 A/ r", 3), (b"A/ New1 r", 3), (b"New1 -A r", 3), (b"-A New1 r", 3), (b"New1 A/ q", 3),
+                      (b"New1 " + b"L" * 256 + b" r", 3), (b"New1 New2 q", 4), (b"New1 New2 rl", 4), (b"New1 New1 r", 5), (b"New1 New2 r" + b" " * 600, 1)),
+             "change": ((b"New1", 2), (b"New1 New2", 2), (b"New1 New2 r", 2), (b"New1 New2 r r r", 2), (b"New1 A/ r -", 3), (b"A/ New1 r -", 3), (b"New1 -A r -", 3), (b"-A New1 r -", 3),
+                        (b"New1 A/ q -", 3), (b"New1 A/ - q", 3), (b"New1 New2 q -", 4), (b"New1 New2 - q", 4), (b"New1 New2 b -", 4), (b"New1 New1 r -", 5), (b"New1 New2 r -" + b" " * 600, 1)),
+             "override": ((b"New1 A/", 3), (b"A/ New1", 3), (b"New1 -", 3), (b"- New1", 3), (b"New1 New2 -A", 3), (b"-A New1", 3), (nine, 11), (b"_ " + nine, 11), (b"New1" + b" " * 600, 1)),
+             "mapping": ((b"New1", 2), (b"-New1 9", 3), (b"New1/ 9", 3), (b"-New1 9 1", 3), (b"New1 256", 9), (b"New1 9 64", 9), (b"New1 9 1 0", 9), (b"New1 x", 9), (b"New1 9" + b" " * 600, 1))}
+    for free, note in ((59, "a fresh table"), (30, "34 labels"), (2, "62 labels"), (1, "63 labels")):
+        s.say(note)
+        s.fresh()
+        labels_to(s, 64 - free)
+        s.dump("free %d" % free, True)
+        for name in wrong:
+            for text, number in wrong[name]:
+                if name == "line":
+                    s.line(text, number)
+                else:
+                    s.call(name + " " + h(text), "refused %d" % number)
+                s.label(64 - free, 13)
+        s.dump("free %d" % free, True)
+        s.say("A label that is only asked about does not enter.")
+        s.ask(b"New1", b"New2", b"r", "denied 7")
+        s.ask(b"New1", b"New1", b"r", "granted 5")
+        s.bylabel(b"New1", "none")
+        s.revoke(b"New1", "revoked 0")
+        s.dump("free %d" % free, True)
+    s.say("6 with places free, but too few: none enters, and the list stays.")
+    for free in range(0, 8):
+        s.fresh()
+        labels_to(s, 64 - free)
+        s.override(b"L05 _")
+        s.dump("few %d" % free, True)
+        s.override(b" ".join(b"N%d" % k for k in range(free + 1)), "refused 6")
+        s.override(b" ".join([b"_", b"_"][:2 if free < 7 else 0] + [b"N%d" % k for k in range(free + 1)]), "refused 6")
+        if free < 2:
+            s.line(b"New1 New2 r", 6)
+            s.change(b"New1 New2 r -", "refused 6")
+        if free < 1:
+            for a, b in ((b"New1", b"L05"), (b"L05", b"New1"), (b"_", b"New1"), (b"New1", b"*")):
+                s.line(a + b" " + b + b" r", 6)
+                s.change(a + b" " + b + b" r -", "refused 6")
+            s.mapping(b"New1 9", "refused 6")
+        s.label(64 - free, 13)
+        s.dump("few %d" % free, True)
+        if free:
+            s.override(b" ".join([b"N0"] * 3 + [b"N%d" % k for k in range(free)]))
+            s.label(63, b"N%d" % (free - 1))
+    s.say("7 and 10 with label places free: no label enters.")
+    full(s, 60, 256, 32)
+    s.dump("sixty", True)
+    for a, b in ((b"New1", b"New2"), (b"New1", b"L05"), (b"L05", b"New1"), (b"L40", b"L41")):
+        s.line(a + b" " + b + b" r", 7)
+        s.change(a + b" " + b + b" r -", "refused 7")
+    s.mapping(b"New1 9", "refused 10")
+    s.mapping(b"L59 9", "refused 10")
+    s.label(60, 13)
+    s.dump("sixty", True)
+    s.say("Each mixture of bad labels, bad access fields, bad numbers and a bad request, in tables with room.")
+    s.fresh()
+    s.line(b"A B r", None)
+    s.dump("mixtures", True)
+    for bad in (b"A/", b"-A", b"A\x00"):
+        for k in range(1, 16):
+            a, b = bad if k & 1 else b"A", bad if k & 2 else b"B"
+            c, d = b"q" if k & 4 else b"r", b"q" if k & 8 else b"w"
+            s.change(b" ".join((a, b, c, d)), "refused 3" if k & 3 else "refused 4")
+            s.change(b" ".join((a, b, c)), "refused 2")
+            if k < 8:
+                s.line(b" ".join((a, b, c)), 3 if k & 3 else 4)
+                s.ask(a, b, c, "refused 3" if k & 3 else "refused 8", k & 1)
+                s.mapping(b" ".join((a, b"256" if k & 2 else b"9", b"64" if k & 4 else b"1")), "refused 3" if k & 1 else "refused 9")
+    s.dump("mixtures", True)
+    s.say("A length counts whole: 65536 bytes and some more are over 600.")
+    for name in ("revoke", "change", "override", "mapping"):
+        s.call(name + " =" + "A" * 65541, "refused 1")
+    s.dump("mixtures", True)
+    s.say("A line that ends leaves the kept bytes as they came, whatever the first one is.")
+    for b in (0, 1, 8, 11, 13, 26, 27, 31, 33, 35, 45, 63, 65, 92, 126, 127, 128, 255):
+        s.fresh()
+        s.piece(bytes([b]) + b"\n")
+        s.dump("first byte %d" % b)
+        s.fresh()
+        s.poke("line", 0, bytes([b]))
+        for index, value in ((1, 1), (4, 1), (5, 1), (6, 2)):
+            s.poke("loader", index, value)
+        s.dump("first byte %d" % b)
+    s.store()
+
+    s = Script("refusals_revoke", "01, Revoke: every rule with that subject, at each place, gets no modes; the others keep theirs; the count is of all of them.", True)
+    s.say("Each of the five, and every mode, b too.")
+    s.fresh()
+    for k, label in enumerate(FIVE):
+        s.line(label + b" A rwxatb", None)
+        s.revoke(label, "revoked 1")
+        s.list(k, label + b" A -\n")
+        s.revoke(label, "revoked 1")
+    s.revoke(b"A", "revoked 0")
+    s.call("fresh", "done")
+    for k in range(64):
+        access = bytes(c for i, c in enumerate(b"rwxatb") if k >> i & 1) or b"-"
+        s.line(b"A B " + access, None)
+        s.revoke(b"B", "revoked 0")
+        s.list(0, b"A B " + access + b"\n")
+        s.revoke(b"A", "revoked 1")
+        s.list(0, b"A B -\n")
+    s.say("256 rules. At place k alone the subject is L30, for each k.")
+    full(s, 64, 256, 0)
+    s.dump("sound")
+    for k, (a, b) in enumerate(pairs()[:256]):
+        s.poke("entries", k, b"\x1e")
+        s.poke("entries", 512 + k, b"\x3f")
+        s.revoke(b"L30", "revoked 1")
+        s.list(k, b"L30 " + b + b" -\n")
+        s.poke("entries", k, bytes([int(a[1:])]))
+        s.poke("entries", 512 + k, b"\x20")
+        if k % 16 == 15:
+            s.dump("sound")
+    s.say("n rules of one subject among 256, from place 0 on and up to place 255.")
+    for n in (1, 2, 127, 128, 129, 200, 254, 255, 256):
+        for start in sorted({0, 256 - n}):
+            s.poke("entries", 0, bytes(int(a[1:]) for a, b in pairs()[:256]))
+            s.poke("entries", 512, b"\x3f" * 256)
+            s.poke("entries", start, b"\x1e" * n)
+            s.revoke(b"L31", "revoked 0")
+            s.revoke(b"L30", "revoked %d" % n)
+            for k in sorted({0, start, max(0, start - 1), start + n - 1, min(255, start + n), 255}):
+                a, b = pairs()[k]
+                inside = start <= k < start + n
+                s.list(k, b"%s %s %s\n" % (b"L30" if inside else a, b, b"-" if inside else b"rwxatb"), b"\xee" * 20)
+            s.dump("revoked %d %d" % (n, start))
+            s.poke("entries", 512 + start, b"\x00" * n)
+            s.dump("revoked %d %d" % (n, start))
+    s.store()
+
+
+def ranges_look_ups():
+    s = Script("limits_look_ups", "01: a mapping by level and set, in the table and in a run: both equal in each bit; each record counts; over 255 is refused 9.", True)
+    s.say("An unmapped label has no level and no set.")
+    s.fresh()
+    labels_to(s, 12)
+    s.bylevel(0, 0, "none")
+    s.mapping(b"L08 1")
+    s.bylevel(0, 0, "none")
+    s.mapping(b"L10 0")
+    s.bylevel(0, 0, "label 10")
+    s.mapping(b"L10 0 7")
+    s.bylevel(0, 0, "none")
+    sets = [0, HUGE - 1, category(1), category(63), sum(category(c) for c in range(1, 64, 2)), sum(category(c) for c in range(2, 64, 3))]
+    for n, set_ in enumerate(sets):
+        s.say("stored: level %d, set %d; each other bit of the set" % (9 + n, set_))
+        s.call("fresh", "done")
+        s.mapping(b"A %d " % (9 + n) + b" ".join(b"%d" % c for c in range(1, 64) if set_ & category(c)))
+        s.bylevel(9 + n, set_, "label 5")
+        for c in range(1, 64):
+            s.bylevel(9 + n, set_ ^ category(c), "none")
+            if n not in (1, 4):
+                continue
+            s.run(9 + n, set_ ^ category(c), [(5, 9 + n, set_)], "none")
+            s.run(9 + n, set_, [(5, 9 + n, set_ ^ category(c)), (6, 9 + n, set_)], "label 6")
+        for other in sets:
+            s.bylevel(9 + n, other, "label 5" if other == set_ else "none")
+            s.run(9 + n, other, [(5, 9 + n, set_)], "label 5" if other == set_ else "none")
+            s.bylevel(9 + n, other | 1, "refused 9")
+        s.run(9 + n, set_, [(5, 9 + n, set_ | 1)], "none")
+    s.say("Each other bit of the level.")
+    for level in (0, 9, 128, 255):
+        s.call("fresh", "done")
+        s.mapping(b"A %d" % level)
+        s.bylevel(level, 0, "label 5")
+        s.run(level, 0, [(5, level, 0)], "label 5")
+        for bit in range(64):
+            other = level ^ (1 << bit)
+            s.bylevel(other, 0, "none" if other < 256 else "refused 9")
+            s.run(other, 0, [(5, level, 0)], "none" if other < 256 else "refused 9")
+            s.run(other, 0, [(5, other, 0)], "label 5" if other < 256 else "refused 9")
+            s.run(level, 0, [(5, other, 0), (6, other, 0)], "none")
+    for level in range(256):
+        s.mapping(b"A %d" % level)
+        s.bylevel(level, 0, "label 5")
+        s.bylevel(255 - level, 0, "none")
+        s.bylevel(256 + level, 0, "refused 9")
+    s.say("A run: the one record that matches, at each place; and the lowest label number at each place.")
+    for n in (1, 2, 3, 4, 5, 8, 9, 16, 17, 33):
+        for p in range(n):
+            s.run(9, 2, [(7, 9, 2) if k == p else (k % 3, 9, 4) if k % 2 else (k % 3, 8, 2) for k in range(n)], "label 7")
+            s.run(9, 2, [(3, 9, 2) if k == p else (40 + (k * 7) % 13, 9, 2) for k in range(n)], "label 3")
+    for p in (64, 128, 255, 256, 257, 299):
+        s.run(9, 2, [(7, 9, 2) if k == p else (1, 8, 2) for k in range(300)], "label 7")
+    s.say("The lowest mapped label of those that match, at each place of 32.")
+    s.fresh()
+    labels_to(s, 40)
+    for k in range(32):
+        s.mapping(name_of(39 - k) + b" 9 1")
+        s.bylevel(9, category(1), "label %d" % (39 - k))
+    for k in range(8, 40):
+        s.bylevel(9, category(1), "label %d" % k)
+        s.mapping(name_of(k) + b" 9 2")
+        s.bylevel(9, category(2), "label 8")
+    s.bylevel(9, category(1), "none")
+    s.store()
+
+
+def ranges_damage():
+    s = Script("damage_places", "01, refusal 0: each stored place damaged once, all places stored; each count with each bit.", True)
+    calls = [c if len(c) < 100 else "change " + h(b"A B") for c in TABLE_CALLS] + ["list 0 " + "ee" * 20, "list 999 -", "label 5", "label 999"]
+    answers = ["refused 0"] * len(TABLE_CALLS) + ["refused 0 " + "ee" * 20, "refused 0 -", "refused 0 -", "refused 0 -"]
+    turn = 0
+
+    def refused(times=1):
+        nonlocal turn
+        for _ in range(times):
+            s.call(calls[turn % len(calls)], answers[turn % len(calls)])
+            turn += 1
+
+    def sound():
+        full(s)
+        s.override(b" ".join(name_of(k) for k in range(5, 13)))
+        s.dump("sound", True)
+    sound()
+    numbers = [(k, int(pairs()[k][0][1:])) for k in range(256)] + [(256 + k, int(pairs()[k][1][1:])) for k in range(256)]
+    numbers += [(768 + k, k) for k in range(32)] + [(832 + k, 5 + k) for k in range(8)]
+    s.say("A number that names no stored label, at each place.")
+    for at, old in numbers:
+        for value in (64, 65 + at % 191)[:1 if at % 4 else 2]:
+            s.call("poke entries %d %s" % (at, h(bytes([value]))), "done")
+            refused()
+        s.call("poke entries %d %s" % (at, h(bytes([old]))), "done")
+        if at % 32 == 31:
+            s.dump("sound", True)
+    s.say("An unknown mode bit, at each place: each of the two.")
+    for k in range(256):
+        for value in (64 | 32, 128 | 63):
+            s.call("poke entries %d %s" % (512 + k, h(bytes([value]))), "done")
+            refused()
+        s.call("poke entries %d 20" % (512 + k), "done")
+    s.say("An unknown category bit, at each place.")
+    both = category(1) | category(63)
+    for k in range(32):
+        for value in (1, both | 1):
+            s.call("poke words %d %d" % (4 + k, value), "done")
+            refused()
+        s.call("poke words %d %d" % (4 + k, both), "done")
+    s.dump("sound", True)
+    s.say("40 labels: 39 names one, 40 does not.")
+    s.poke("words", 0, 40)
+    for at, old in numbers[::5] + numbers[-8:]:
+        s.call("poke entries %d 27" % at, "done")
+        s.label(39, b"L39")
+        s.call("poke entries %d 28" % at, "done")
+        refused()
+        s.call("poke entries %d %s" % (at, h(bytes([old]))), "done")
+    s.poke("words", 0, 64)
+    s.dump("sound", True)
+    s.say("A count over its limit by each bit. Every entry names a label and every set is sound, so nothing else is damaged; the levels too are under 64.")
+    for index, limit in ((0, 64), (1, 256), (2, 32), (3, 8)):
+        for bit in range(limit.bit_length() - 1, 64):
+            for value in sorted({1 << bit, (1 << bit) + 1, (1 << bit) + limit - 1, (1 << bit) + limit}):
+                if limit < value < 1 << 64:
+                    s.call("poke words %d %d" % (index, value), "done")
+                    refused()
+        for value in (limit + 1, 1000, 65535, MOST, (1 << 63) - 1, HUGE - limit, HUGE):
+            s.call("poke words %d %d" % (index, value), "done")
+            refused(3)
+        s.poke("words", index, limit)
+        s.dump("sound", True)
+    s.say("The same of the kept line's length.")
+    s.call("freshloader", "done")
+    for bit in range(10, 64):
+        for value in (1 << bit, (1 << bit) + 5, (1 << bit) + 601):
+            s.poke("loader", 0, value)
+            s.piece(b"A B w\n" if bit % 2 else b"", "refused 0")
+            s.end("refused 0")
+    s.poke("loader", 0, 0)
+    s.dump("sound", True)
+    s.store()
+
+
+def ranges_counters():
+    s = Script("counters_end", "01: the report's numbers at 4294967295 where the end call itself ends the line.", True)
+    for index, kind, text in ((2, "accepted", b"A B r"), (3, "skipped", b" "), (4, "refused", b"A A r")):
+        for start in (0, MOST - 1, MOST):
+            for before in (b"", b"\n"):
+                s.fresh()
+                s.poke("loader", index, start)
+                if kind == "refused" and start:
+                    s.poke("loader", 5, 7)
+                    s.poke("loader", 6, 3)
+                s.piece(before + text)
+                counts = {2: 0, 3: 0, 4: 0}
+                counts[3] += len(before)
+                counts[index] += start + 1
+                first = (0, 0) if kind != "refused" else (7, 3) if start else (1 + len(before), 5)
+                s.end("report %d %d %d %d %d %d" % (1 + len(before), *(min(counts[i], MOST) for i in (2, 3, 4)), *first))
+                s.end("report 0 0 0 0 0 0")
+    s.say("lines, and the number of the first refused line")
+    for start in (MOST - 2, MOST - 1, MOST):
+        for before in (b"", b"\n"):
+            s.fresh()
+            s.poke("loader", 1, start)
+            s.piece(before + b"A A q")
+            line = min(start + len(before) + 1, MOST)
+            s.end("report %d 0 %d 1 %d 4" % (line, len(before), line))
+    s.say("all at once")
+    for text, reason in ((b"A B r", 7), (b" ", 7), (b"A A r", 7)):
+        s.fresh()
+        for index in range(1, 6):
+            s.poke("loader", index, MOST)
+        s.poke("loader", 6, reason)
+        s.piece(text)
+        s.end("report %d %d %d %d %d %d" % ((MOST,) * 5 + (reason,)))
+        s.end("report 0 0 0 0 0 0")
+    s.store()
+
+
+def ranges_programs():
+    def says(line):
+        """A question after `A B r`: what 01 says of this line. Only lines that begin `A B` or have other fields are asked."""
+        f = cut(line)
+        if len(line) > 600:
+            return "refused 1"
+        if not (len(f) == 3 or len(f) == 4 and f[3] == b"o"):
+            return "refused 2"
+        if not (is_label(f[0]) and is_label(f[1])):
+            return "refused 3"
+        if not all(b in b"rwxaRWXA" for b in f[2]):
+            return "refused 8"
+        if f[0] == f[1]:
+            return "granted 5"
+        return "granted 6" if f[:2] == [b"A", b"B"] and set(f[2].lower()) <= set(b"r") else "override 7" if len(f) == 4 else "denied 7"
+    every = [bytes([b]) for b in range(256) if b != 10]
+    lines = [b"A B w " + one for one in every] + [b"A B w o" + one for one in every] + [b"A B w " + one + b"o" for one in every]
+    program("program_fourth_field", b"A B r\n?\n" + b"\n".join(lines), ["1 1 0 0 0 0"] + [says(line) for line in lines])
+    lines = []
+    for one in every:
+        lines += [b"A B " + one, b"A B r"]
+    program("program_no_loading_by_questions", b"A B r\n?\n" + b"\n".join(lines + [b"A B -", b"A B r", b"A B t", b"A B r", b"A B wt", b"A B w", b"A C r", b"A C r", b"C A r", b"C A r"]),
+            ["1 1 0 0 0 0"] + [says(line) for line in lines] + ["refused 8", "granted 6", "refused 8", "granted 6", "refused 8", "denied 7", "denied 7", "denied 7", "denied 7", "denied 7"])
+    near = [b"**", b"^^", b"__", b"_x", b"*x", b"^x", b"x_", b"x*", b"x^"]
+    lines = [a + b" " + b + b" r" for a in near for b in near]
+    program("program_near_special", b"A B r\n?\n" + b"\n".join(lines), ["1 1 0 0 0 0"] + [says(line) for line in lines])
+    lines = [b"A B r" + b"r" * n for n in range(30)] + [b"A B " + b"-" * n + b"r" for n in range(30)] + [b"A B " + b"r" * n + b"q" for n in range(30)]
+    program("program_long_access", b"".join(line + b"\n" for line in lines) + b"?\n" + b"\n".join(lines), ["90 60 0 30 61 4"] + [says(line) for line in lines])
+
+
+def ranges():
+    ranges_access()
+    ranges_writes()
+    ranges_labels()
+    ranges_questions()
+    ranges_refusals()
+    ranges_look_ups()
+    ranges_damage()
+    ranges_counters()
+    ranges_programs()
+
+
+# ---------------------------------------------------------------------------------------------------------------------------------------------
 # Recordings of a running kernel, where 01 does not decide otherwise
 # ---------------------------------------------------------------------------------------------------------------------------------------------
 
@@ -1431,6 +2185,7 @@ def main():
     cuts()
     thousands()
     programs()
+    ranges()
     folder = os.environ.get("KERNEL_VECTORS")
     if folder:
         kernel(folder)
