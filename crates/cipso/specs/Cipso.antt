@@ -1,6 +1,6 @@
--- 01, Single writes, Mapping, and the paragraph after the single writes: the CIPSO mapping (`cipso2`) of a label to a level and a set of
--- categories. The write with its refusals in their order: 0, 1, 2, 3, 6, 9 and 10. How categories sit in a set stands in the crate numbers, but for the bit that is none (`knownSet`); here a set is spoken of by `noCategories`, `withCategory`,
--- `categories`, `knownSet` and `sameSet` alone. Assumes nothing.
+-- 01, Single writes, Mapping: the CIPSO mapping (`cipso2`) of a label to a level and a set of categories. The write with its refusals in their
+-- order: 0, 1, 2, 3, 9, 6 and 10. How categories sit in a set stands in the crate numbers, but for the bit that is none (`knownSet`); here a set is
+-- spoken of by `noCategories`, `withCategory`, `knownSet` and `sameSet` alone. Assumes nothing.
 use Prim.Native.Nat.{ℕ, _+_, _%_}
 use mathlib.Core.Bool.{Bool, false, cond, _&&_}
 use mathlib.Core.List.{List, [], _∷_, foldl}
