@@ -45,7 +45,7 @@ pub fn read_number(field: &[u8]) -> Number
 }
 
 // The bit of a category, never bit 0. Who calls it has made sure that it is one of the 63: a mapping's categories are checked as they are read.
-pub fn category_bit(n: u64) -> u64
+fn category_bit(n: u64) -> u64
     requires { ⌜ Category n ⌝ }
     ensures { λ r. ⌜ r ≡ categoryBit n ⌝ }
     ensures { λ r. ⌜ r % 2 ≡ 0 ⌝ }

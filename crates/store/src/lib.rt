@@ -31,7 +31,7 @@ pub struct Mapping {
 
 // Whether the first `count` words of a run are all even: no set has the bit that names no category. It reads all of them, so that the
 // compiler can take many at a time. Who calls it has made sure that the run has that many.
-pub fn all_even(run: &[u64], count: usize) -> bool
+fn all_even(run: &[u64], count: usize) -> bool
     requires { ⌜ count ≤ length (now run) ⌝ }
     ensures { λ r. ⌜ r ≡ all (λ x. eqb (x % 2) 0) (take count (now (run .entry))) ⌝ }
 {
