@@ -1,5 +1,6 @@
 -- 01, Labels 1 and 4, and the fields of 'Rule text': the class of a byte, a well-formed label and its first fault, and the fields of a line.
--- The alphabet is that of the kernel's Smack text (source documents 000, 001 and 004); its 23-character limit is overruled. Assumes nothing.
+-- The alphabet is that of the kernel's Smack text (source documents 000, 001 and 004); the 23-character limit of the
+-- first version (source document 003) is overruled. Assumes nothing.
 use Prim.Native.Nat.{ℕ, zero, suc, _+_, _-_}
 use mathlib.Core.Bool.{Bool, true, false, cond, not, _&&_, _||_}
 use mathlib.Core.List.{List, [], _∷_}

@@ -71,3 +71,10 @@ changeLetters = 62
 
 abbrev pub requestLetters : ℕ
 requestLetters = 60
+
+-- r and x, which rules 2 and 3 grant; and b, the bring-up mode
+abbrev pub readExecute : ℕ
+readExecute = 40
+
+abbrev pub bringUpLetter : ℕ
+bringUpLetter = 1

@@ -12,7 +12,7 @@ use Rattle.search.specs.Bytes.{sameBytes}
 use Rattle.search.proofs.Laws.{no, same-equal}
 use Rattle.store.specs.Table.{isPair}
 use Rattle.store.specs.Layout.{labelAt, ruleAt}
-use Rattle.places.specs.Places.{Unlike, NoPair}
+use Rattle.places.specs.Places.{Unlike, NoPair, wordAt, NoWord, NotHeld}
 
 -- ---- a label told by its length and its last byte
 
@@ -41,7 +41,38 @@ module _ (t : List ℕ) (k : ℕ) (size : length t ≡ 16384) (inside : k < 64) 
           ∙ sym (getD-take (getD t (k * 256) 0) (drop (suc (k * 256)) t) m 0 small)
           ∙ sym (ap (λ (x : List ℕ). getD x m 0) (e ∙ held-is))
 
-  -- so a place that differs in one of them holds another label
+  -- and its bytes
+  held-byte : (l : List ℕ) → l ≡ labelAt t k → (j : ℕ) → j < length l → getD t (suc (k * 256) + j) 0 ≡ getD l j 0
+  held-byte l e j h =
+      let n = sym (ap (λ (x : List ℕ). length x) e ∙ held-length) in
+      let small : j < getD t (k * 256) 0 = omega arith in
+      sym (getD-drop (suc (k * 256)) t j 0)
+      ∙ sym (getD-take (getD t (k * 256) 0) (drop (suc (k * 256)) t) j 0 small)
+      ∙ sym (ap (λ (x : List ℕ). getD x j 0) (e ∙ held-is))
+
+  -- and so the four that it ends in
+  held-word : (l : List ℕ) → l ≡ labelAt t k → 4 ≤ length l → wordAt t (k * 256 + (length l - 3)) ≡ wordAt l (length l - 4)
+  unfolding wordAt
+  held-word l e long =
+      let at : (i j : ℕ) → i ≡ suc (k * 256) + j → j < length l → getD t i 0 ≡ getD l j 0 = λ i j q h. ap (λ (x : ℕ). getD t x 0) q ∙ held-byte l e j h in
+      rw (
+        at (k * 256 + (length l - 3)) (length l - 4) (omega arith) (omega arith),
+        at (k * 256 + (length l - 3) + 1) (length l - 4 + 1) (omega arith) (omega arith),
+        at (k * 256 + (length l - 3) + 2) (length l - 4 + 2) (omega arith) (omega arith),
+        at (k * 256 + (length l - 3) + 3) (length l - 4 + 3) (omega arith) (omega arith),
+      )
+
+  -- so a place that differs in them holds another label
+  pub other-word : (l : List ℕ) (word : ℕ) → word ≡ wordAt l (length l - 4) → 4 ≤ length l → eqb (wordAt t (k * 256 + (length l - 3))) word ≡ false → sameBytes l (labelAt t k) ≡ false
+  other-word l word is long e = by-test (sameBytes l (labelAt t k)) refl
+    where
+      by-test : (b : Bool) → sameBytes l (labelAt t k) ≡ b → sameBytes l (labelAt t k) ≡ false
+      by-test true q =
+          let f = eq-eqb (wordAt t (k * 256 + (length l - 3))) word (held-word l (same-equal l (labelAt t k) q) long ∙ sym is) in
+          absurd (no (sym e ∙ f))
+      by-test false q = q
+
+  -- and one that differs in its length or its last byte too
   pub unlike : (l : List ℕ) (last : ℕ) → last ≡ getD (0 ∷ l) (length l) 0 → Unlike t k (length l) last → sameBytes l (labelAt t k) ≡ false
   unlike l last is e = by-test (sameBytes l (labelAt t k)) refl
     where
@@ -53,16 +84,39 @@ module _ (t : List ℕ) (k : ℕ) (size : length t ≡ 16384) (inside : k < 64) 
           absurd (no (sym (rw (g, f) at e)))
       by-test false q = q
 
--- no place up to the next that is like a label, of the stored ones, holds it
-pub none-before :
-    (l t : List ℕ) (last count i j : ℕ) → length t ≡ 16384 → count ≤ 64 → ((k : ℕ) → getD t k 0 ≤ 255) → last ≡ getD (0 ∷ l) (length l) 0 →
-    ((k : ℕ) → k < i → sameBytes l (labelAt t k) ≡ false) → ((k : ℕ) → i ≤ k → k < j → Unlike t k (length l) last) →
-    (k : ℕ) → k < j → k < count → sameBytes l (labelAt t k) ≡ false
-none-before l t last count i j size few bytes is before here k h stored = by-test (ltb k i) refl
+-- the same of the places from an index on: for labels of fewer than four bytes, and for the others
+module _ (l t : List ℕ) (size : length t ≡ 16384) (bytes : (k : ℕ) → getD t k 0 ≤ 255) (i j : ℕ) where
+  pub none-short : (last : ℕ) → last ≡ getD (0 ∷ l) (length l) 0 → ((k : ℕ) → i ≤ k → k < j → Unlike t k (length l) last) → NotHeld t l i j
+  none-short last is here k h m inside = unlike t k size inside (bytes (k * 256)) l last is (here k h m)
+
+  pub none-long : (word : ℕ) → word ≡ wordAt l (length l - 4) → 4 ≤ length l → NoWord t (length l - 3) word i j → NotHeld t l i j
+  none-long word is long here k h m inside = other-word t k size inside (bytes (k * 256)) l word is long (here k h m)
+
+-- places before an index and places from it on
+pub not-held-more : (l t : List ℕ) (i j : ℕ) → ((k : ℕ) → k < i → sameBytes l (labelAt t k) ≡ false) → NotHeld t l i j → (k : ℕ) → k < j → k < 64 → sameBytes l (labelAt t k) ≡ false
+not-held-more l t i j before here k h inside = by-test (ltb k i) refl
   where
     by-test : (c : Bool) → ltb k i ≡ c → sameBytes l (labelAt t k) ≡ false
     by-test true q = before k (ltb-true k i q)
-    by-test false q = unlike t k size (omega arith) (bytes (k * 256)) l last is (here k (ltb-false k i q) h)
+    by-test false q = here k (ltb-false k i q) h inside
+
+pub no-word-more : (t : List ℕ) (offset word from i j : ℕ) → NoWord t offset word from i → NoWord t offset word i j → NoWord t offset word from j
+no-word-more t offset word from i j before here k h m = by-test (ltb k i) refl
+  where
+    by-test : (c : Bool) → ltb k i ≡ c → eqb (wordAt t (k * 256 + offset)) word ≡ false
+    by-test true q = before k h (ltb-true k i q)
+    by-test false q = here k (ltb-false k i q) m
+
+pub no-word-one : (t : List ℕ) (offset word i : ℕ) → eqb (wordAt t (i * 256 + offset)) word ≡ false → NoWord t offset word i (i + 1)
+no-word-one t offset word i h k above below =
+    let same : k ≡ i = omega arith in
+    ap (λ (x : ℕ). eqb (wordAt t (x * 256 + offset)) word) same ∙ h
+
+-- places counted from the first of them
+pub no-word-from : (t : List ℕ) (offset word from n : ℕ) → ((k : ℕ) → k < n → eqb (wordAt t ((from + k) * 256 + offset)) word ≡ false) → NoWord t offset word from (from + n)
+no-word-from t offset word from n h k above below =
+    let same : k ≡ from + (k - from) = omega arith in
+    ap (λ (x : ℕ). eqb (wordAt t (x * 256 + offset)) word) same ∙ h (k - from) (omega arith)
 
 -- ---- a pair sought in blocks of 32 places
 

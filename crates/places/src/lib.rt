@@ -4,13 +4,13 @@ use search::Found;
 ghost use mathlib.Core.Path.{_≡_};
 ghost use mathlib.Core.Bool.{false};
 ghost use mathlib.Core.List.{_∷_};
-ghost use Prim.Native.Nat.{ℕ, _<_, _≤_};
+ghost use Prim.Native.Nat.{ℕ, _+_, _<_, _≤_};
 ghost use lib.ListN.{length, getD};
 ghost use Rattle.search.specs.Search.{first, entries as listed};
 ghost use Rattle.search.specs.Bytes.{sameBytes};
 ghost use Rattle.store.specs.Table.{isPair};
 ghost use Rattle.store.specs.Layout.{labelAt, ruleAt};
-ghost use Rattle.places.specs.Places.{Unlike, NoPair};
+ghost use Rattle.places.specs.Places.{Unlike, NoPair, wordAt, NoWord, NotHeld};
 
 // The very part of the label store that holds label k. Who calls it has tested the store.
 pub fn label_at(labels: &[u8], k: usize) -> &[u8]
@@ -31,9 +31,10 @@ fn last_byte(label: &[u8]) -> u8
     if n == 0 { 0 } else { label[n - 1] }
 }
 
-// The next place from an index on, of the first `count`, that has a label of length n with this last byte, or one past them. Few places have that
-// byte there, and fewer also that length. Who calls it has tested the store and the length.
-fn next_like(labels: &[u8], from: usize, count: usize, n: usize, last: u8) -> usize
+// The next place from an index on, of the first `count`, that has a label of length n with this last byte, or one past them: for labels of
+// fewer than four bytes. Its contract speaks of the places that it passes alone, as do those of the four that follow: the place that it stops at is
+// compared whole. Who calls it has tested the store and the length.
+fn next_short(labels: &[u8], from: usize, count: usize, n: usize, last: u8) -> usize
     requires { ⌜ (length (now labels) ≡ 16384) × (from ≤ 64) × (count ≤ 64) × (n ≤ 255) ⌝ }
     ensures { λ r. ⌜ (from ≤ r) × ((k : ℕ) → from ≤ k → k < r → Unlike (now (labels .entry)) k n last) ⌝ }
 {
@@ -49,19 +50,85 @@ fn next_like(labels: &[u8], from: usize, count: usize, n: usize, last: u8) -> us
     i
 }
 
+// Four bytes from an index on as one number, which the compiler reads at once. Who calls it has made sure that there are four.
+fn word_at(bytes: &[u8], at: usize) -> u32
+    requires { ⌜ at + 4 ≤ length (now bytes) ⌝ }
+    ensures { λ r. ⌜ r ≡ wordAt (now (bytes .entry)) at ⌝ }
+{
+    let low = bytes[at] as u32 + bytes[at + 1] as u32 * 256;
+    low + bytes[at + 2] as u32 * 65536 + bytes[at + 3] as u32 * 16777216
+}
+
+// Whether one of the eight places from an index on has this word at that offset. It reads all of them, so that nothing is done between them.
+// Its contract speaks of "no" alone: after a "yes" they are looked at one by one. Who calls it has tested the store.
+fn eight_have(labels: &[u8], from: usize, offset: usize, word: u32) -> bool
+    requires { ⌜ (length (now labels) ≡ 16384) × (from ≤ 56) × (offset ≤ 252) ⌝ }
+    ensures { λ r. ⌜ (r ≡ false → NoWord (now (labels .entry)) offset word from (from + 8)) ⌝ }
+{
+    let mut any = false;
+    let mut i = 0;
+    while i < 8 {
+        any = any | (word_at(labels, (from + i) * 256 + offset) == word);
+        i += 1;
+    }
+    any
+}
+
+// An index up to which no place from another on has this word at that offset: the first eight places that may have it, or fewer than eight
+// that are left of the first `count`. Who calls it has tested the store.
+fn pass_eights(labels: &[u8], from: usize, count: usize, offset: usize, word: u32) -> usize
+    requires { ⌜ (length (now labels) ≡ 16384) × (from ≤ 64) × (count ≤ 64) × (offset ≤ 252) ⌝ }
+    ensures { λ r. ⌜ (from ≤ r) × NoWord (now (labels .entry)) offset word from r ⌝ }
+{
+    let mut i = from;
+    while i + 8 <= count {
+        if eight_have(labels, i, offset, word) {
+            return i;
+        }
+        i += 8;
+    }
+    i
+}
+
+// The next place from an index on, of the first `count`, that has this word at that offset, or one past them. Who calls it has tested the store.
+fn next_with(labels: &[u8], from: usize, count: usize, offset: usize, word: u32) -> usize
+    requires { ⌜ (length (now labels) ≡ 16384) × (from ≤ 64) × (count ≤ 64) × (offset ≤ 252) ⌝ }
+    ensures { λ r. ⌜ (from ≤ r) × NoWord (now (labels .entry)) offset word from r ⌝ }
+{
+    let mut i = pass_eights(labels, from, count, offset, word);
+    while i < count {
+        if word_at(labels, i * 256 + offset) == word {
+            return i;
+        }
+        i += 1;
+    }
+    i
+}
+
+// The next place from an index on, of the first `count`, that is like a label, or one past them: it ends in the same four bytes. Few others
+// do, whatever they begin with. A shorter label is told by its length and its last byte. Who calls it has tested the store and the length.
+fn next_like(labels: &[u8], from: usize, count: usize, label: &[u8]) -> usize
+    requires { ⌜ (length (now labels) ≡ 16384) × (from ≤ 64) × (count ≤ 64) × (length (now label) ≤ 255) ⌝ }
+    ensures { λ r. ⌜ (from ≤ r) × NotHeld (now (labels .entry)) (now (label .entry)) from r ⌝ }
+{
+    let n = label.len();
+    if n < 4 {
+        return next_short(labels, from, count, n, last_byte(label));
+    }
+    next_with(labels, from, count, n - 3, word_at(label, n - 4))
+}
+
 // The number of a label among the first `count`: the first that has its bytes. Who calls it has tested the store.
 pub fn find_label(labels: &[u8], count: usize, label: &[u8]) -> Found
     requires { ⌜ (length (now labels) ≡ 16384) × (count ≤ 64) ⌝ }
     ensures { λ r. ⌜ r ≡ first (sameBytes (now (label .entry))) (listed (labelAt (now (labels .entry))) count) ⌝ }
 {
-    let n = label.len();
-    if 255 < n {
+    if 255 < label.len() {
         return Found::Nothing;
     }
-    let last = last_byte(label);
     let mut i = 0;
     while i < count {
-        let k = next_like(labels, i, count, n, last);
+        let k = next_like(labels, i, count, label);
         if count <= k {
             return Found::Nothing;
         }
@@ -90,8 +157,8 @@ fn block_holds(entries: &[u8], from: usize, subject: u8, object: u8) -> bool
     any
 }
 
-// An index before which no place holds the pair: the first block of 32 that may hold it, or one past the stored ones. Who calls it has tested
-// the store.
+// An index before which no place holds the pair: the first block of 32 that may hold it, or where the blocks of the stored ones
+// end. Its contract speaks of the places before it alone: from there on they are looked at one by one. Who calls it has tested the store.
 fn pass_blocks(entries: &[u8], count: usize, subject: u8, object: u8) -> usize
     requires { ⌜ (length (now entries) ≡ 840) × (count ≤ 256) ⌝ }
     ensures { λ r. ⌜ NoPair subject object (now (entries .entry)) 0 r ⌝ }

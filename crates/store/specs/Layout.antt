@@ -3,7 +3,7 @@
 --   entries  the rules' subjects from 0, their objects from 256, their modes from 512; the mappings' labels from 768, their levels from 800;
 --            the onlycap list from 832 to 840
 --   words    the counts of labels, rules, mappings and onlycap labels; from 4 to 36 the mappings' category sets
--- What stands at or past a count means nothing, and is never looked at.
+-- What stands at or past a count means nothing, and no answer depends on it. (A search or a test may read it, in a block of places.)
 use Prim.Native.Nat.{ℕ, _+_, _*_, _≤_}
 use mathlib.Core.Bool.{Bool, true, false, cond, _&&_}
 use mathlib.Core.Path.{_≡_}
@@ -27,6 +27,34 @@ pub record Store : Type 0 where
 abbrev pub store : List ℕ → List ℕ → List ℕ → Store
 store l e w = record { labels = l; entries = e; words = w }
 
+-- the full size of each slice, and where each run of entries, and the sets, begin
+abbrev pub labelsSize : ℕ
+labelsSize = 16384
+
+abbrev pub entriesSize : ℕ
+entriesSize = 840
+
+abbrev pub wordsSize : ℕ
+wordsSize = 36
+
+abbrev pub objectsFrom : ℕ
+objectsFrom = 256
+
+abbrev pub modesFrom : ℕ
+modesFrom = 512
+
+abbrev pub mappedFrom : ℕ
+mappedFrom = 768
+
+abbrev pub levelsFrom : ℕ
+levelsFrom = 800
+
+abbrev pub onlycapFrom : ℕ
+onlycapFrom = 832
+
+abbrev pub setsFrom : ℕ
+setsFrom = 4
+
 -- the label that a place holds: its length, and then its bytes
 abbrev pub held : List ℕ → List ℕ
 held [] = []
@@ -36,13 +64,13 @@ unfoldable pub labelAt : List ℕ → ℕ → List ℕ
 labelAt labels k = held (take 256 (drop (k * 256) labels))
 
 unfoldable pub ruleAt : List ℕ → ℕ → Rule
-ruleAt e k = record { subject = getD e k 0; object = getD e (256 + k) 0; modes = getD e (512 + k) 0 }
+ruleAt e k = record { subject = getD e k 0; object = getD e (objectsFrom + k) 0; modes = getD e (modesFrom + k) 0 }
 
 unfoldable pub mappingAt : List ℕ → List ℕ → ℕ → Mapping
-mappingAt e w k = record { label = getD e (768 + k) 0; level = getD e (800 + k) 0; set = getD w (4 + k) 0 }
+mappingAt e w k = record { label = getD e (mappedFrom + k) 0; level = getD e (levelsFrom + k) 0; set = getD w (setsFrom + k) 0 }
 
 unfoldable pub onlycapAt : List ℕ → ℕ → ℕ
-onlycapAt e k = getD e (832 + k) 0
+onlycapAt e k = getD e (onlycapFrom + k) 0
 
 -- the tables that a store holds
 abbrev pub tableOf : Store → Table
@@ -54,13 +82,13 @@ tableOf s =
       onlycap = entries (onlycapAt (s .entries)) (getD (s .words) 3 0);
     }
 
--- the tables' part of refusal 0, which is given when this is false (a call that takes a loader tests that too): each part has its full size, no count is over its limit, and what is stored is sound. (A
--- label's length is a byte, so none is over 255.)
+-- the tables' part of refusal 0, which is given when this is false (a call that takes a loader tests that too): each part has its full size,
+-- no count is over its limit, and what is stored is sound. (A label's length is a byte, so none is over 255.)
 unfoldable pub undamagedOf : Store → Bool
 undamagedOf s =
-    eqb (length (s .labels)) 16384
-    && (eqb (length (s .entries)) 840
-    && (eqb (length (s .words)) 36
+    eqb (length (s .labels)) labelsSize
+    && (eqb (length (s .entries)) entriesSize
+    && (eqb (length (s .words)) wordsSize
     && (leb (getD (s .words) 0 0) labelLimit
     && (leb (getD (s .words) 1 0) ruleLimit
     && (leb (getD (s .words) 2 0) mappingLimit
@@ -72,12 +100,12 @@ unfoldable pub withLabel : List ℕ → ℕ → List ℕ → List ℕ
 withLabel labels k l = written labels (k * 256) (length l ∷ l)
 
 unfoldable pub withRule : List ℕ → ℕ → Rule → List ℕ
-withRule e k r = set (set (set e k (r .subject)) (256 + k) (r .object)) (512 + k) (r .modes)
+withRule e k r = set (set (set e k (r .subject)) (objectsFrom + k) (r .object)) (modesFrom + k) (r .modes)
 
 -- ---- a fresh table made of lent memory: the five labels are written and the counts set, and nothing else changes
 
 abbrev pub fullSizes : Store → Bool
-fullSizes s = eqb (length (s .labels)) 16384 && (eqb (length (s .entries)) 840 && eqb (length (s .words)) 36)
+fullSizes s = eqb (length (s .labels)) labelsSize && (eqb (length (s .entries)) entriesSize && eqb (length (s .words)) wordsSize)
 
 unfoldable pub freshLabels : List ℕ → List ℕ
 freshLabels l = withLabel (withLabel (withLabel (withLabel (withLabel l 0 floor) 1 hat) 2 star) 3 huh) 4 web
@@ -94,12 +122,12 @@ freshAnswer s = cond (fullSizes s) d.Done (d.Refused 0)
 -- ---- the same, as facts for the functions that work on a tested store
 
 pub record Sizes (l e w : List ℕ) : Type 0 where
-  pub labels : length l ≡ 16384
-  pub entries : length e ≡ 840
-  pub words : length w ≡ 36
+  pub labels : length l ≡ labelsSize
+  pub entries : length e ≡ entriesSize
+  pub words : length w ≡ wordsSize
 
 pub record Counts (w : List ℕ) : Type 0 where
-  pub labels : getD w 0 0 ≤ 64
-  pub rules : getD w 1 0 ≤ 256
-  pub mappings : getD w 2 0 ≤ 32
-  pub onlycap : getD w 3 0 ≤ 8
+  pub labels : getD w 0 0 ≤ labelLimit
+  pub rules : getD w 1 0 ≤ ruleLimit
+  pub mappings : getD w 2 0 ≤ mappingLimit
+  pub onlycap : getD w 3 0 ≤ onlycapLimit

@@ -1,14 +1,13 @@
 -- 01: the tables as they are spoken of, with no word of how they lie in memory: labels, rules, mappings and the onlycap list (01: the
 -- override list), in order. Assumes nothing.
 use Prim.Native.Nat.{ℕ, _%_}
-use mathlib.Core.Bool.{Bool, true, false, cond, _&&_}
-use mathlib.Core.List.{List, [], _∷_, _++_}
-use lib.ListN.{length}
-use lib.Dec.{eqb, ltb, leb}
-use Rattle.search.specs.Search.{first, all, put, placeOf, countOf}
+use mathlib.Core.Bool.{Bool, _&&_}
+use mathlib.Core.List.{List, [], _∷_}
+use lib.ListN.{length, getD}
+use lib.Dec.{eqb, ltb}
+use Rattle.search.specs.Search.{first, all}
 use Rattle.search.specs.Bytes.{sameBytes}
 use Rattle.search.specs.declared.Found.{Found}
-use Rattle.search.specs.declared.Found.the-variants.{At, Nothing}
 use Rattle.store.specs.declared.Rule.{Rule}
 use Rattle.store.specs.declared.Mapping.{Mapping}
 
@@ -19,7 +18,7 @@ pub record Table : Type 0 where
   pub mappings : List Mapping
   pub onlycap : List ℕ
 
--- numbers 0 to 4 are always _ ^ * ? @
+-- the labels that have numbers 0 to 4 in every table grown from a fresh one: _ ^ * ? @
 abbrev pub floor : List ℕ
 floor = 95 ∷ []
 
@@ -69,14 +68,28 @@ isPair s o r = eqb (r .subject) s && eqb (r .object) o
 abbrev pub pairIn : Table → ℕ → ℕ → Found
 pairIn t s o = first (isPair s o) (t .rules)
 
+-- label k, rule k and mapping k, from 0, in table order
+abbrev pub labelNumbered : Table → ℕ → List ℕ
+labelNumbered t k = getD (t .labels) k []
+
+abbrev pub ruleNumbered : Table → ℕ → Rule
+ruleNumbered t k = getD (t .rules) k (record { subject = 0; object = 0; modes = 0 })
+
+abbrev pub mappingNumbered : Table → ℕ → Mapping
+mappingNumbered t k = getD (t .mappings) k (record { label = 0; level = 0; set = 0 })
+
 -- ---- refusal 0, of what is stored: each number names a stored label (of which there are n), no unknown mode bit (64 and above), no
--- unknown category bit (1: category k is the bit 2^(64-k))
+-- unknown category bit
+
+-- a set has no other bit than those of categories: category k is the bit 2^(64-k), and the bit 1 is none
+abbrev pub knownSet : ℕ → Bool
+knownSet s = eqb (s % 2) 0
 
 unfoldable pub soundRule : ℕ → Rule → Bool
 soundRule n r = (ltb (r .subject) n && ltb (r .object) n) && ltb (r .modes) 64
 
 unfoldable pub soundMapping : ℕ → Mapping → Bool
-soundMapping n m = ltb (m .label) n && eqb (m .set % 2) 0
+soundMapping n m = ltb (m .label) n && knownSet (m .set)
 
 unfoldable pub soundTable : ℕ → Table → Bool
 unfolding soundRule soundMapping

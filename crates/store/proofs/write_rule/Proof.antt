@@ -7,20 +7,20 @@ use native.Mathlib.Omega.{arith}
 use Rattle.store.proofs.write_rule.Statement.{statement}
 use Rattle.store.proofs.write_rule.Tie as tie
 
-slice-write-rules : tie.Need-slice-write-rules
-slice-write-rules c = search needs
+slice-write-entries : tie.Need-slice-write-entries
+slice-write-entries c = search needs
 
-add-rules : tie.Need-add-rules
-add-rules c = search needs
+add-entries : tie.Need-add-entries
+add-entries c = search needs
 
-slice-write-rules-2 : tie.Need-slice-write-rules-2
-slice-write-rules-2 c = simp length-set (omega arith)
+slice-write-entries-2 : tie.Need-slice-write-entries-2
+slice-write-entries-2 c = simp length-set (omega arith)
 
-add-rules-2 : tie.Need-add-rules-2
-add-rules-2 c = search needs
+add-entries-2 : tie.Need-add-entries-2
+add-entries-2 c = search needs
 
-slice-write-rules-3 : tie.Need-slice-write-rules-3
-slice-write-rules-3 c = simp length-set (omega arith)
+slice-write-entries-3 : tie.Need-slice-write-entries-3
+slice-write-entries-3 c = simp length-set (omega arith)
 
 same-length : tie.Need-same-length
 same-length c = search needs
@@ -33,10 +33,10 @@ pub write-rule-spec : {M : Type 1} → statement M
 write-rule-spec =
     tie.close
     (tie.spec
-    slice-write-rules
-    add-rules
-    slice-write-rules-2
-    add-rules-2
-    slice-write-rules-3
+    slice-write-entries
+    add-entries
+    slice-write-entries-2
+    add-entries-2
+    slice-write-entries-3
     same-length
     returns)

@@ -1,10 +1,10 @@
--- `store::undamaged` meets its contract: it makes the definition's tests in their order. Assumes nothing.
+-- `damage::undamaged` meets its contract: it makes the definition's tests in their order. Assumes nothing.
 use borrow.Author.Tests.{eq-eqb, ne-eqb, le-leb, lt-leb}
 use Rattle.store.specs.Layout.{undamagedOf}
 use Rattle.store.specs.Table.{soundTable}
 use borrow.Author.Needs.{needs}
-use Rattle.store.proofs.undamaged.Statement.{statement}
-use Rattle.store.proofs.undamaged.Tie as tie
+use Rattle.damage.proofs.undamaged.Statement.{statement}
+use Rattle.damage.proofs.undamaged.Tie as tie
 
 returns : tie.Need-returns
 unfolding undamagedOf

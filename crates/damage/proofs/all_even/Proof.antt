@@ -1,4 +1,4 @@
--- `store::all_even` meets its contract: after i turns `ok` tells of the first i words. Assumes nothing.
+-- `damage::all_even` meets its contract: after i turns `ok` tells of the first i words. Assumes nothing.
 use Prim.Native.Nat.{ℕ, _≤_, _<_, _-_, _%_}
 use mathlib.Core.Path.{_≡_, refl, sym, _∙_}
 use native.Mathlib.Numerals.{add-one}
@@ -8,8 +8,8 @@ use lib.ListN.{length, take, getD}
 use lib.Seq.{take-suc}
 use Rattle.search.specs.Search.{all}
 use Rattle.search.proofs.Laws.{all-snoc}
-use Rattle.store.proofs.all_even.Statement.{statement}
-use Rattle.store.proofs.all_even.Tie as tie
+use Rattle.damage.proofs.all_even.Statement.{statement}
+use Rattle.damage.proofs.all_even.Tie as tie
 
 abbrev Inv-loop : tie.InvT-loop
 Inv-loop run count ok₀ i₀ ok i = (i ≤ count) × (ok ≡ all (λ (x : ℕ). eqb (x % 2) 0) (take i run))
