@@ -24,12 +24,12 @@ use Rattle.access.specs.declared.Answer.the-variants.{Granted, Denied, O
 use Rattle.access.specs.declared.Shown.{Shown}
 
 -- whether the onlycap list holds a label, by its first number; a label that is not in the table is on no list
-abbrev pub isAt : Found → Bool
-isAt (At k) = true
-isAt Nothing = false
+abbrev pub isFound : Found → Bool
+isFound (At k) = true
+isFound Nothing = false
 
 abbrev pub listed : List ℕ → Found → Bool
-listed onlycap (At i) = isAt (first (eqb i) onlycap)
+listed onlycap (At i) = isFound (first (eqb i) onlycap)
 listed onlycap Nothing = false
 
 -- override counts only if the asker has it and the list is empty or holds the subject

@@ -9,23 +9,24 @@ use lib.Bits.{bitAnd}
 use Rattle.search.specs.Bytes.{sameBytes}
 use Rattle.search.specs.declared.Found.{Found}
 use Rattle.search.specs.declared.Found.the-variants.{At, Nothing}
+use Rattle.modes.specs.Modes.{readExecute, bringUpLetter}
 use Rattle.store.specs.declared.Rule.{Rule}
 use Rattle.store.specs.Table.{Table, floor, hat, star, labelIn, pairIn}
 use Rattle.access.specs.declared.Denial.the-variants.{StarSubject, NoRule}
 use Rattle.access.specs.declared.Verdict.{Verdict}
 use Rattle.access.specs.declared.Verdict.the-variants.{Grants, Denies, Undecided}
 
--- whether modes hold every letter of a request. The bits: r 32, w 16, x 8, a 4, t 2, b 1
+-- whether modes hold every letter of a request
 abbrev pub holds : ℕ → ℕ → Bool
 holds wanted modes = eqb (bitAnd wanted modes) wanted
 
 -- whether a request has only r and x
 abbrev pub onlyReadExecute : ℕ → Bool
-onlyReadExecute wanted = holds wanted 40
+onlyReadExecute wanted = holds wanted readExecute
 
 -- whether modes have b
 abbrev pub bringUp : ℕ → Bool
-bringUp modes = holds 1 modes
+bringUp modes = holds bringUpLetter modes
 
 -- where the rule of a pair stands, by the numbers of its labels; a label that is not in the table has no rules
 abbrev pub ruleBetween : Table → Found → Found → Found

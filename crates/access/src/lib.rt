@@ -211,7 +211,7 @@ pub fn question(
 ) -> Answer
     ensures { λ r. ⌜ r ≡ access.questionOf (store (now (labels .entry)) (now (entries .entry)) (now (words .entry))) (now (subject .entry)) (now (object .entry)) (now (request .entry)) capable ⌝ }
 {
-    if !store::undamaged(labels, entries, words) {
+    if !damage::undamaged(labels, entries, words) {
         return Answer::Refused(0);
     }
     let Found::Nothing = alphabet::label_fault(subject) else {

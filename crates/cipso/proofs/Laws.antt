@@ -27,9 +27,9 @@ use Rattle.store.specs.declared.Mapping.{Mapping}
 use Rattle.store.specs.Table.{Table, labelIn, soundRule, soundMapping, soundTable}
 use Rattle.store.specs.Layout.{Store, store, labelAt, ruleAt, mappingAt, onlycapAt, tableOf, undamagedOf}
 use Rattle.store.proofs.Laws.{Undamaged, undamaged-is, is-undamaged, sound-more}
-use Rattle.rules.specs.Rules.{noPlace, grown, entered}
+use Rattle.rules.specs.Rules.{noPlace, labelsEntered, entered}
 use Rattle.rules.proofs.Laws.{place-count, length-entered, labels-entered, same-table, words-labels, words-entries, words-other, words-length}
-use Rattle.cipso.specs.Cipso.{noCategories, isLevel, isCategory, withNumber, withField, categoriesOf, Said, refused, mapping, withSet, withLevel, saidBy, saidFields, mappingOf, names, mappingIn, placing, mappingFor, withMapping, tableAt, tableBy, mappedTable, answerAt, answerBy, mapAnswer, withNumbers, withWord, mappingAtSpot, mappingSet, storedAt, storedBy, mapStored}
+use Rattle.cipso.specs.Cipso.{noCategories, isLevel, isCategory, withNumber, withField, categoriesOf, SaidMapping, refused, mapping, withSet, withLevel, saidBy, saidFields, mappingOf, names, mappingIn, placing, mappingFor, withMapping, tableAt, tableBy, mappedTable, answerAt, answerBy, mapAnswer, withNumbers, withWord, mappingAtSpot, mappingSet, storedAt, storedBy, mapStored}
 use Rattle.cipso.specs.Within.{Placed}
 use Rattle.cipso.specs.declared.Categories.{Categories}
 use Rattle.cipso.specs.declared.Categories.the-variants as read
@@ -462,7 +462,7 @@ mapping-undamaged st x spot level s q u known =
 
 -- THE WRITE: whatever its text, the tables after it are those that 01 says, and an undamaged store stays so
 module _ (st : Store) (u : Undamaged st) (text : List ℕ) where
-  written : (said : Said) → mappingOf text ≡ said → (tableOf (storedBy st said) ≡ tableBy (tableOf st) said) × Undamaged (storedBy st said)
+  written : (said : SaidMapping) → mappingOf text ≡ said → (tableOf (storedBy st said) ≡ tableBy (tableOf st) said) × Undamaged (storedBy st said)
   written (refused n) e = (refl, u)
   written (mapping l level s) e = by-place (placing (tableOf st) l) refl
     where
@@ -494,7 +494,7 @@ module _ (st : Store) (text : List ℕ) where
   map-damaged u = (rw u, rw u)
 
   module _ (u : undamagedOf st ≡ true) where
-    map-said : {said : Said} → mappingOf text ≡ said → Meets (answerBy (tableOf st) said) (storedBy st said)
+    map-said : {said : SaidMapping} → mappingOf text ≡ said → Meets (answerBy (tableOf st) said) (storedBy st said)
     unfolding mapAnswer mapStored
     map-said e = (rw (u, e), rw (u, e))
 
@@ -538,7 +538,7 @@ pub record Maps (t t′ : Table) : Type 0 where
   pub is :
       t′
       ≡ record {
-        labels = grown (labelIn t name) (t .labels) name;
+        labels = labelsEntered (labelIn t name) (t .labels) name;
         rules = t .rules;
         mappings = put (mappingIn t (placeOf (labelIn t name) (length (t .labels)))) (t .mappings) (record { label = placeOf (labelIn t name) (length (t .labels)); level = level; set = members });
         onlycap = t .onlycap;
@@ -572,7 +572,7 @@ maps t text = by-said (mappingOf text) (said-known text)
           is = refl;
         })
 
-    by-said : (said : Said) → ((l : List ℕ) (level s : ℕ) → said ≡ mapping l level s → (s % 2 ≡ 0) × (length l ≤ 255) × (wellFormed l ≡ true)) → (tableBy t said ≡ t) ⊎ Maps t (tableBy t said)
+    by-said : (said : SaidMapping) → ((l : List ℕ) (level s : ℕ) → said ≡ mapping l level s → (s % 2 ≡ 0) × (length l ≤ 255) × (wellFormed l ≡ true)) → (tableBy t said ≡ t) ⊎ Maps t (tableBy t said)
     by-said (refused n) f = inl refl
     by-said (mapping l level s) f =
         by-place l level s (f l level s refl) (noPlace (labelIn t l) (length (t .labels)) 64) refl (noPlace (mappingIn t (placeOf (labelIn t l) (length (t .labels)))) (length (t .mappings)) 32) refl

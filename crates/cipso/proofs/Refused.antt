@@ -6,7 +6,7 @@ use mathlib.Core.Bool.{Bool, true, false, cond}
 use mathlib.Core.List.{List}
 use Rattle.store.specs.declared.Done.the-variants as d
 use Rattle.store.specs.Layout.{Store, tableOf, undamagedOf}
-use Rattle.cipso.specs.Cipso.{Said, refused, mapping, mappingOf, placing, mapAnswer, mapStored, answerBy, answerAt, storedBy, storedAt}
+use Rattle.cipso.specs.Cipso.{SaidMapping, refused, mapping, mappingOf, placing, mapAnswer, mapStored, answerBy, answerAt, storedBy, storedAt}
 use Rattle.cipso.specs.declared.Place.{Place}
 use Rattle.cipso.specs.declared.Place.the-variants as p
 
@@ -18,7 +18,7 @@ map-refused st text n q = by-test (undamagedOf st) q
     by-place x level s (p.Refused m) q = refl
     by-place x level s (p.At spot) q = let z : _≡_ {A = ℕ} 0 1 = cc in absurd (omega arith)
 
-    by-said : (said : Said) → answerBy (tableOf st) said ≡ d.Refused n → storedBy st said ≡ st
+    by-said : (said : SaidMapping) → answerBy (tableOf st) said ≡ d.Refused n → storedBy st said ≡ st
     by-said (refused m) q = refl
     by-said (mapping x level s) q = by-place x level s (placing (tableOf st) x) q
 

@@ -1,6 +1,6 @@
--- 01, Single writes, Mapping: the CIPSO mapping (`cipso2`) of a label to a level and a set of categories. The write with its refusals in their
--- order: 0, 1, 2, 3, 9, 6 and 10. How categories sit in a set stands in the crate numbers, but for the bit that is none (`knownSet`); here a set is
--- spoken of by `noCategories`, `withCategory`, `knownSet` and `sameSet` alone. Assumes nothing.
+-- 01, Single writes, Mapping: the CIPSO mapping (the kernel's `cipso2`, whose count of categories 01 leaves out) of a label to a level and a set of categories. The write with its refusals in their
+-- order: 0, 1, 2, 3, 9, 6 and 10. How categories sit in a set stands in the crate numbers, and the bit that is none in `knownSet` of the crate
+-- store; here a set is spoken of by `noCategories`, `withCategory` and `sameSet` alone. Assumes nothing.
 use Prim.Native.Nat.{ℕ, _+_, _%_}
 use mathlib.Core.Bool.{Bool, false, cond, _&&_}
 use mathlib.Core.List.{List, [], _∷_, foldl}
@@ -9,15 +9,15 @@ use lib.Dec.{eqb, leb, ltb}
 use Rattle.search.specs.Search.{first, put, placeOf, countOf, entries}
 use Rattle.search.specs.declared.Found.{Found}
 use Rattle.search.specs.declared.Found.the-variants.{At, Nothing}
-use Rattle.alphabet.specs.Alphabet.{wellFormed, fields}
+use Rattle.alphabet.specs.Alphabet.{wellFormed, lineLimit, fields}
 use Rattle.numbers.specs.Numbers.{numberOf}
 use Rattle.numbers.specs.Categories.{categories, withCategory}
 use Rattle.numbers.specs.declared.Number.{Number}
 use Rattle.numbers.specs.declared.Number.the-variants as number
 use Rattle.store.specs.declared.Mapping.{Mapping}
 use Rattle.store.specs.Table.{Table, labelIn, labelLimit, mappingLimit}
-use Rattle.store.specs.Layout.{Store, tableOf, undamagedOf}
-use Rattle.rules.specs.Rules.{noPlace, grown, entered}
+use Rattle.store.specs.Layout.{Store, mappedFrom, levelsFrom, setsFrom, tableOf, undamagedOf}
+use Rattle.rules.specs.Rules.{noPlace, labelsEntered, entered}
 use Rattle.cipso.specs.declared.Categories.{Categories}
 use Rattle.cipso.specs.declared.Categories.the-variants as read
 use Rattle.cipso.specs.declared.Spot.{Spot}
@@ -31,10 +31,6 @@ use Rattle.store.specs.declared.Done.the-variants as done
 -- the set of no category
 abbrev pub noCategories : ℕ
 noCategories = 0
-
--- a set has no other bit than those of categories: bit 0 is none
-abbrev pub knownSet : ℕ → Bool
-knownSet s = eqb (s % 2) 0
 
 -- two sets are equal
 abbrev pub sameSet : ℕ → ℕ → Bool
@@ -65,37 +61,33 @@ unfoldable pub categoriesOf : List (List ℕ) → Categories
 categoriesOf fs = foldl withField (read.Set noCategories) fs
 
 -- what a write says: a refusal's number, or a mapping by its label, its level and its set
-pub data Said : Type 0 where
-  refused : ℕ → Said
-  mapping : List ℕ → ℕ → ℕ → Said
+pub data SaidMapping : Type 0 where
+  refused : ℕ → SaidMapping
+  mapping : List ℕ → ℕ → ℕ → SaidMapping
 
 -- 9 a category is not as above
-abbrev pub withSet : List ℕ → ℕ → Categories → Said
+abbrev pub withSet : List ℕ → ℕ → Categories → SaidMapping
 withSet l level read.Bad = refused 9
 withSet l level (read.Set s) = mapping l level s
 
 -- 9 the level is not as above
-abbrev pub withLevel : List ℕ → Number → Categories → Said
+abbrev pub withLevel : List ℕ → Number → Categories → SaidMapping
 withLevel l number.Bad cs = refused 9
 withLevel l (number.Value n) cs = cond (isLevel n) (withSet l n cs) (refused 9)
 
 -- 3 the label is not well formed
-unfoldable pub saidBy : List ℕ → List ℕ → List (List ℕ) → Said
+unfoldable pub saidBy : List ℕ → List ℕ → List (List ℕ) → SaidMapping
 saidBy l level cs = cond (wellFormed l) (withLevel l (numberOf level) (categoriesOf cs)) (refused 3)
 
 -- 2 under two fields
-abbrev pub saidFields : List (List ℕ) → Said
+abbrev pub saidFields : List (List ℕ) → SaidMapping
 saidFields [] = refused 2
 saidFields (l ∷ []) = refused 2
 saidFields (l ∷ level ∷ cs) = saidBy l level cs
 
--- a write has at most 600 bytes
-abbrev pub writeLimit : ℕ
-writeLimit = 600
-
 -- 1 over 600 bytes
-unfoldable pub mappingOf : List ℕ → Said
-mappingOf text = cond (ltb writeLimit (length text)) (refused 1) (saidFields (fields text))
+unfoldable pub mappingOf : List ℕ → SaidMapping
+mappingOf text = cond (ltb lineLimit (length text)) (refused 1) (saidFields (fields text))
 
 -- ---- the write: what it does to the tables, and its answer
 
@@ -129,7 +121,7 @@ mappingFor t spot level s = record { label = placeOf (spot .label) (length (t .l
 unfoldable pub withMapping : Table → List ℕ → Spot → ℕ → ℕ → Table
 withMapping t l spot level s =
     record {
-      labels = grown (spot .label) (t .labels) l;
+      labels = labelsEntered (spot .label) (t .labels) l;
       rules = t .rules;
       mappings = put (spot .mapping) (t .mappings) (mappingFor t spot level s);
       onlycap = t .onlycap;
@@ -141,7 +133,7 @@ tableAt t l level s (place.Refused n) = t
 tableAt t l level s (place.At spot) = withMapping t l spot level s
 
 -- the tables after what a write says
-abbrev pub tableBy : Table → Said → Table
+abbrev pub tableBy : Table → SaidMapping → Table
 tableBy t (refused n) = t
 tableBy t (mapping l level s) = tableAt t l level s (placing t l)
 
@@ -155,7 +147,7 @@ answerAt (place.Refused n) = done.Refused n
 answerAt (place.At spot) = done.Done
 
 -- the answer to what a write says
-abbrev pub answerBy : Table → Said → Done
+abbrev pub answerBy : Table → SaidMapping → Done
 answerBy t (refused n) = done.Refused n
 answerBy t (mapping l level s) = answerAt (placing t l)
 
@@ -167,11 +159,11 @@ mapAnswer st text = cond (undamagedOf st) (answerBy (tableOf st) (mappingOf text
 
 -- a mapping's label and level written into place k
 unfoldable pub withNumbers : List ℕ → ℕ → Mapping → List ℕ
-withNumbers e k m = set (set e (768 + k) (m .label)) (800 + k) (m .level)
+withNumbers e k m = set (set e (mappedFrom + k) (m .label)) (levelsFrom + k) (m .level)
 
 -- its set written into place k
 unfoldable pub withWord : List ℕ → ℕ → Mapping → List ℕ
-withWord w k m = set w (4 + k) (m .set)
+withWord w k m = set w (setsFrom + k) (m .set)
 
 -- the mapping that a write makes, where n labels are stored
 abbrev pub mappingAtSpot : ℕ → Spot → ℕ → ℕ → Mapping
@@ -194,7 +186,7 @@ storedAt st l level s (place.Refused n) = st
 storedAt st l level s (place.At spot) = mappingSet st l spot level s
 
 -- the slices after what a write says
-abbrev pub storedBy : Store → Said → Store
+abbrev pub storedBy : Store → SaidMapping → Store
 storedBy st (refused n) = st
 storedBy st (mapping l level s) = storedAt st l level s (placing (tableOf st) l)
 

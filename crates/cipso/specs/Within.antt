@@ -9,10 +9,10 @@ use Rattle.cipso.specs.declared.Line.{Line}
 use Rattle.cipso.specs.declared.Line.the-variants as line
 use Rattle.cipso.specs.declared.Spot.{Spot}
 use Rattle.cipso.specs.declared.Place.the-variants as place
-use Rattle.cipso.specs.Cipso.{Said, refused, mapping, placing}
+use Rattle.cipso.specs.Cipso.{SaidMapping, refused, mapping, placing}
 
 -- what was read says, of the text that it was read from
-abbrev pub lineSaid : List ℕ → Line → Said
+abbrev pub lineSaid : List ℕ → Line → SaidMapping
 lineSaid text (line.Refused n) = refused n
 lineSaid text (line.Mapping start end level s) = mapping (part text start end) level s
 

@@ -182,7 +182,7 @@ pub fn map_label(labels: &mut [u8], entries: &mut [u8], words: &mut [u64], text:
     ensures { λ r. ⌜ r ≡ cipso.mapAnswer (store (now (labels .entry)) (now (entries .entry)) (now (words .entry))) (now (text .entry)) ⌝ }
     ensures { λ _. ⌜ store (now (labels .exit)) (now (entries .exit)) (now (words .exit)) ≡ cipso.mapStored (store (now (labels .entry)) (now (entries .entry)) (now (words .entry))) (now (text .entry)) ⌝ }
 {
-    if !store::undamaged(labels, entries, words) {
+    if !damage::undamaged(labels, entries, words) {
         return Done::Refused(0);
     }
     let said = read_line(text);

@@ -17,10 +17,10 @@ use Rattle.alphabet.proofs.Laws.{label-unblank, formed-is}
 use Rattle.modes.specs.Modes.{modesText}
 use Rattle.modes.proofs.Laws.{text-some, text-long, text-byte}
 use Rattle.store.specs.declared.Rule.{Rule}
-use Rattle.store.specs.Table.{Table, soundRule, soundTable}
+use Rattle.store.specs.Table.{Table, soundRule, soundTable, labelNumbered, ruleNumbered}
 use Rattle.store.specs.Layout.{Store, labelAt, ruleAt, tableOf, undamagedOf, held}
 use Rattle.store.proofs.Laws.{Undamaged, undamaged-is, is-undamaged}
-use Rattle.listing.specs.Listing.{lineOf, textOf, labelNumbered, ruleNumbered, ruleText, putAnswer, putOut, listRule, listRuleOut, listAnswer, listOut, labelGiven, labelAnswer}
+use Rattle.listing.specs.Listing.{lineOf, textOf, ruleText, putAnswer, putOut, listRule, listRuleOut, listAnswer, listOut, labelGiven, labelAnswer}
 use Rattle.listing.specs.declared.Listed.the-variants as l
 use Rattle.store.specs.declared.Done.{Done}
 use Rattle.store.specs.declared.Done.the-variants as d

@@ -2,31 +2,24 @@
 use Prim.Native.Nat.{ℕ}
 use mathlib.Core.Bool.{cond}
 use mathlib.Core.List.{List, [], _∷_, _++_}
-use lib.ListN.{length, getD}
+use lib.ListN.{length}
 use lib.Dec.{ltb, leb}
 use Rattle.search.specs.Bytes.{written}
 use Rattle.modes.specs.Modes.{modesText}
 use Rattle.store.specs.declared.Rule.{Rule}
-use Rattle.store.specs.Table.{Table}
+use Rattle.store.specs.Table.{Table, labelNumbered, ruleNumbered}
 use Rattle.store.specs.Layout.{Store, tableOf, undamagedOf}
 use Rattle.listing.specs.declared.Listed.{Listed}
 use Rattle.listing.specs.declared.Listed.the-variants as l
 use Rattle.store.specs.declared.Done.{Done}
 use Rattle.store.specs.declared.Done.the-variants as d
 
--- subject, space, object, space, modes or a dash, newline
+-- subject, space, object, space, modes or a dash; and the same with its newline
 abbrev pub lineOf : List ℕ → List ℕ → List ℕ → List ℕ
 lineOf subject object modes = subject ++ (32 ∷ (object ++ (32 ∷ modes)))
 
 unfoldable pub textOf : List ℕ → List ℕ → List ℕ → List ℕ
 textOf subject object modes = lineOf subject object modes ++ (10 ∷ [])
-
--- the label and the rule of a number, from 0, in table order
-abbrev pub labelNumbered : Table → ℕ → List ℕ
-labelNumbered t k = getD (t .labels) k []
-
-abbrev pub ruleNumbered : Table → ℕ → Rule
-ruleNumbered t k = getD (t .rules) k (record { subject = 0; object = 0; modes = 0 })
 
 -- a rule as text, by the labels that are stored
 unfoldable pub ruleText : Table → Rule → List ℕ

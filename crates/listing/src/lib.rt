@@ -44,7 +44,7 @@ pub fn list_rule(labels: &[u8], entries: &[u8], words: &[u64], k: usize, out: &m
     ensures { λ r. ⌜ r ≡ listAnswer (store (now (labels .entry)) (now (entries .entry)) (now (words .entry))) k (now (out .entry)) ⌝ }
     ensures { λ _. ⌜ now (out .exit) ≡ listOut (store (now (labels .entry)) (now (entries .entry)) (now (words .entry))) k (now (out .entry)) ⌝ }
 {
-    if !store::undamaged(labels, entries, words) {
+    if !damage::undamaged(labels, entries, words) {
         return Listed::Refused(0);
     }
     let rules = words[1] as usize;
@@ -62,7 +62,7 @@ pub fn list_rule(labels: &[u8], entries: &[u8], words: &[u64], k: usize, out: &m
 pub fn label_check(labels: &[u8], entries: &[u8], words: &[u64], k: usize) -> Done
     ensures { λ r. ⌜ r ≡ labelAnswer (store (now (labels .entry)) (now (entries .entry)) (now (words .entry))) k ⌝ }
 {
-    if !store::undamaged(labels, entries, words) {
+    if !damage::undamaged(labels, entries, words) {
         return Done::Refused(0);
     }
     let stored = words[0] as usize;

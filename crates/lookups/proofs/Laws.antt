@@ -21,7 +21,8 @@ use Rattle.store.specs.Table.{Table, labelIn, soundRule, soundMapping, soundTab
 use Rattle.store.specs.Layout.{Store, store, labelAt, ruleAt, mappingAt, onlycapAt, tableOf, undamagedOf}
 use Rattle.store.proofs.Laws.{Undamaged, undamaged-is, is-undamaged}
 use Rattle.cipso.specs.Cipso.{noCategories, isLevel, names, mappingIn}
-use Rattle.lookups.specs.Lookups.{mappedAs, lookedUp, lookupBy, labelLookup, byLabelOf, bothEqual, mappedTo, isAt, hasBoth, numbered, levelLookup, byLevelOf, matches, lowerLabel, lowerOf, lowestOf}
+use Rattle.lookups.specs.Lowest.{Lowest, Unmatched}
+use Rattle.lookups.specs.Lookups.{mappedAs, lookedUp, lookupBy, labelLookup, byLabelOf, bothEqual, mappedTo, foundAt, hasBoth, numbered, levelLookup, byLevelOf, matches, lowerLabel, lowerOf, lowestOf}
 use Rattle.lookups.specs.declared.Lookup.the-variants as lookup
 use Rattle.lookups.specs.declared.Label.the-variants as label
 use Rattle.lookups.specs.declared.Record.{Record}
@@ -95,19 +96,19 @@ module _ (l e w : List ℕ) where
     abbrev other : Found
     other = first (sameBytes (getD (entries (labelAt l) labelCount) j [])) (entries (labelAt l) labelCount)
 
-    both-by : {r : Found} → one ≡ r → hasBoth (tableOf lent) level s j ≡ (mappedTo level s (entries (mappingAt e w) mappingCount) r && isAt j other)
+    both-by : {r : Found} → one ≡ r → hasBoth (tableOf lent) level s j ≡ (mappedTo level s (entries (mappingAt e w) mappingCount) r && foundAt j other)
     unfolding hasBoth
-    both-by q = ap (λ (r : Found). mappedTo level s (entries (mappingAt e w) mappingCount) r && isAt j other) q
+    both-by q = ap (λ (r : Found). mappedTo level s (entries (mappingAt e w) mappingCount) r && foundAt j other) q
 
     pub both-none : one ≡ Nothing → hasBoth (tableOf lent) level s j ≡ false
     both-none q = both-by q
 
     module _ {k : ℕ} (q : one ≡ At k) where
-      both-at : hasBoth (tableOf lent) level s j ≡ ((eqb (getD e (800 + k) 0) level && eqb (getD w (4 + k) 0) s) && isAt j other)
+      both-at : hasBoth (tableOf lent) level s j ≡ ((eqb (getD e (800 + k) 0) level && eqb (getD w (4 + k) 0) s) && foundAt j other)
       unfolding mappingAt
       both-at =
           both-by q
-          ∙ ap (λ (g : Mapping). bothEqual level s g && isAt j other) (entries-at (mappingAt e w) (record { label = 0; level = 0; set = noCategories }) mappingCount k (mapping-below e w j mappingCount k q))
+          ∙ ap (λ (g : Mapping). bothEqual level s g && foundAt j other) (entries-at (mappingAt e w) (record { label = 0; level = 0; set = noCategories }) mappingCount k (mapping-below e w j mappingCount k q))
 
       pub both-level : (getD e (800 + k) 0 ≡ level → ⊥) → hasBoth (tableOf lent) level s j ≡ false
       both-level h = both-at ∙ rw (ne-eqb (getD e (800 + k) 0) level h)
@@ -116,11 +117,11 @@ module _ (l e w : List ℕ) where
         pub both-set : (getD w (4 + k) 0 ≡ s → ⊥) → hasBoth (tableOf lent) level s j ≡ false
         both-set i = both-at ∙ rw (eq-eqb (getD e (800 + k) 0) level h, ne-eqb (getD w (4 + k) 0) s i)
 
-        pub both-label : {r : Found} → getD w (4 + k) 0 ≡ s → j < labelCount → first (sameBytes (labelAt l j)) (entries (labelAt l) labelCount) ≡ r → hasBoth (tableOf lent) level s j ≡ isAt j r
+        pub both-label : {r : Found} → getD w (4 + k) 0 ≡ s → j < labelCount → first (sameBytes (labelAt l j)) (entries (labelAt l) labelCount) ≡ r → hasBoth (tableOf lent) level s j ≡ foundAt j r
         both-label {r} i hj f =
             both-at
             ∙ rw (eq-eqb (getD e (800 + k) 0) level h, eq-eqb (getD w (4 + k) 0) s i)
-            (ap (λ (b : List ℕ). isAt j (first (sameBytes b) (entries (labelAt l) labelCount))) (entries-at (labelAt l) [] labelCount j hj) ∙ ap (isAt j) f)
+            (ap (λ (b : List ℕ). foundAt j (first (sameBytes b) (entries (labelAt l) labelCount))) (entries-at (labelAt l) [] labelCount j hj) ∙ ap (foundAt j) f)
 
   module _ (level s : ℕ) where
     pub level-damaged : undamagedOf lent ≡ false → byLevelOf lent level s ≡ label.Refused 0
@@ -153,15 +154,6 @@ module _ (l e w : List ℕ) where
           level-none none = level-by (found-none (hasBoth (tableOf lent) level s) (λ (j : ℕ). j) labelCount none)
 
 -- ---- the lowest label of a run
-
--- n is the lowest label of the records that match: one of them has it, and none has a lower one
-pub record Lowest (run : List Record) (level s n : ℕ) : Type 0 where
-  pub found : (r : Record) × List·Memᴰ r run × (matches level s r ≡ true) × (r .label ≡ n)
-  pub least : (r : Record) → List·Memᴰ r run → matches level s r ≡ true → n ≤ r .label
-
--- none of the records matches
-abbrev pub Unmatched : List Record → ℕ → ℕ → Type 0
-Unmatched run level s = (r : Record) → List·Memᴰ r run → matches level s r ≡ false
 
 module _ (level s : ℕ) where
   abbrev from : Best → List Record → Best

@@ -11,9 +11,9 @@ use Rattle.search.specs.declared.Found.the-variants.{At, Nothing}
 use Rattle.alphabet.specs.Alphabet.{wellFormed}
 use Rattle.numbers.specs.Categories.{categories}
 use Rattle.store.specs.declared.Mapping.{Mapping}
-use Rattle.store.specs.Table.{Table, labelIn}
+use Rattle.store.specs.Table.{Table, labelIn, labelNumbered, knownSet}
 use Rattle.store.specs.Layout.{Store, tableOf, undamagedOf}
-use Rattle.cipso.specs.Cipso.{noCategories, knownSet, sameSet, isLevel, mappingIn}
+use Rattle.cipso.specs.Cipso.{noCategories, sameSet, isLevel, mappingIn}
 use Rattle.lookups.specs.declared.Lookup.{Lookup}
 use Rattle.lookups.specs.declared.Lookup.the-variants as lookup
 use Rattle.lookups.specs.declared.Label.{Label}
@@ -58,13 +58,13 @@ mappedTo level s ms (At k) = bothEqual level s (getD ms k (record { label = 0; l
 mappedTo level s ms Nothing = false
 
 -- n is the number that a search found
-abbrev pub isAt : ℕ → Found → Bool
-isAt n (At k) = eqb k n
-isAt n Nothing = false
+abbrev pub foundAt : ℕ → Found → Bool
+foundAt n (At k) = eqb k n
+foundAt n Nothing = false
 
 -- label number n counts by its first mapping, and only if n is the first number of its label
 unfoldable pub hasBoth : Table → ℕ → ℕ → ℕ → Bool
-hasBoth t level s n = mappedTo level s (t .mappings) (mappingIn t n) && isAt n (labelIn t (getD (t .labels) n []))
+hasBoth t level s n = mappedTo level s (t .mappings) (mappingIn t n) && foundAt n (labelIn t (labelNumbered t n))
 
 -- a label's number, or none
 abbrev pub numbered : Found → Label

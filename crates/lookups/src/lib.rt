@@ -40,7 +40,7 @@ pub enum Best {
 pub fn by_label(labels: &[u8], entries: &[u8], words: &[u64], label: &[u8]) -> Lookup
     ensures { λ r. ⌜ r ≡ byLabelOf (store (now (labels .entry)) (now (entries .entry)) (now (words .entry))) (now (label .entry)) ⌝ }
 {
-    if !store::undamaged(labels, entries, words) {
+    if !damage::undamaged(labels, entries, words) {
         return Lookup::Refused(0);
     }
     let Found::Nothing = alphabet::label_fault(label) else {
@@ -88,7 +88,7 @@ fn has_both(labels: &[u8], entries: &[u8], words: &[u64], n: usize, level: u64, 
 pub fn by_level(labels: &[u8], entries: &[u8], words: &[u64], level: u64, set: u64) -> Label
     ensures { λ r. ⌜ r ≡ byLevelOf (store (now (labels .entry)) (now (entries .entry)) (now (words .entry))) level set ⌝ }
 {
-    if !store::undamaged(labels, entries, words) {
+    if !damage::undamaged(labels, entries, words) {
         return Label::Refused(0);
     }
     if 255 < level {

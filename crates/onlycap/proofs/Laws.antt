@@ -15,7 +15,7 @@ use Rattle.search.specs.Bytes.{sameBytes}
 use Rattle.search.specs.declared.Found.{Found}
 use Rattle.search.specs.declared.Found.the-variants.{At, Nothing}
 use Rattle.search.proofs.Laws.{no, and-both, same-equal, same-refl, count-le, entries-length, entries-same, last-entry, all-at, found-place, first-append, first-is}
-use Rattle.rules.specs.Rules.{grown, entered}
+use Rattle.rules.specs.Rules.{labelsEntered, entered}
 use Rattle.rules.proofs.Laws.{length-entered, labels-entered}
 use Rattle.store.specs.declared.Rule.{Rule}
 use Rattle.store.specs.declared.Mapping.{Mapping}
@@ -26,7 +26,7 @@ use borrow.Author.Tests.{lt-ltb, le-ltb, ltb-false}
 use Rattle.alphabet.specs.Alphabet.{fields, part, fieldAt, wellFormed}
 use Rattle.alphabet.proofs.Laws.{field-some, field-none, formed-is}
 use Rattle.alphabet.specs.declared.Field.the-variants.{Part, End}
-use Rattle.onlycap.specs.Onlycap.{holds, join, joined, loneDash, countWith, Taken, takeLabel, foundIn, takenUpTo, begun, storeTaken, listSet, Fits, different, labelsWith, numberIn, onlycapLabels, onlycapFields, onlycapOf, storeBy, onlycapAnswer, onlycapStore, onlycapTable, tableBy}
+use Rattle.onlycap.specs.Onlycap.{appearsIn, join, joined, loneDash, countWith, Taken, takeLabel, foundIn, takenUpTo, begun, storeTaken, listSet, Fits, different, labelsWith, numberIn, onlycapLabels, onlycapFields, onlycapOf, storeBy, onlycapAnswer, onlycapStore, onlycapTable, tableBy}
 use Rattle.store.specs.declared.Done.{Done}
 use Rattle.store.specs.declared.Done.the-variants as d
 use Rattle.onlycap.specs.declared.Counted.{Counted}
@@ -78,34 +78,34 @@ passed-all text at i p e = rest-none (fields text) i (sym (p .rest) ∙ field-no
 
 -- ---- whether a label is among some others
 
-pub holds-snoc : (l : List ℕ) (xs : List (List ℕ)) (x : List ℕ) → holds l (xs ++ (x ∷ [])) ≡ (holds l xs || sameBytes l x)
-unfolding holds
-holds-snoc l [] x = or-false (sameBytes l x)
+pub appears-snoc : (l : List ℕ) (xs : List (List ℕ)) (x : List ℕ) → appearsIn l (xs ++ (x ∷ [])) ≡ (appearsIn l xs || sameBytes l x)
+unfolding appearsIn
+appears-snoc l [] x = or-false (sameBytes l x)
   where
     or-false : (b : Bool) → (b || false) ≡ b
     or-false true = refl
     or-false false = refl
-holds-snoc l (y ∷ ys) x = rw (holds-snoc l ys x) (or-assoc (sameBytes l y) (holds l ys) (sameBytes l x))
+appears-snoc l (y ∷ ys) x = rw (appears-snoc l ys x) (or-assoc (sameBytes l y) (appearsIn l ys) (sameBytes l x))
   where
     or-assoc : (a b c : Bool) → (a || (b || c)) ≡ ((a || b) || c)
     or-assoc true b c = refl
     or-assoc false b c = refl
 
 -- one field more
-pub holds-more : (l : List ℕ) (fs : List (List ℕ)) (i : ℕ) → i < length fs → holds l (take (i + 1) fs) ≡ (holds l (take i fs) || sameBytes l (getD fs i []))
-holds-more l fs i h = rw (add-one i, take-suc fs i [] h) (holds-snoc l (take i fs) (getD fs i []))
+pub appears-more : (l : List ℕ) (fs : List (List ℕ)) (i : ℕ) → i < length fs → appearsIn l (take (i + 1) fs) ≡ (appearsIn l (take i fs) || sameBytes l (getD fs i []))
+appears-more l fs i h = rw (add-one i, take-suc fs i [] h) (appears-snoc l (take i fs) (getD fs i []))
 
 -- found among the first n of a write's fields
-pub holds-found : (l : List ℕ) (fs : List (List ℕ)) (n i : ℕ) → i < n → i < length fs → sameBytes l (getD fs i []) ≡ true → holds l (take n fs) ≡ true
-unfolding holds
-holds-found l [] n i a b e = absurd (omega arith)
-holds-found l (x ∷ xs) zero i a b e = absurd (omega arith)
-holds-found l (x ∷ xs) (suc n) zero a b e = rw e
-holds-found l (x ∷ xs) (suc n) (suc i) a b e = rw (holds-found l xs n i (omega arith) (omega arith) e) (or-true (sameBytes l x))
+pub appears-found : (l : List ℕ) (fs : List (List ℕ)) (n i : ℕ) → i < n → i < length fs → sameBytes l (getD fs i []) ≡ true → appearsIn l (take n fs) ≡ true
+unfolding appearsIn
+appears-found l [] n i a b e = absurd (omega arith)
+appears-found l (x ∷ xs) zero i a b e = absurd (omega arith)
+appears-found l (x ∷ xs) (suc n) zero a b e = rw e
+appears-found l (x ∷ xs) (suc n) (suc i) a b e = rw (appears-found l xs n i (omega arith) (omega arith) e) (or-true (sameBytes l x))
 
 -- none is left
-pub holds-all : (l : List ℕ) (fs : List (List ℕ)) (n i : ℕ) → length fs ≤ i → i ≤ n → holds l (take n fs) ≡ holds l (take i fs)
-holds-all l fs n i h k = let j : length fs ≤ n = omega arith in rw (take-all n fs j, take-all i fs h)
+pub appears-all : (l : List ℕ) (fs : List (List ℕ)) (n i : ℕ) → length fs ≤ i → i ≤ n → appearsIn l (take n fs) ≡ appearsIn l (take i fs)
+appears-all l fs n i h k = let j : length fs ≤ n = omega arith in rw (take-all n fs j, take-all i fs h)
 
 -- ---- a write of one dash
 
@@ -129,9 +129,9 @@ module _ (text : List ℕ) where
   unfolding all
   formed-turn at a b e = rw (field-some text at a b e .first-of)
 
-pub holds-none : (l : List ℕ) (fs : List (List ℕ)) → holds l (take 0 fs) ≡ false
-unfolding holds
-holds-none l fs = refl
+pub appears-none : (l : List ℕ) (fs : List (List ℕ)) → appearsIn l (take 0 fs) ≡ false
+unfolding appearsIn
+appears-none l fs = refl
 
 -- ---- labels that join others
 
@@ -144,64 +144,64 @@ or-assoc true b c = refl
 or-assoc false b c = refl
 
 -- what a search shows of whether a label is among some others
-abbrev isAt : Found → Bool
-isAt (At k) = true
-isAt Nothing = false
+abbrev isFound : Found → Bool
+isFound (At k) = true
+isFound Nothing = false
 
-first-holds : (l : List ℕ) (ls : List (List ℕ)) → isAt (first (sameBytes l) ls) ≡ holds l ls
-unfolding first holds
-first-holds l [] = refl
-first-holds l (x ∷ xs) = by-test (sameBytes l x) (first (sameBytes l) xs) (first-holds l xs)
+first-appears : (l : List ℕ) (ls : List (List ℕ)) → isFound (first (sameBytes l) ls) ≡ appearsIn l ls
+unfolding first appearsIn
+first-appears l [] = refl
+first-appears l (x ∷ xs) = by-test (sameBytes l x) (first (sameBytes l) xs) (first-appears l xs)
   where
-    by-test : (b : Bool) (f : Found) → isAt f ≡ holds l xs → isAt (cond b (At zero) (later f)) ≡ (b || holds l xs)
+    by-test : (b : Bool) (f : Found) → isFound f ≡ appearsIn l xs → isFound (cond b (At zero) (later f)) ≡ (b || appearsIn l xs)
     by-test true f e = refl
     by-test false (At k) e = e
     by-test false Nothing e = e
 
-count-at : (f : Found) (n : ℕ) → countOf f n ≡ cond (isAt f) n (n + 1)
+count-at : (f : Found) (n : ℕ) → countOf f n ≡ cond (isFound f) n (n + 1)
 count-at (At k) n = refl
 count-at Nothing n = refl
 
-grown-length : (f : Found) (ls : List (List ℕ)) (l : List ℕ) → length (grown f ls l) ≡ countOf f (length ls)
-grown-length (At k) ls l = refl
-grown-length Nothing ls l = length-append ls (l ∷ [])
+entered-length : (f : Found) (ls : List (List ℕ)) (l : List ℕ) → length (labelsEntered f ls l) ≡ countOf f (length ls)
+entered-length (At k) ls l = refl
+entered-length Nothing ls l = length-append ls (l ∷ [])
 
 -- a label that joined is there, and so is what was there
-join-holds : (l g : List ℕ) (ls : List (List ℕ)) → holds l (join ls g) ≡ (holds l ls || sameBytes l g)
-join-holds l g ls = by-found (first (sameBytes g) ls) (first-holds g ls)
+join-appears : (l g : List ℕ) (ls : List (List ℕ)) → appearsIn l (join ls g) ≡ (appearsIn l ls || sameBytes l g)
+join-appears l g ls = by-found (first (sameBytes g) ls) (first-appears g ls)
   where
-    by-same : (b : Bool) → sameBytes l g ≡ b → holds g ls ≡ true → holds l ls ≡ (holds l ls || b)
-    by-same true e h = let z : holds l ls ≡ true = ap (λ (x : List ℕ). holds x ls) (same-equal l g e) ∙ h in rw z
-    by-same false e h = sym (or-false (holds l ls))
+    by-same : (b : Bool) → sameBytes l g ≡ b → appearsIn g ls ≡ true → appearsIn l ls ≡ (appearsIn l ls || b)
+    by-same true e h = let z : appearsIn l ls ≡ true = ap (λ (x : List ℕ). appearsIn x ls) (same-equal l g e) ∙ h in rw z
+    by-same false e h = sym (or-false (appearsIn l ls))
 
-    by-found : (f : Found) → isAt f ≡ holds g ls → holds l (grown f ls g) ≡ (holds l ls || sameBytes l g)
+    by-found : (f : Found) → isFound f ≡ appearsIn g ls → appearsIn l (labelsEntered f ls g) ≡ (appearsIn l ls || sameBytes l g)
     by-found (At k) e = by-same (sameBytes l g) refl (sym e)
-    by-found Nothing e = holds-snoc l ls g
+    by-found Nothing e = appears-snoc l ls g
 
 module _ (ls fs : List (List ℕ)) where
-  pub joined-holds : (l : List ℕ) (i : ℕ) → i ≤ length fs → holds l (joined ls fs i) ≡ (holds l ls || holds l (take i fs))
+  pub joined-appears : (l : List ℕ) (i : ℕ) → i ≤ length fs → appearsIn l (joined ls fs i) ≡ (appearsIn l ls || appearsIn l (take i fs))
   unfolding joined
-  joined-holds l zero h = rw (holds-none l fs) (sym (or-false (holds l ls)))
-  joined-holds l (suc i) h =
+  joined-appears l zero h = rw (appears-none l fs) (sym (or-false (appearsIn l ls)))
+  joined-appears l (suc i) h =
       let k : i < length fs = omega arith in
-      join-holds l (getD fs i []) (joined ls fs i)
-      ∙ rw (joined-holds l i (omega arith), take-suc fs i [] k, holds-snoc l (take i fs) (getD fs i [])) (sym (or-assoc (holds l ls) (holds l (take i fs)) (sameBytes l (getD fs i []))))
+      join-appears l (getD fs i []) (joined ls fs i)
+      ∙ rw (joined-appears l i (omega arith), take-suc fs i [] k, appears-snoc l (take i fs) (getD fs i [])) (sym (or-assoc (appearsIn l ls) (appearsIn l (take i fs)) (sameBytes l (getD fs i []))))
 
   -- one field more
-  pub joined-more : (i : ℕ) → i < length fs → length (joined ls fs (i + 1)) ≡ cond (holds (getD fs i []) ls || holds (getD fs i []) (take i fs)) (length (joined ls fs i)) (length (joined ls fs i) + 1)
+  pub joined-more : (i : ℕ) → i < length fs → length (joined ls fs (i + 1)) ≡ cond (appearsIn (getD fs i []) ls || appearsIn (getD fs i []) (take i fs)) (length (joined ls fs i)) (length (joined ls fs i) + 1)
   unfolding joined
   joined-more i h =
       let g = getD fs i [] in
       let j = joined ls fs i in
       rw (add-one i)
-      (grown-length (first (sameBytes g) j) j g ∙ count-at (first (sameBytes g) j) (length j) ∙ rw (first-holds g j, joined-holds g i (omega arith)))
+      (entered-length (first (sameBytes g) j) j g ∙ count-at (first (sameBytes g) j) (length j) ∙ rw (first-appears g j, joined-appears g i (omega arith)))
 
   pub joined-step : (i : ℕ) → (length (joined ls fs i) ≤ length (joined ls fs (suc i))) × (length (joined ls fs (suc i)) ≤ length (joined ls fs i) + 1)
   unfolding joined
   joined-step i =
       let g = getD fs i [] in
       let j = joined ls fs i in
-      let e = grown-length (first (sameBytes g) j) j g in
+      let e = entered-length (first (sameBytes g) j) j g in
       let c = count-le (first (sameBytes g) j) (length j) in
       (omega (arith, e, c .0), omega (arith, e, c .1))
 
@@ -223,15 +223,15 @@ pub counted-none : (ls fs : List (List ℕ)) (n : ℕ) → n ≡ length ls → _
 unfolding joined
 counted-none ls fs n e = rw e
 
-pub counted-more : (ls fs : List (List ℕ)) (i : ℕ) (l : List ℕ) → i < length fs → l ≡ getD fs i [] → countWith (countedUpTo ls fs i) (holds l (take i fs)) (first (sameBytes l) ls) ≡ countedUpTo ls fs (i + 1)
-unfolding holds
+pub counted-more : (ls fs : List (List ℕ)) (i : ℕ) (l : List ℕ) → i < length fs → l ≡ getD fs i [] → countWith (countedUpTo ls fs i) (appearsIn l (take i fs)) (first (sameBytes l) ls) ≡ countedUpTo ls fs (i + 1)
+unfolding appearsIn
 counted-more ls fs i l h e =
     rw (e, joined-more [] fs i h, joined-more ls fs i h)
-    (by-seen (holds (getD fs i []) (take i fs)) (first (sameBytes (getD fs i [])) ls) (holds (getD fs i []) ls) (first-holds (getD fs i []) ls))
+    (by-seen (appearsIn (getD fs i []) (take i fs)) (first (sameBytes (getD fs i [])) ls) (appearsIn (getD fs i []) ls) (first-appears (getD fs i []) ls))
   where
     by-seen :
         (seen : Bool) (f : Found) (there : Bool) →
-        isAt f ≡ there →
+        isFound f ≡ there →
         countWith (countedUpTo ls fs i) seen f
         ≡ record { different = cond seen (length (joined [] fs i)) (length (joined [] fs i) + 1); labels = cond (there || seen) (length (joined ls fs i)) (length (joined ls fs i) + 1) }
     by-seen true f true q = refl
@@ -250,7 +250,7 @@ abbrev pub taken : List ℕ → List ℕ → ℕ → ℕ → Taken
 taken l e n k = record { labels = l; entries = e; stored = n; listed = k }
 
 abbrev pub oneMore : Taken → List ℕ → List (List ℕ) → Taken
-oneMore p x before = takeLabel p (holds x before) x (foundIn p x)
+oneMore p x before = takeLabel p (appearsIn x before) x (foundIn p x)
 
 abbrev pub upTo : Store → List (List ℕ) → ℕ → Taken
 upTo st fs i = takenUpTo (begun st) fs i
@@ -272,7 +272,7 @@ pub record Ready (fs : List (List ℕ)) (i : ℕ) (p : Taken) (x : List ℕ) : T
   pub stored : p .stored ≤ 64
   pub place : placeOf (foundIn p x) (p .stored) < 64
   pub label : length x ≤ 255
-  pub room : holds x (take i fs) ≡ false → p .listed < 8
+  pub room : appearsIn x (take i fs) ≡ false → p .listed < 8
 
 module _ (st : Store) (text : List ℕ) (fit : Fits st text) where
   abbrev F : List (List ℕ)
@@ -307,9 +307,9 @@ module _ (st : Store) (text : List ℕ) (fit : Fits st text) where
       omega (arith, found-place (sameBytes g) (labelAt (p .labels)) (p .stored) (p .stored) (omega arith), e, joined-mono S F (suc i) (length F) h, fit .room)
 
   listed-more : (i : ℕ) → i < length F → TakenFacts st F i → upTo st F (suc i) .listed ≡ length (joined [] F (suc i))
-  unfolding takenUpTo holds
+  unfolding takenUpTo appearsIn
   listed-more i h t =
-      ap (λ (n : ℕ). cond (holds (getD F i []) (take i F)) n (n + 1)) (t .listed) ∙ sym (ap (λ (n : ℕ). length (joined [] F n)) (sym (add-one i)) ∙ joined-more [] F i h)
+      ap (λ (n : ℕ). cond (appearsIn (getD F i []) (take i F)) n (n + 1)) (t .listed) ∙ sym (ap (λ (n : ℕ). length (joined [] F n)) (sym (add-one i)) ∙ joined-more [] F i h)
 
   pub taken-facts : (i : ℕ) → i ≤ length F → TakenFacts st F i
   unfolding takenUpTo joined
@@ -320,7 +320,7 @@ module _ (st : Store) (text : List ℕ) (fit : Fits st text) where
       let g = getD F i [] in
       record {
         labels = length-entered (foundIn p g) (p .labels) (p .stored) g (place-small i h t) (label-small i h) (t .labels);
-        entries-long = by-seen (holds g (take i F)) p (placeOf (foundIn p g) (p .stored)) (t .entries-long);
+        entries-long = by-seen (appearsIn g (take i F)) p (placeOf (foundIn p g) (p .stored)) (t .entries-long);
         table = table-more i h t (label-small i h);
         listed = listed-more i h t;
       }
@@ -330,7 +330,7 @@ module _ (st : Store) (text : List ℕ) (fit : Fits st text) where
       by-seen false p v e = length-set (p .entries) (832 + p .listed) v ∙ e
 
   pub ready : (i : ℕ) → i < length F → Ready F i (upTo st F i) (getD F i [])
-  unfolding holds
+  unfolding appearsIn
   ready i h =
       let t = taken-facts i (omega arith) in
       record {
@@ -342,7 +342,7 @@ module _ (st : Store) (text : List ℕ) (fit : Fits st text) where
         room = λ e. omega (arith, t .listed, more e, joined-mono [] F (suc i) (length F) h, fit .few);
       }
     where
-      more : holds (getD F i []) (take i F) ≡ false → length (joined [] F (suc i)) ≡ length (joined [] F i) + 1
+      more : appearsIn (getD F i []) (take i F) ≡ false → length (joined [] F (suc i)) ≡ length (joined [] F i) + 1
       more e = ap (λ (n : ℕ). length (joined [] F n)) (sym (add-one i)) ∙ joined-more [] F i h ∙ rw e
 
   -- the code's own slices and counts, before field i is taken
@@ -354,7 +354,7 @@ pub taken-more :
     (st : Store) (text : List ℕ) (i a b : ℕ) (l e l′ e′ : List ℕ) (n k n′ k′ : ℕ) (seen : Bool) →
     Next text i a b →
     taken l e n k ≡ upTo st (fields text) i →
-    holds (part text a b) (take i (fields text)) ≡ seen →
+    appearsIn (part text a b) (take i (fields text)) ≡ seen →
     l′ ≡ entered (foundIn (taken l e n k) (part text a b)) l n (part text a b) →
     n′ ≡ countOf (foundIn (taken l e n k) (part text a b)) n →
     e′ ≡ cond seen e (set e (832 + k) (placeOf (foundIn (taken l e n k) (part text a b)) n)) →
@@ -441,11 +441,11 @@ module _ (st : Store) (text : List ℕ) where
 
 -- ---- the numbers of the list
 
-holds-at : (ls : List (List ℕ)) (k : ℕ) → k < length ls → holds (getD ls k []) ls ≡ true
-unfolding holds
-holds-at [] k h = absurd (omega arith)
-holds-at (x ∷ xs) zero h = rw (same-refl x)
-holds-at (x ∷ xs) (suc k) h = rw (holds-at xs k (le-of-suc-le-suc h)) (or-true (sameBytes (getD xs k []) x))
+appears-at : (ls : List (List ℕ)) (k : ℕ) → k < length ls → appearsIn (getD ls k []) ls ≡ true
+unfolding appearsIn
+appears-at [] k h = absurd (omega arith)
+appears-at (x ∷ xs) zero h = rw (same-refl x)
+appears-at (x ∷ xs) (suc k) h = rw (appears-at xs k (le-of-suc-le-suc h)) (or-true (sameBytes (getD xs k []) x))
 
 first-new : (l : List ℕ) (ls : List (List ℕ)) → first (sameBytes l) ls ≡ Nothing → first (sameBytes l) (ls ++ (l ∷ [])) ≡ At (length ls)
 unfolding first
@@ -461,34 +461,34 @@ first-new l (x ∷ xs) e = by-test (sameBytes l x) (first (sameBytes l) xs) (fir
 join-number : (g : List ℕ) (ls : List (List ℕ)) → numberIn (join ls g) g ≡ placeOf (first (sameBytes g) ls) (length ls)
 join-number g ls = by-found (first (sameBytes g) ls) refl
   where
-    by-found : (f : Found) → first (sameBytes g) ls ≡ f → numberIn (grown f ls g) g ≡ placeOf f (length ls)
+    by-found : (f : Found) → first (sameBytes g) ls ≡ f → numberIn (labelsEntered f ls g) g ≡ placeOf f (length ls)
     by-found (At k) e = ap (λ (f : Found). placeOf f 0) e
     by-found Nothing e = ap (λ (f : Found). placeOf f 0) (first-new g ls e)
 
 -- a label that is there keeps its number
-join-keeps : (x g : List ℕ) (ls : List (List ℕ)) → holds x ls ≡ true → numberIn (join ls g) x ≡ numberIn ls x
+join-keeps : (x g : List ℕ) (ls : List (List ℕ)) → appearsIn x ls ≡ true → numberIn (join ls g) x ≡ numberIn ls x
 join-keeps x g ls h = by-found (first (sameBytes g) ls)
   where
-    by-there : (f : Found) → first (sameBytes x) ls ≡ f → isAt f ≡ true → numberIn (ls ++ (g ∷ [])) x ≡ numberIn ls x
+    by-there : (f : Found) → first (sameBytes x) ls ≡ f → isFound f ≡ true → numberIn (ls ++ (g ∷ [])) x ≡ numberIn ls x
     by-there (At k) e q = ap (λ (f : Found). placeOf f 0) (first-append (sameBytes x) ls (g ∷ []) k e ∙ sym e)
     by-there Nothing e q = absurd (no q)
 
-    by-found : (f : Found) → numberIn (grown f ls g) x ≡ numberIn ls x
+    by-found : (f : Found) → numberIn (labelsEntered f ls g) x ≡ numberIn ls x
     by-found (At k) = refl
-    by-found Nothing = by-there (first (sameBytes x) ls) refl (first-holds x ls ∙ h)
+    by-found Nothing = by-there (first (sameBytes x) ls) refl (first-appears x ls ∙ h)
 
 -- joining a list that has it, or has it not
-join-there : (g : List ℕ) (ls : List (List ℕ)) → holds g ls ≡ true → join ls g ≡ ls
-join-there g ls h = by-found (first (sameBytes g) ls) (first-holds g ls ∙ h)
+join-there : (g : List ℕ) (ls : List (List ℕ)) → appearsIn g ls ≡ true → join ls g ≡ ls
+join-there g ls h = by-found (first (sameBytes g) ls) (first-appears g ls ∙ h)
   where
-    by-found : (f : Found) → isAt f ≡ true → grown f ls g ≡ ls
+    by-found : (f : Found) → isFound f ≡ true → labelsEntered f ls g ≡ ls
     by-found (At k) e = refl
     by-found Nothing e = absurd (no e)
 
-join-new : (g : List ℕ) (ls : List (List ℕ)) → holds g ls ≡ false → join ls g ≡ ls ++ (g ∷ [])
-join-new g ls h = by-found (first (sameBytes g) ls) (first-holds g ls ∙ h)
+join-new : (g : List ℕ) (ls : List (List ℕ)) → appearsIn g ls ≡ false → join ls g ≡ ls ++ (g ∷ [])
+join-new g ls h = by-found (first (sameBytes g) ls) (first-appears g ls ∙ h)
   where
-    by-found : (f : Found) → isAt f ≡ false → grown f ls g ≡ ls ++ (g ∷ [])
+    by-found : (f : Found) → isFound f ≡ false → labelsEntered f ls g ≡ ls ++ (g ∷ [])
     by-found (At k) e = absurd (no (sym e))
     by-found Nothing e = refl
 
@@ -508,12 +508,12 @@ or-right true = refl
 or-right false = refl
 
 -- what joined the empty list is in any other that the same fields joined
-different-in : (ls fs : List (List ℕ)) (i k : ℕ) → i ≤ length fs → k < length (joined [] fs i) → holds (getD (joined [] fs i) k []) (joined ls fs i) ≡ true
-unfolding holds
+different-in : (ls fs : List (List ℕ)) (i k : ℕ) → i ≤ length fs → k < length (joined [] fs i) → appearsIn (getD (joined [] fs i) k []) (joined ls fs i) ≡ true
+unfolding appearsIn
 different-in ls fs i k h j =
     let x = getD (joined [] fs i) k [] in
-    let e : holds x (take i fs) ≡ true = sym (joined-holds [] fs x i h) ∙ holds-at (joined [] fs i) k j in
-    joined-holds ls fs x i h ∙ rw e (or-right (holds x ls))
+    let e : appearsIn x (take i fs) ≡ true = sym (joined-appears [] fs x i h) ∙ appears-at (joined [] fs i) k j in
+    joined-appears ls fs x i h ∙ rw e (or-right (appearsIn x ls))
 
 list-snoc : (e : List ℕ) (k v : ℕ) → length e ≡ 840 → k < 8 → entries (onlycapAt (set e (832 + k) v)) (k + 1) ≡ entries (onlycapAt e) k ++ (v ∷ [])
 unfolding onlycapAt
@@ -530,15 +530,15 @@ module _ (st : Store) (text : List ℕ) (fit : Fits st text) where
   abbrev SS : List (List ℕ)
   SS = tableOf st .labels
 
-  list-more : (i : ℕ) → i < length FF → (seen : Bool) → holds (getD FF i []) (take i FF) ≡ seen
+  list-more : (i : ℕ) → i < length FF → (seen : Bool) → appearsIn (getD FF i []) (take i FF) ≡ seen
       → entries (onlycapAt (upTo st FF i .entries)) (upTo st FF i .listed) ≡ map (numberIn (joined SS FF i)) (joined [] FF i)
       → entries (onlycapAt (cond seen (upTo st FF i .entries) (set (upTo st FF i .entries) (832 + upTo st FF i .listed) (placeOf (foundIn (upTo st FF i) (getD FF i [])) (upTo st FF i .stored))))) (cond seen (upTo st FF i .listed) (upTo st FF i .listed + 1))
       ≡ map (numberIn (join (joined SS FF i) (getD FF i []))) (join (joined [] FF i) (getD FF i []))
-  unfolding holds
+  unfolding appearsIn
   list-more i h true q ih =
       let g = getD FF i [] in
-      let a : holds g (joined SS FF i) ≡ true = joined-holds SS FF g i (omega arith) ∙ rw q (or-right (holds g SS)) in
-      let b : holds g (joined [] FF i) ≡ true = joined-holds [] FF g i (omega arith) ∙ q in
+      let a : appearsIn g (joined SS FF i) ≡ true = joined-appears SS FF g i (omega arith) ∙ rw q (or-right (appearsIn g SS)) in
+      let b : appearsIn g (joined [] FF i) ≡ true = joined-appears [] FF g i (omega arith) ∙ q in
       ih ∙ ap (λ (ls : List (List ℕ)). map (numberIn ls) (joined [] FF i)) (sym (join-there g (joined SS FF i) a)) ∙ ap (map (numberIn (join (joined SS FF i) g))) (sym (join-there g (joined [] FF i) b))
   list-more i h false q ih =
       let g = getD FF i [] in
@@ -547,7 +547,7 @@ module _ (st : Store) (text : List ℕ) (fit : Fits st text) where
       let dd = joined [] FF i in
       let r = ready st text fit i h in
       let t = taken-facts st text fit i (omega arith) in
-      let b : holds g dd ≡ false = joined-holds [] FF g i (omega arith) ∙ q in
+      let b : appearsIn g dd ≡ false = joined-appears [] FF g i (omega arith) ∙ q in
       let v : placeOf (foundIn p g) (p .stored) ≡ numberIn (join j g) g = ap (λ (n : ℕ). placeOf (foundIn p g) n) (stored-is st text fit i t) ∙ ap (λ (ls : List (List ℕ)). placeOf (first (sameBytes g) ls) (length j)) (t .table) ∙ sym (join-number g j) in
       let m : map (numberIn j) dd ≡ map (numberIn (join j g)) dd = map-same (numberIn j) (numberIn (join j g)) dd (λ k z. sym (join-keeps (getD dd k []) g j (different-in SS FF i k (omega arith) z))) in
       list-snoc (p .entries) (p .listed) (placeOf (foundIn p g) (p .stored)) (r .entries-long) (r .room q)
@@ -561,13 +561,13 @@ module _ (st : Store) (text : List ℕ) (fit : Fits st text) where
   pub list-is : (i : ℕ) → i ≤ length FF → entries (onlycapAt (upTo st FF i .entries)) (upTo st FF i .listed) ≡ map (numberIn (joined SS FF i)) (joined [] FF i)
   unfolding takenUpTo joined entries
   list-is zero h = refl
-  list-is (suc i) h = list-more i h (holds (getD FF i []) (take i FF)) refl (list-is i (omega arith))
+  list-is (suc i) h = list-more i h (appearsIn (getD FF i []) (take i FF)) refl (list-is i (omega arith))
 
   -- what stands before the list is as it was
   pub entries-before : (i j : ℕ) → j < 832 → getD (upTo st FF i .entries) j 0 ≡ getD (st .entries) j 0
   unfolding takenUpTo
   entries-before zero j h = refl
-  entries-before (suc i) j h = by-seen (holds (getD FF i []) (take i FF)) (upTo st FF i) (placeOf (foundIn (upTo st FF i) (getD FF i [])) (upTo st FF i .stored)) (entries-before i j h)
+  entries-before (suc i) j h = by-seen (appearsIn (getD FF i []) (take i FF)) (upTo st FF i) (placeOf (foundIn (upTo st FF i) (getD FF i [])) (upTo st FF i .stored)) (entries-before i j h)
     where
       by-seen : (b : Bool) (p : Taken) (v : ℕ) → getD (p .entries) j 0 ≡ getD (st .entries) j 0 → getD (cond b (p .entries) (set (p .entries) (832 + p .listed) v)) j 0 ≡ getD (st .entries) j 0
       by-seen true p v e = e
@@ -686,10 +686,10 @@ onlycap-table st text u = ap (λ (a : Done). tableOf (storeBy st (fields text) a
 
 -- ---- an undamaged state stays undamaged
 
-number-lt : (x : List ℕ) (ls : List (List ℕ)) → holds x ls ≡ true → numberIn ls x < length ls
-number-lt x ls h = by-found (first (sameBytes x) ls) refl (first-holds x ls ∙ h)
+number-lt : (x : List ℕ) (ls : List (List ℕ)) → appearsIn x ls ≡ true → numberIn ls x < length ls
+number-lt x ls h = by-found (first (sameBytes x) ls) refl (first-appears x ls ∙ h)
   where
-    by-found : (f : Found) → first (sameBytes x) ls ≡ f → isAt f ≡ true → placeOf f 0 < length ls
+    by-found : (f : Found) → first (sameBytes x) ls ≡ f → isFound f ≡ true → placeOf f 0 < length ls
     by-found (At k) e q = first-is (sameBytes x) [] ls k e .0
     by-found Nothing e q = absurd (no q)
 

@@ -10,15 +10,15 @@ use Rattle.search.specs.Bytes.{sameBytes}
 use Rattle.search.specs.declared.Found.{Found}
 use Rattle.alphabet.specs.Alphabet.{wellFormed, lineLimit, fields}
 use Rattle.store.specs.Table.{Table, labelLimit, onlycapLimit}
-use Rattle.store.specs.Layout.{Store, store, tableOf, undamagedOf, labelAt, Sizes, Counts}
-use Rattle.rules.specs.Rules.{grown, entered}
+use Rattle.store.specs.Layout.{Store, store, onlycapFrom, tableOf, undamagedOf, labelAt, Sizes, Counts}
+use Rattle.rules.specs.Rules.{labelsEntered, entered}
 use Rattle.store.specs.declared.Done.{Done}
 use Rattle.store.specs.declared.Done.the-variants as d
 use Rattle.onlycap.specs.declared.Counted.{Counted}
 
 -- some labels once the first n of a write's fields have joined them, each last where it is not there
 abbrev pub join : List (List ℕ) → List ℕ → List (List ℕ)
-join ls l = grown (first (sameBytes l) ls) ls l
+join ls l = labelsEntered (first (sameBytes l) ls) ls l
 
 unfoldable pub joined : List (List ℕ) → List (List ℕ) → ℕ → List (List ℕ)
 joined ls fs zero = ls
@@ -77,9 +77,9 @@ onlycapTable t text = tableBy t (fields text) (onlycapOf t text)
 -- ---- the same in the lent slices: new labels' places, the list's first numbers and the two counts change, and nothing else
 
 -- whether a label is among some others
-unfoldable pub holds : List ℕ → List (List ℕ) → Bool
-holds l [] = false
-holds l (x ∷ xs) = sameBytes l x || holds l xs
+unfoldable pub appearsIn : List ℕ → List (List ℕ) → Bool
+appearsIn l [] = false
+appearsIn l (x ∷ xs) = sameBytes l x || appearsIn l xs
 
 -- the label store and the entries with how many labels they have, and how many numbers of the new list
 pub record Taken : Type 0 where
@@ -92,7 +92,7 @@ abbrev pub takeLabel : Taken → Bool → List ℕ → Found → Taken
 takeLabel p seen l f =
     record {
       labels = entered f (p .labels) (p .stored) l;
-      entries = cond seen (p .entries) (set (p .entries) (832 + p .listed) (placeOf f (p .stored)));
+      entries = cond seen (p .entries) (set (p .entries) (onlycapFrom + p .listed) (placeOf f (p .stored)));
       stored = countOf f (p .stored);
       listed = cond seen (p .listed) (p .listed + 1);
     }
@@ -103,7 +103,7 @@ foundIn p l = first (sameBytes l) (entries (labelAt (p .labels)) (p .stored))
 -- the first n fields taken, in order
 unfoldable pub takenUpTo : Taken → List (List ℕ) → ℕ → Taken
 takenUpTo p fs zero = p
-takenUpTo p fs (suc n) = takeLabel (takenUpTo p fs n) (holds (getD fs n []) (take n fs)) (getD fs n []) (foundIn (takenUpTo p fs n) (getD fs n []))
+takenUpTo p fs (suc n) = takeLabel (takenUpTo p fs n) (appearsIn (getD fs n []) (take n fs)) (getD fs n []) (foundIn (takenUpTo p fs n) (getD fs n []))
 
 abbrev pub begun : Store → Taken
 begun st = record { labels = st .labels; entries = st .entries; stored = getD (st .words) 0 0; listed = 0 }
@@ -135,17 +135,7 @@ countWith c false f = record { different = c .different + 1; labels = countOf f 
 pub record Fits (st : Store) (text : List ℕ) : Type 0 where
   pub sizes : Sizes (st .labels) (st .entries) (st .words)
   pub counts : Counts (st .words)
-  pub size : length text ≤ 600
+  pub size : length text ≤ lineLimit
   pub formed : all wellFormed (fields text) ≡ true
-  pub few : length (different (fields text)) ≤ 8
-  pub room : length (labelsWith (tableOf st) (fields text)) ≤ 64
-
--- ---- 01's number for each case of the answer: done, or the refusal's number
-
-pub data Said : Type 0 where
-  done : Said
-  refused : ℕ → Said
-
-abbrev pub doneSaid : Done → Said
-doneSaid d.Done = done
-doneSaid (d.Refused n) = refused n
+  pub few : length (different (fields text)) ≤ onlycapLimit
+  pub room : length (labelsWith (tableOf st) (fields text)) ≤ labelLimit

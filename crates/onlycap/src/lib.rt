@@ -11,7 +11,7 @@ ghost use Rattle.search.specs.Bytes.{sameBytes};
 ghost use Rattle.alphabet.specs.Alphabet.{wellFormed, fields};
 ghost use Rattle.store.specs.Layout.{store, labelAt};
 ghost use Rattle.rules.specs.Rules.{entered};
-ghost use Rattle.onlycap.specs.Onlycap.{loneDash, holds, joined, countWith, listSet, Fits, onlycapAnswer, onlycapStore};
+ghost use Rattle.onlycap.specs.Onlycap.{loneDash, appearsIn, joined, countWith, listSet, Fits, onlycapAnswer, onlycapStore};
 
 // The most bytes of a single write, and the most labels of the list and of the table.
 const LIMIT: usize = 600;
@@ -63,7 +63,7 @@ fn all_formed(text: &[u8]) -> bool
 
 // Whether a label is among the first `count` fields of a write.
 fn seen_before(text: &[u8], count: usize, label: &[u8]) -> bool
-    ensures { λ r. ⌜ r ≡ holds (now (label .entry)) (take count (fields (now (text .entry)))) ⌝ }
+    ensures { λ r. ⌜ r ≡ appearsIn (now (label .entry)) (take count (fields (now (text .entry)))) ⌝ }
 {
     let mut at = 0;
     let mut i = 0;
@@ -80,7 +80,8 @@ fn seen_before(text: &[u8], count: usize, label: &[u8]) -> bool
     false
 }
 
-// Counts one field, of which `seen` says whether it stood before.
+// Counts one field, of which `seen` says whether it stood before. A write of 600 bytes has at most 300 fields, so neither count comes near
+// 1000.
 fn count_label(labels: &[u8], stored: usize, label: &[u8], seen: bool, counted: Counted) -> Counted
     requires { ⌜ (length (now labels) ≡ 16384) × (stored ≤ 64) × (counted .different ≤ 1000) × (counted .labels ≤ 1000) ⌝ }
     ensures { λ r. ⌜ r ≡ countWith counted seen (first (sameBytes (now (label .entry))) (entries (labelAt (now (labels .entry))) stored)) ⌝ }
@@ -173,7 +174,7 @@ pub fn set_onlycap(labels: &mut [u8], entries: &mut [u8], words: &mut [u64], tex
     ensures { λ r. ⌜ r ≡ onlycapAnswer (store (now (labels .entry)) (now (entries .entry)) (now (words .entry))) (now (text .entry)) ⌝ }
     ensures { λ _. ⌜ store (now (labels .exit)) (now (entries .exit)) (now (words .exit)) ≡ onlycapStore (store (now (labels .entry)) (now (entries .entry)) (now (words .entry))) (now (text .entry)) ⌝ }
 {
-    if !store::undamaged(labels, entries, words) {
+    if !damage::undamaged(labels, entries, words) {
         return Done::Refused(0);
     }
     if LIMIT < text.len() {

@@ -9,7 +9,7 @@ use Rattle.search.specs.declared.Found.the-variants.{At, Nothing}
 use Rattle.alphabet.specs.Alphabet.{wellFormed, lineLimit}
 use Rattle.store.specs.declared.Rule.{Rule}
 use Rattle.store.specs.Table.{Table, labelIn}
-use Rattle.store.specs.Layout.{Store, tableOf, undamagedOf}
+use Rattle.store.specs.Layout.{Store, tableOf, undamagedOf, modesFrom}
 use Rattle.revoke.specs.declared.Revoked.{Revoked}
 use Rattle.revoke.specs.declared.Revoked.the-variants.{Count, Refused}
 
@@ -51,7 +51,7 @@ revokeTable t label = cond (ltb lineLimit (length label)) t (cond (wellFormed la
 
 unfoldable pub cleared : List ℕ → ℕ → ℕ → List ℕ
 cleared e n zero = e
-cleared e n (suc k) = cond (eqb (getD e k 0) n) (set (cleared e n k) (512 + k) 0) (cleared e n k)
+cleared e n (suc k) = cond (eqb (getD e k 0) n) (set (cleared e n k) (modesFrom + k) 0) (cleared e n k)
 
 abbrev pub clearedFor : Store → Found → List ℕ
 clearedFor st (At n) = cleared (st .entries) n (getD (st .words) 1 0)

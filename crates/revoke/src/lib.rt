@@ -39,7 +39,7 @@ pub fn revoke(labels: &[u8], entries: &mut [u8], words: &[u64], label: &[u8]) ->
     ensures { λ r. ⌜ r ≡ revokeAnswer (store (now (labels .entry)) (now (entries .entry)) (now (words .entry))) (now (label .entry)) ⌝ }
     ensures { λ _. ⌜ now (entries .exit) ≡ revokeEntries (store (now (labels .entry)) (now (entries .entry)) (now (words .entry))) (now (label .entry)) ⌝ }
 {
-    if !store::undamaged(labels, entries, words) {
+    if !damage::undamaged(labels, entries, words) {
         return Revoked::Refused(0);
     }
     if LIMIT < label.len() {

@@ -23,7 +23,7 @@ use Rattle.store.proofs.Laws.{Undamaged, label-written, label-before, sound-mor
 use Rattle.rules.specs.declared.Spot.{Spot}
 use Rattle.rules.specs.declared.Place.{Place}
 use Rattle.rules.specs.declared.Place.the-variants as p
-use Rattle.rules.specs.Rules.{noPlace, placing, grown, withPair, ruleFor, entered, ruleAtSpot, ruleSet, Placed}
+use Rattle.rules.specs.Rules.{noPlace, placing, labelsEntered, withPair, ruleFor, entered, ruleAtSpot, ruleSet, Placed}
 
 -- ---- a place in the tables of a store
 
@@ -136,7 +136,7 @@ pub labels-entered :
     (f : Found) (labels : List ℕ) (n : ℕ) (l : List ℕ) →
     n * 256 ≤ length labels →
     length l ≤ 255 →
-    entries (labelAt (entered f labels n l)) (countOf f n) ≡ grown f (entries (labelAt labels) n) l
+    entries (labelAt (entered f labels n l)) (countOf f n) ≡ labelsEntered f (entries (labelAt labels) n) l
 labels-entered (At i) labels n l h small = refl
 labels-entered Nothing labels n l h small =
     rw add-one
@@ -244,7 +244,7 @@ pair-table st s o spot m q =
     same-table
     (ap (λ (c : ℕ). entries (labelAt (entered (spot .object) l₁ n₁ o)) c) (words-labels w wide 1 (omega arith) _ _)
     ∙ labels-entered (spot .object) l₁ n₁ o hn₁ (q .object)
-    ∙ ap (λ (ls : List (List ℕ)). grown (spot .object) ls o) (labels-entered (spot .subject) l n s hn (q .subject)))
+    ∙ ap (λ (ls : List (List ℕ)). labelsEntered (spot .object) ls o) (labels-entered (spot .subject) l n s hn (q .subject)))
     (ap (λ (c : ℕ). entries (ruleAt (withRule e (placeOf (spot .rule) k) (ruleAtSpot n spot m))) c) (words-entries w wide 1 (omega arith) _ _)
     ∙ rules-put e k (spot .rule) (ruleAtSpot n spot m) (q .sizes .entries) (q .counts .rules) (f .rule) (f .rules)
     ∙ ap (λ (c : ℕ). put (spot .rule) (entries (ruleAt e) k) (ruleAtSpot c spot m)) (sym (entries-length (labelAt l) n)))

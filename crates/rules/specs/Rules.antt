@@ -10,7 +10,7 @@ use Rattle.search.specs.declared.Found.{Found}
 use Rattle.search.specs.declared.Found.the-variants.{At, Nothing}
 use Rattle.store.specs.declared.Rule.{Rule}
 use Rattle.store.specs.Table.{Table, labelIn, pairIn, labelLimit, ruleLimit}
-use Rattle.store.specs.Layout.{Store, tableOf, withLabel, withRule, Sizes, Counts}
+use Rattle.store.specs.Layout.{Store, tableOf, modesFrom, withLabel, withRule, Sizes, Counts}
 use Rattle.rules.specs.declared.Spot.{Spot}
 use Rattle.rules.specs.declared.Place.{Place}
 use Rattle.rules.specs.declared.Place.the-variants as p
@@ -26,8 +26,8 @@ abbrev pub labelsAfter : Table → Found → Found → ℕ
 labelsAfter t s o = countOf o (countOf s (length (t .labels)))
 
 -- the pair's rule, by these numbers
-abbrev pub ruleOf : Table → Found → Found → Found
-ruleOf t s o = pairIn t (subjectNumber t s) (objectNumber t s o)
+abbrev pub ruleOfPair : Table → Found → Found → Found
+ruleOfPair t s o = pairIn t (subjectNumber t s) (objectNumber t s o)
 
 -- whether a new entry has no place in a table of n entries
 abbrev pub noPlace : Found → ℕ → ℕ → Bool
@@ -39,9 +39,9 @@ abbrev pub placeFor : Table → Found → Found → Place
 placeFor t s o =
     cond (ltb labelLimit (labelsAfter t s o))
     (p.Refused 6)
-    (cond (noPlace (ruleOf t s o) (length (t .rules)) ruleLimit)
+    (cond (noPlace (ruleOfPair t s o) (length (t .rules)) ruleLimit)
     (p.Refused 7)
-    (p.At (record { subject = s; object = o; rule = ruleOf t s o })))
+    (p.At (record { subject = s; object = o; rule = ruleOfPair t s o })))
 
 unfoldable pub placing : Table → List ℕ → List ℕ → Place
 placing t s o = placeFor t (labelIn t s) (labelIn t o)
@@ -52,9 +52,9 @@ modesOfRule (At i) rules = getD rules i (record { subject = 0; object = 0; modes
 modesOfRule Nothing rules = 0
 
 -- the labels once one of them has entered: last, where it is not there
-abbrev pub grown : Found → List (List ℕ) → List ℕ → List (List ℕ)
-grown (At i) ls l = ls
-grown Nothing ls l = ls ++ (l ∷ [])
+abbrev pub labelsEntered : Found → List (List ℕ) → List ℕ → List (List ℕ)
+labelsEntered (At i) ls l = ls
+labelsEntered Nothing ls l = ls ++ (l ∷ [])
 
 -- an accepted rule: new labels enter, subject first, and the pair's modes are set wholly, in its place or last
 abbrev pub ruleFor : Table → Spot → ℕ → Rule
@@ -63,7 +63,7 @@ ruleFor t spot m = record { subject = subjectNumber t (spot .subject); object = 
 unfoldable pub withPair : Table → List ℕ → List ℕ → Spot → ℕ → Table
 withPair t s o spot m =
     record {
-      labels = grown (spot .object) (grown (spot .subject) (t .labels) s) o;
+      labels = labelsEntered (spot .object) (labelsEntered (spot .subject) (t .labels) s) o;
       rules = put (spot .rule) (t .rules) (ruleFor t spot m);
       mappings = t .mappings;
       onlycap = t .onlycap;
@@ -80,7 +80,7 @@ ruleAtSpot n spot m = record { subject = placeOf (spot .subject) n; object = pla
 
 -- the modes of the rule at a place
 abbrev pub modesAtPlace : List ℕ → Found → ℕ
-modesAtPlace e (At i) = getD e (512 + i) 0
+modesAtPlace e (At i) = getD e (modesFrom + i) 0
 modesAtPlace e Nothing = 0
 
 unfoldable pub ruleSet : Store → List ℕ → List ℕ → Spot → ℕ → Store

@@ -84,7 +84,7 @@ pub fn find_place(
     })
 }
 
-// The modes of the rule at a place, or none. Who calls it has found the place.
+// The modes of the rule at a place, or none. Who calls it has tested the store and found the place.
 pub fn modes_at(entries: &[u8], rule: Found) -> u8
     requires { ⌜ (length (now entries) ≡ 840) × (placeOf rule 0 < 256) ⌝ }
     ensures { λ r. ⌜ r ≡ modesAtPlace (now (entries .entry)) rule ⌝ }
@@ -108,7 +108,8 @@ pub fn enter(labels: &mut [u8], found: Found, count: usize, label: &[u8])
     }
 }
 
-// Sets the modes of a pair at the place that `find_place` gave: new labels enter, subject first.
+// Sets the modes of a pair at the place that `find_place` gave: new labels enter, subject first. Who calls it has tested the store and both
+// labels, and has that place.
 pub fn set_pair(
     labels: &mut [u8],
     entries: &mut [u8],

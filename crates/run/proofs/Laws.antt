@@ -10,7 +10,8 @@ use lib.ListN.{length, drop, getD, drop-of-length-le}
 use lib.Seq.{drop-cons}
 use borrow.Author.Tests.{ltb-true, ltb-false}
 use Rattle.lookups.specs.Lookups.{lowerOf, lowestOf}
-use Rattle.lookups.proofs.Laws.{Lowest, Unmatched, lowest-found, lowest-none, none-lowest}
+use Rattle.lookups.specs.Lowest.{Lowest, Unmatched}
+use Rattle.lookups.proofs.Laws.{lowest-found, lowest-none, none-lowest}
 use Rattle.lookups.specs.declared.Record.{Record}
 use Rattle.lookups.specs.declared.Best.{Best}
 use Rattle.lookups.specs.declared.Best.the-variants as best

@@ -4,7 +4,8 @@
 use Prim.Native.Nat.{ℕ}
 use mathlib.Core.Bool.{Bool, cond, _&&_}
 use mathlib.Core.List.{List, [], _∷_}
-use Rattle.cipso.specs.Cipso.{isLevel, knownSet}
+use Rattle.store.specs.Table.{knownSet}
+use Rattle.cipso.specs.Cipso.{isLevel}
 use Rattle.lookups.specs.Lookups.{lowestOf}
 use Rattle.lookups.specs.declared.Record.{Record}
 use Rattle.lookups.specs.declared.Best.{Best}

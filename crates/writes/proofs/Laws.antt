@@ -30,9 +30,9 @@ use Rattle.lines.specs.declared.RuleLine.the-variants as r
 use Rattle.lines.specs.declared.ChangeLine.{ChangeLine}
 use Rattle.lines.specs.declared.ChangeLine.the-variants as c
 use Rattle.lines.proofs.Laws.{Taken, Sound, rule-sound}
-use Rattle.writes.specs.Writes.{changed, Judged, is-skipped, is-refused, is-accepted, ruleJudged, changeJudged, judged, tableAfter, ruleStored, changeStored, saidStored, lineStored, lineVerdict, verdictOf, doneOf, changeAnswer, changeStore}
-use Rattle.writes.specs.declared.Verdict.{Verdict}
-use Rattle.writes.specs.declared.Verdict.the-variants as v
+use Rattle.writes.specs.Writes.{changed, Judged, is-skipped, is-refused, is-accepted, ruleJudged, changeJudged, judged, tableAfter, ruleStored, changeStored, saidStored, lineStored, lineOutcome, outcomeOf, doneOf, changeAnswer, changeStore}
+use Rattle.writes.specs.declared.Outcome.{Outcome}
+use Rattle.writes.specs.declared.Outcome.the-variants as v
 use Rattle.store.specs.declared.Done.{Done}
 use Rattle.store.specs.declared.Done.the-variants as d
 
@@ -75,11 +75,11 @@ placed-rule st s o spot q =
     place-low (spot .rule) (getD (st .words) 1 0) (omega (arith, f .rule, f .rules))
 
 -- a rule that was placed was accepted, and one that was refused is refused by the same number
-pub done-accepted : (t : Table) (s o : List ℕ) (m : ℕ) (q : Place) → doneOf (ruleJudged t s o m q) ≡ d.Done → v.Accepted ≡ verdictOf (ruleJudged t s o m q)
+pub done-accepted : (t : Table) (s o : List ℕ) (m : ℕ) (q : Place) → doneOf (ruleJudged t s o m q) ≡ d.Done → v.Accepted ≡ outcomeOf (ruleJudged t s o m q)
 done-accepted t s o m (p.Refused n) e = let z : _≡_ {A = ℕ} 0 1 = cc in absurd (omega arith)
 done-accepted t s o m (p.At spot) e = refl
 
-pub done-refused : (t : Table) (s o : List ℕ) (m : ℕ) (q : Place) {n : ℕ} → doneOf (ruleJudged t s o m q) ≡ d.Refused n → v.Refused n ≡ verdictOf (ruleJudged t s o m q)
+pub done-refused : (t : Table) (s o : List ℕ) (m : ℕ) (q : Place) {n : ℕ} → doneOf (ruleJudged t s o m q) ≡ d.Refused n → v.Refused n ≡ outcomeOf (ruleJudged t s o m q)
 done-refused t s o m (p.Refused k) e = cc
 done-refused t s o m (p.At spot) e = let z : _≡_ {A = ℕ} 0 1 = cc in absurd (omega arith)
 

@@ -1,29 +1,23 @@
 -- 01, Rule text and Single writes: what a line of rule text and a change-rule write do to the tables. Assumes nothing.
-use Prim.Native.Nat.{ℕ, _+_}
-use mathlib.Core.Bool.{Bool, true, false, cond, _&&_}
-use mathlib.Core.List.{List, [], _∷_}
-use lib.ListN.{length, getD, set}
-use lib.Dec.{ltb, eqb}
+use Prim.Native.Nat.{ℕ}
+use mathlib.Core.Bool.{cond}
+use mathlib.Core.List.{List}
 use lib.Bits.{bitAnd, bitOr, bitXor}
-use Rattle.search.specs.Search.{first}
-use Rattle.search.specs.declared.Found.{Found}
-use Rattle.search.specs.declared.Found.the-variants.{At, Nothing}
-use Rattle.store.specs.declared.Rule.{Rule}
+use Rattle.modes.specs.Modes.{ruleLetters}
 use Rattle.store.specs.Table.{Table}
 use Rattle.store.specs.Layout.{Store, tableOf, undamagedOf}
 use Rattle.rules.specs.Rules.{placing, withPair, ruleSet, modesOfRule, modesAtPlace}
-use Rattle.rules.specs.declared.Spot.{Spot}
 use Rattle.rules.specs.declared.Place.{Place}
 use Rattle.rules.specs.declared.Place.the-variants as p
 use Rattle.lines.specs.Lines.{Said, skipped, refused, rule, change, ruleOf, changeOf}
-use Rattle.writes.specs.declared.Verdict.{Verdict}
-use Rattle.writes.specs.declared.Verdict.the-variants as v
+use Rattle.writes.specs.declared.Outcome.{Outcome}
+use Rattle.writes.specs.declared.Outcome.the-variants as v
 use Rattle.store.specs.declared.Done.{Done}
 use Rattle.store.specs.declared.Done.the-variants as d
 
--- (old modes or allow) without deny: 63 is all six letters
+-- (old modes or allow) without deny
 abbrev pub changed : ℕ → ℕ → ℕ → ℕ
-changed old allow deny = bitAnd (bitOr old allow) (bitXor 63 deny)
+changed old allow deny = bitAnd (bitOr old allow) (bitXor ruleLetters deny)
 
 -- ---- what a line or a change does to the tables
 
@@ -73,13 +67,13 @@ saidStored st (change s o a d) = changeStored st s o a d (placing (tableOf st) s
 -- ---- the answers
 
 -- of a line of rule text
-abbrev pub verdictOf : Judged → Verdict
-verdictOf is-skipped = v.Skipped
-verdictOf (is-refused n) = v.Refused n
-verdictOf (is-accepted t) = v.Accepted
+abbrev pub outcomeOf : Judged → Outcome
+outcomeOf is-skipped = v.Skipped
+outcomeOf (is-refused n) = v.Refused n
+outcomeOf (is-accepted t) = v.Accepted
 
-unfoldable pub lineVerdict : Store → List ℕ → Verdict
-lineVerdict st line = verdictOf (judged (tableOf st) (ruleOf line))
+unfoldable pub lineOutcome : Store → List ℕ → Outcome
+lineOutcome st line = outcomeOf (judged (tableOf st) (ruleOf line))
 
 unfoldable pub lineStored : Store → List ℕ → Store
 lineStored st line = saidStored st (ruleOf line)

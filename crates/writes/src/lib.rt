@@ -9,10 +9,10 @@ ghost use Prim.Native.Nat.{_≤_};
 ghost use lib.ListN.{length};
 ghost use Rattle.store.specs.Layout.{store, tableOf, undamagedOf};
 ghost use Rattle.rules.specs.Rules.{placing};
-ghost use Rattle.writes.specs.Writes.{changed, ruleJudged, ruleStored, changeJudged, changeStored, doneOf, lineVerdict, lineStored, changeAnswer, changeStore};
+ghost use Rattle.writes.specs.Writes.{changed, ruleJudged, ruleStored, changeJudged, changeStored, doneOf, lineOutcome, lineStored, changeAnswer, changeStore};
 
 // What became of a line of rule text.
-pub enum Verdict {
+pub enum Outcome {
     Skipped,
     Accepted,
     Refused(u8),
@@ -76,15 +76,15 @@ fn place_change(
 }
 
 // Judges a line of rule text, and sets its pair where it is accepted. Who calls it has tested the state.
-pub fn write_line(labels: &mut [u8], entries: &mut [u8], words: &mut [u64], line: &[u8]) -> Verdict
+pub fn write_line(labels: &mut [u8], entries: &mut [u8], words: &mut [u64], line: &[u8]) -> Outcome
     requires { ⌜ undamagedOf (store (now labels) (now entries) (now words)) ≡ true ⌝ }
-    ensures { λ r. ⌜ r ≡ lineVerdict (store (now (labels .entry)) (now (entries .entry)) (now (words .entry))) (now (line .entry)) ⌝ }
+    ensures { λ r. ⌜ r ≡ lineOutcome (store (now (labels .entry)) (now (entries .entry)) (now (words .entry))) (now (line .entry)) ⌝ }
     ensures { λ _. ⌜ store (now (labels .exit)) (now (entries .exit)) (now (words .exit)) ≡ lineStored (store (now (labels .entry)) (now (entries .entry)) (now (words .entry))) (now (line .entry)) ⌝ }
 {
     let said = lines::rule_line(line);
     match said {
-        RuleLine::Skipped => Verdict::Skipped,
-        RuleLine::Refused(n) => Verdict::Refused(n),
+        RuleLine::Skipped => Outcome::Skipped,
+        RuleLine::Refused(n) => Outcome::Refused(n),
         RuleLine::Rule(pair, modes) => {
             let a = pair.subject.start;
             let b = pair.subject.end;
@@ -92,8 +92,8 @@ pub fn write_line(labels: &mut [u8], entries: &mut [u8], words: &mut [u64], line
             let d = pair.object.end;
             let done = place_rule(labels, entries, words, &line[a..b], &line[c..d], modes);
             match done {
-                Done::Done => Verdict::Accepted,
-                Done::Refused(n) => Verdict::Refused(n),
+                Done::Done => Outcome::Accepted,
+                Done::Refused(n) => Outcome::Refused(n),
             }
         }
     }
@@ -104,7 +104,7 @@ pub fn change(labels: &mut [u8], entries: &mut [u8], words: &mut [u64], text: &[
     ensures { λ r. ⌜ r ≡ changeAnswer (store (now (labels .entry)) (now (entries .entry)) (now (words .entry))) (now (text .entry)) ⌝ }
     ensures { λ _. ⌜ store (now (labels .exit)) (now (entries .exit)) (now (words .exit)) ≡ changeStore (store (now (labels .entry)) (now (entries .entry)) (now (words .entry))) (now (text .entry)) ⌝ }
 {
-    if !store::undamaged(labels, entries, words) {
+    if !damage::undamaged(labels, entries, words) {
         return Done::Refused(0);
     }
     let said = lines::change_line(text);

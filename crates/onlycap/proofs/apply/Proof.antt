@@ -12,7 +12,7 @@ use Rattle.search.specs.Search.{entries, placeOf, countOf}
 use Rattle.alphabet.specs.Alphabet.{fields, part}
 use Rattle.alphabet.proofs.Laws.{field-some}
 use Rattle.store.specs.Layout.{Store, store}
-use Rattle.onlycap.specs.Onlycap.{holds, foundIn, takenUpTo, Taken}
+use Rattle.onlycap.specs.Onlycap.{appearsIn, foundIn, takenUpTo, Taken}
 use Rattle.onlycap.specs.declared.Numbered.{Numbered}
 use Rattle.onlycap.proofs.Laws.{Passed, Next, passed-none, passed-more, passed-all, taken, upTo, Ready, ready-here, taken-facts, taken-more, taken-all}
 use Rattle.onlycap.proofs.apply.Statement.{statement}
@@ -69,7 +69,7 @@ number c = ap (λ (n : Numbered). n .number) (c .enter .ensures .0)
 stored-after : (c : tie.After-enter Inv-loop μ-loop) → c .enter .result .stored ≡ countOf (foundIn (p (c .before .before .before .before)) (x (c .before .before .before .before))) (c .before .before .before .before .before .before .before .loop .stored)
 stored-after c = ap (λ (n : Numbered). n .stored) (c .enter .ensures .0)
 
-unseen : (c : tie.Then1 Inv-loop μ-loop) → holds (x (c .before .before .before .before .before .before .before .before .before)) (take (c .before .before .before .before .before .before .before .before .before .before .before .before .loop .i) (fields (c .before .before .before .before .before .before .before .before .before .before .before .before .before .before .before .before .before .before .args .text .now))) ≡ false
+unseen : (c : tie.Then1 Inv-loop μ-loop) → appearsIn (x (c .before .before .before .before .before .before .before .before .before)) (take (c .before .before .before .before .before .before .before .before .before .before .before .before .loop .i) (fields (c .before .before .before .before .before .before .before .before .before .before .before .before .before .before .before .before .before .before .args .text .now))) ≡ false
 unseen c = sym (c .before .seen-before .ensures) ∙ not-true _ (c .if1 .taken)
 
 slice-read-stored : tie.Need-slice-read-stored Inv-loop μ-loop

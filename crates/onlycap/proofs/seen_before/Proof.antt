@@ -8,13 +8,13 @@ use native.Mathlib.Omega.{arith}
 use lib.ListN.{take, getD}
 use Rattle.search.specs.Bytes.{sameBytes}
 use Rattle.alphabet.specs.Alphabet.{fields}
-use Rattle.onlycap.specs.Onlycap.{holds}
-use Rattle.onlycap.proofs.Laws.{Passed, Next, passed-none, passed-more, passed-all, holds-none, holds-more, holds-found, holds-all}
+use Rattle.onlycap.specs.Onlycap.{appearsIn}
+use Rattle.onlycap.proofs.Laws.{Passed, Next, passed-none, passed-more, passed-all, appears-none, appears-more, appears-found, appears-all}
 use Rattle.onlycap.proofs.seen_before.Statement.{statement}
 use Rattle.onlycap.proofs.seen_before.Tie as tie
 
 abbrev Inv-loop : tie.InvT-loop
-Inv-loop text count label at₀ i₀ at i = (i ≤ count) × Passed text at i × (holds label (take i (fields text)) ≡ false)
+Inv-loop text count label at₀ i₀ at i = (i ≤ count) × Passed text at i × (appearsIn label (take i (fields text)) ≡ false)
 
 abbrev μ-loop : tie.MeasureT-loop
 μ-loop text count label at₀ i₀ at i = count - i
@@ -23,7 +23,7 @@ next : (c : tie.After-start Inv-loop μ-loop) → Next (c .before .before .befor
 next c = passed-more (c .before .before .before .before .before .before .before .args .text .now) (c .before .before .before .before .loop .at) (c .before .before .before .before .loop .i) _ _ (c .before .before .before .before .loop .inv .1) (sym (c .before .before .next-field .ensures) ∙ c .start .given .1)
 
 loop-holds : tie.Need-loop-holds Inv-loop μ-loop
-loop-holds c = (omega arith, passed-none _, holds-none _ (fields (c .before .before .args .text .now)))
+loop-holds c = (omega arith, passed-none _, appears-none _ (fields (c .before .before .args .text .now)))
 
 next-field-requires : tie.Need-next-field-requires Inv-loop μ-loop
 next-field-requires c κs = search needs
@@ -39,7 +39,7 @@ returns c =
     let l = c .before .before .before .before in
     let a = c .before .before .before .before .before .before .before .args in
     let e = passed-all (a .text .now) (l .loop .at) (l .loop .i) (l .loop .inv .1) (sym (c .before .before .next-field .ensures) ∙ c .enum-told .given .1) in
-    sym (holds-all (a .label .now) (fields (a .text .now)) (a .count) (l .loop .i) e (omega (arith, l .loop .inv .0)) ∙ l .loop .inv .2)
+    sym (appears-all (a .label .now) (fields (a .text .now)) (a .count) (l .loop .i) e (omega (arith, l .loop .inv .0)) ∙ l .loop .inv .2)
 
 sub-same-bytes : tie.Need-sub-same-bytes Inv-loop μ-loop
 sub-same-bytes c = omega (arith, next (c .before) .starts)
@@ -58,7 +58,7 @@ returns-2 c =
     let l = c .before .before .before .before .before .before .before .before in
     let a = c .before .before .before .before .before .before .before .before .before .before .before .args in
     let f = next (c .before .before .before .before) in
-    sym (holds-found (a .label .now) (fields (a .text .now)) (a .count) (l .loop .i) (c .before .before .before .before .before .before .before .loop-test .taken) (f .some) (ap (sameBytes (a .label .now)) (sym (f .field)) ∙ sym (c .before .same-bytes .ensures) ∙ c .if1 .taken))
+    sym (appears-found (a .label .now) (fields (a .text .now)) (a .count) (l .loop .i) (c .before .before .before .before .before .before .before .loop-test .taken) (f .some) (ap (sameBytes (a .label .now)) (sym (f .field)) ∙ sym (c .before .same-bytes .ensures) ∙ c .if1 .taken))
 
 add-i : tie.Need-add-i Inv-loop μ-loop
 add-i c = omega (arith, c .before .before .before .before .before .before .before .before .loop .inv .1 .fewer, c .before .before .before .before .before .before .before .before .loop .inv .1 .inside)
@@ -72,12 +72,12 @@ loop-again c =
     let a = c .before .before .before .before .before .before .before .before .before .before .before .args in
     let f = next (c .before .before .before .before) in
     let e : sameBytes (a .label .now) (getD (fields (a .text .now)) (l .loop .i) []) ≡ false = ap (sameBytes (a .label .now)) (sym (f .field)) ∙ sym (c .before .same-bytes .ensures) ∙ c .if1 .left in
-    (omega arith, f .on, holds-more (a .label .now) (fields (a .text .now)) (l .loop .i) (f .some) ∙ rw (l .loop .inv .2, e))
+    (omega arith, f .on, appears-more (a .label .now) (fields (a .text .now)) (l .loop .i) (f .some) ∙ rw (l .loop .inv .2, e))
 
 returns-3 : tie.Need-returns-3 Inv-loop μ-loop
 returns-3 c =
     let z : c .before .loop .i ≡ c .before .before .before .before .args .count = omega arith in
-    sym (ap (λ (n : ℕ). holds (c .before .before .before .before .args .label .now) (take n (fields (c .before .before .before .before .args .text .now)))) (sym z) ∙ c .before .loop .inv .2)
+    sym (ap (λ (n : ℕ). appearsIn (c .before .before .before .before .args .label .now) (take n (fields (c .before .before .before .before .args .text .now)))) (sym z) ∙ c .before .loop .inv .2)
 
 pub seen-before-spec : {M : Type 1} → statement M
 seen-before-spec =

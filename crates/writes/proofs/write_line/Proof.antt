@@ -9,7 +9,7 @@ use Rattle.lines.specs.Lines.{rule, ruleOf, at, ruleSaid, RuleInside}
 use Rattle.lines.specs.declared.RuleLine.{RuleLine}
 use Rattle.lines.specs.declared.RuleLine.the-variants as r
 use Rattle.lines.proofs.Laws.{Taken, rule-sound}
-use Rattle.writes.specs.Writes.{lineVerdict, lineStored}
+use Rattle.writes.specs.Writes.{lineOutcome, lineStored}
 use borrow.Author.Needs.{needs}
 use native.Mathlib.Omega.{arith}
 use Rattle.writes.proofs.Laws.{said-rule, inside-rule, formed-short, sound-as, done-accepted, done-refused}
@@ -96,13 +96,13 @@ enum-known-done : tie.Need-enum-known-done
 enum-known-done c = search needs
 
 returns : tie.Need-returns
-unfolding lineVerdict lineStored
+unfolding lineOutcome lineStored
 returns c =
     let e = sym (c .before .before .rule-line .ensures .1 .0) ∙ ap (λ (y : RuleLine). ruleSaid (c .before .before .before .before .before .before .before .args .line .now) y) (c .enum-told .given .1) in
     (rw e, rw e)
 
 returns-2 : tie.Need-returns-2
-unfolding lineVerdict lineStored
+unfolding lineOutcome lineStored
 returns-2 c =
     let e = sym (c .before .before .before .rule-line .ensures .1 .0) ∙ ap (λ (y : RuleLine). ruleSaid (c .before .before .before .before .before .before .before .before .args .line .now) y) (c .before .said .given .1) in
     (rw e, rw e)
@@ -117,7 +117,7 @@ same-length-3 : tie.Need-same-length-3
 same-length-3 c = search needs
 
 returns-3 : tie.Need-returns-3
-unfolding lineVerdict lineStored
+unfolding lineOutcome lineStored
 returns-3 c =
     let k = c .before .before .before .before .before .before .before .before .before .before .before .before .before .before in
     let e = says k in
@@ -134,7 +134,7 @@ same-length-6 : tie.Need-same-length-6
 same-length-6 c = search needs
 
 returns-4 : tie.Need-returns-4
-unfolding lineVerdict lineStored
+unfolding lineOutcome lineStored
 returns-4 c =
     let k = c .before .before .before .before .before .before .before .before .before .before .before .before .before .before .before in
     let e = says k in

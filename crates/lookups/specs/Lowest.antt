@@ -1,0 +1,16 @@
+-- 01: 'the lowest label number whose level and set both match, or none', of a run of records. Assumes nothing.
+use Prim.Native.Nat.{ℕ, _≤_}
+use mathlib.Core.Bool.{true, false}
+use mathlib.Core.Path.{_≡_}
+use mathlib.Core.List.{List, List·Memᴰ}
+use Rattle.lookups.specs.declared.Record.{Record}
+use Rattle.lookups.specs.Lookups.{matches}
+
+-- n is the lowest label of the records that match: one of them has it, and none has a lower one
+pub record Lowest (run : List Record) (level s n : ℕ) : Type 0 where
+  pub found : (r : Record) × List·Memᴰ r run × (matches level s r ≡ true) × (r .label ≡ n)
+  pub least : (r : Record) → List·Memᴰ r run → matches level s r ≡ true → n ≤ r .label
+
+-- none of the records matches
+abbrev pub Unmatched : List Record → ℕ → ℕ → Type 0
+Unmatched run level s = (r : Record) → List·Memᴰ r run → matches level s r ≡ false
