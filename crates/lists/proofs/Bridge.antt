@@ -26,10 +26,11 @@ use Rattle.access.proofs.question.Symbol as question-symbol
 use Rattle.access.proofs.question.Met as question-met
 use Rattle.store.specs.Layout.{store}
 use Rattle.access.specs.Access.{questionOf}
-use Rattle.load.specs.declared.Loader.{Loader}
+use Rattle.reports.specs.declared.Loader.{Loader}
 use Rattle.load.specs.declared.Fed.the-variants as f
 use Rattle.load.specs.declared.Ended.the-variants as e
-use Rattle.load.specs.Loader.{Load, load, ready, stepPiece, stepEnd, freshLoader, reportOf, fedLoader, endedLoader, pieceAnswer, pieceAfter, endAnswer, endAfter}
+use Rattle.reports.specs.Report.{freshLoader, reportOf}
+use Rattle.load.specs.Loader.{Load, load, ready, stepPiece, stepEnd, fedLoader, endedLoader, pieceAnswer, pieceAfter, endAnswer, endAfter}
 use Rattle.lists.specs.Reader.{Call, Reply, piece, end-call, question, answered}
 use Rattle.lists.proofs.Trace.{Called-piece, Called-end, Called-question, Runs, none, a-piece, an-end, a-question, piece-to, end-to, fed-reply, end-reply}
 

@@ -13,19 +13,20 @@ use lib.Seq.{take-all, take-suc-set, take-append-le}
 use Rattle.store.specs.Table.{Table}
 use Rattle.store.specs.Layout.{Store, store, tableOf, undamagedOf}
 use Rattle.lines.specs.Lines.{ruleOf, refused}
-use Rattle.writes.specs.Writes.{Judged, is-skipped, is-refused, is-accepted, judged, tableAfter, verdictOf, lineVerdict, lineStored}
-use Rattle.writes.specs.declared.Verdict.{Verdict}
-use Rattle.writes.specs.declared.Verdict.the-variants as v
+use Rattle.writes.specs.Writes.{Judged, is-skipped, is-refused, is-accepted, judged, tableAfter, outcomeOf, lineOutcome, lineStored}
+use Rattle.writes.specs.declared.Outcome.{Outcome}
+use Rattle.writes.specs.declared.Outcome.the-variants as v
 use Rattle.writes.proofs.Laws.{line-table}
-use Rattle.load.specs.declared.Loader.{Loader}
-use Rattle.lists.specs.Reader.{Counts, zeros, counted, Reader, startOn, endLine, takeByte, takePiece, finish, limited}
-use Rattle.load.specs.Loader.{Load, load, more, count, endKept, keepByte, stepByte, stepPiece, stepEnd, withKept, freshLoader}
+use Rattle.reports.specs.declared.Loader.{Loader}
+use Rattle.lists.specs.Reader.{Totals, zeros, counted, Reader, startOn, endLine, takeByte, takePiece, finish, limited}
+use Rattle.reports.specs.Report.{more, count, withKept, freshLoader}
+use Rattle.load.specs.Loader.{Load, load, endKept, keepByte, stepByte, stepPiece, stepEnd}
 use Rattle.load.proofs.Laws.{Ready, ready-end, ready-step}
 
 -- ---- what a lent state stands for
 
 -- the report's numbers, each up to its limit
-pub record SameCounts (l : Loader) (c : Counts) : Type 0 where
+pub record SameTotals (l : Loader) (c : Totals) : Type 0 where
   pub lines : l .lines ≡ limited (c .lines)
   pub accepted : l .accepted ≡ limited (c .accepted)
   pub skipped : l .skipped ≡ limited (c .skipped)
@@ -43,7 +44,7 @@ pub record Holds (s : Load) (p : Reader) : Type 0 where
   pub ready : Ready s
   pub table : tableOf (s .store) ≡ p .table
   pub line : SameLine (s .line) (s .loader .kept) (p .kept)
-  pub counts : SameCounts (s .loader) (p .counts)
+  pub totals : SameTotals (s .loader) (p .totals)
 
 -- ---- counts
 
@@ -70,7 +71,7 @@ same-first false x x′ y y′ p q = q
 same-reason : (b : Bool) (n : ℕ) {y y′ : ℕ} → y ≡ y′ → cond b n y ≡ cond b n y′
 same-reason b n p = rw p
 
-count-follows : (l : Loader) (c : Counts) (j : Judged) → SameCounts l c → SameCounts (count l (verdictOf j)) (counted c j)
+count-follows : (l : Loader) (c : Totals) (j : Judged) → SameTotals l c → SameTotals (count l (outcomeOf j)) (counted c j)
 count-follows l c is-skipped s =
     record {
       lines = more-limited _ _ (s .lines);
@@ -100,7 +101,7 @@ count-follows l c (is-refused n) s =
       reason = rw z (same-reason (eqb (c .refused) 0) n (s .reason));
     }
 
-count-kept : (l : Loader) (q : Verdict) → count l q .kept ≡ 0
+count-kept : (l : Loader) (q : Outcome) → count l q .kept ≡ 0
 count-kept l v.Skipped = refl
 count-kept l v.Accepted = refl
 count-kept l (v.Refused n) = refl
@@ -119,10 +120,10 @@ unfolding ruleOf
 too-long kept h = rw (lt-ltb 600 (length kept) h)
 
 end-parts :
-    (s : Load) (p : Reader) (st : Store) (q : Verdict) (j : Judged) →
+    (s : Load) (p : Reader) (st : Store) (q : Outcome) (j : Judged) →
     Ready (load st (s .line) (count (s .loader) q)) →
     tableOf st ≡ tableAfter (p .table) j →
-    q ≡ verdictOf j →
+    q ≡ outcomeOf j →
     j ≡ judged (p .table) (ruleOf (p .kept)) →
     Holds s p →
     Holds (load st (s .line) (count (s .loader) q)) (endLine p)
@@ -132,11 +133,11 @@ end-parts s p st q j r t e f h =
       ready = r;
       table = t ∙ ap (λ (x : Judged). tableAfter (p .table) x) f;
       line = empty-line (s .line) (count (s .loader) q .kept) (h .line .full) (count-kept (s .loader) q);
-      counts = rw (e, ← f) (count-follows (s .loader) (p .counts) j (h .counts));
+      totals = rw (e, ← f) (count-follows (s .loader) (p .totals) j (h .totals));
     }
 
-verdict-is : (st : Store) (text : List ℕ) → lineVerdict st text ≡ verdictOf (judged (tableOf st) (ruleOf text))
-unfolding lineVerdict
+verdict-is : (st : Store) (text : List ℕ) → lineOutcome st text ≡ outcomeOf (judged (tableOf st) (ruleOf text))
+unfolding lineOutcome
 verdict-is st text = refl
 
 pub end-follows : (s : Load) (p : Reader) → Holds s p → Holds (endKept s) (endLine p)
@@ -148,11 +149,11 @@ end-follows s p h = by-test (ltb 600 (s .loader .kept)) refl (ready-end s (h .re
         Ready
         (cond b
         (load (s .store) (s .line) (count (s .loader) (v.Refused 1)))
-        (load (lineStored (s .store) (take (s .loader .kept) (s .line))) (s .line) (count (s .loader) (lineVerdict (s .store) (take (s .loader .kept) (s .line)))))) →
+        (load (lineStored (s .store) (take (s .loader .kept) (s .line))) (s .line) (count (s .loader) (lineOutcome (s .store) (take (s .loader .kept) (s .line)))))) →
         Holds
         (cond b
         (load (s .store) (s .line) (count (s .loader) (v.Refused 1)))
-        (load (lineStored (s .store) (take (s .loader .kept) (s .line))) (s .line) (count (s .loader) (lineVerdict (s .store) (take (s .loader .kept) (s .line))))))
+        (load (lineStored (s .store) (take (s .loader .kept) (s .line))) (s .line) (count (s .loader) (lineOutcome (s .store) (take (s .loader .kept) (s .line))))))
         (endLine p)
     by-test true e r =
         let z : 600 < length (p .kept) = omega (arith, ltb-true 600 (s .loader .kept) e, h .line .size) in
@@ -160,7 +161,7 @@ end-follows s p h = by-test (ltb 600 (s .loader .kept)) refl (ready-end s (h .re
     by-test false e r =
         let text = take (s .loader .kept) (s .line) in
         let same : text ≡ p .kept = whole-line (s .line) (s .loader .kept) (p .kept) (h .line) (ltb-false 600 (s .loader .kept) e) in
-        end-parts s p (lineStored (s .store) text) (lineVerdict (s .store) text) (judged (tableOf (s .store)) (ruleOf text)) r
+        end-parts s p (lineStored (s .store) text) (lineOutcome (s .store) text) (judged (tableOf (s .store)) (ruleOf text)) r
         (line-table (s .store) text (h .ready .undamaged) ∙ ap (λ (t : Table). tableAfter t (judged (tableOf (s .store)) (ruleOf text))) (h .table))
         (verdict-is (s .store) text)
         (rw (h .table, same))
@@ -197,14 +198,14 @@ long-line line n kept b s h =
     }
 
 -- the counts do not speak of the kept line
-same-counts : (l : Loader) (c : Counts) (n : ℕ) → SameCounts l c → SameCounts (withKept l n) c
-same-counts l c n s = record { lines = s .lines; accepted = s .accepted; skipped = s .skipped; refused = s .refused; first = s .first; reason = s .reason }
+same-totals : (l : Loader) (c : Totals) (n : ℕ) → SameTotals l c → SameTotals (withKept l n) c
+same-totals l c n s = record { lines = s .lines; accepted = s .accepted; skipped = s .skipped; refused = s .refused; first = s .first; reason = s .reason }
 
 keep-follows :
     (s : Load) (p : Reader) (b : ℕ) →
     Holds s p →
     Ready (keepByte s b) →
-    Holds (keepByte s b) (record { table = p .table; kept = p .kept ++ (b ∷ []); counts = p .counts })
+    Holds (keepByte s b) (record { table = p .table; kept = p .kept ++ (b ∷ []); totals = p .totals })
 keep-follows s p b h r = by-test (ltb (s .loader .kept) 600) refl r
   where
     by-test :
@@ -218,20 +219,20 @@ keep-follows s p b h r = by-test (ltb (s .loader .kept) 600) refl r
         (cond t
         (load (s .store) (set (s .line) (s .loader .kept) b) (withKept (s .loader) (s .loader .kept + 1)))
         (load (s .store) (s .line) (withKept (s .loader) 601)))
-        (record { table = p .table; kept = p .kept ++ (b ∷ []); counts = p .counts })
+        (record { table = p .table; kept = p .kept ++ (b ∷ []); totals = p .totals })
     by-test true e r =
         record {
           ready = r;
           table = h .table;
           line = keep-line (s .line) (s .loader .kept) (p .kept) b (h .line) (ltb-true (s .loader .kept) 600 e);
-          counts = same-counts (s .loader) (p .counts) (s .loader .kept + 1) (h .counts);
+          totals = same-totals (s .loader) (p .totals) (s .loader .kept + 1) (h .totals);
         }
     by-test false e r =
         record {
           ready = r;
           table = h .table;
           line = long-line (s .line) (s .loader .kept) (p .kept) b (h .line) (ltb-false (s .loader .kept) 600 e);
-          counts = same-counts (s .loader) (p .counts) 601 (h .counts);
+          totals = same-totals (s .loader) (p .totals) 601 (h .totals);
         }
 
 -- ---- a byte, a piece, the end call
@@ -243,7 +244,7 @@ step-follows s p b h = by-test (eqb b 10) (ready-step s b (h .ready))
     by-test :
         (t : Bool) →
         Ready (cond t (endKept s) (keepByte s b)) →
-        Holds (cond t (endKept s) (keepByte s b)) (cond t (endLine p) (record { table = p .table; kept = p .kept ++ (b ∷ []); counts = p .counts }))
+        Holds (cond t (endKept s) (keepByte s b)) (cond t (endLine p) (record { table = p .table; kept = p .kept ++ (b ∷ []); totals = p .totals }))
     by-test true r = end-follows s p h
     by-test false r = keep-follows s p b h r
 
@@ -274,5 +275,5 @@ fresh-holds st line u full =
       ready = record { undamaged = u; line = full; kept = omega arith };
       table = refl;
       line = empty-line line 0 full refl;
-      counts = record { lines = refl; accepted = refl; skipped = refl; refused = refl; first = refl; reason = refl };
+      totals = record { lines = refl; accepted = refl; skipped = refl; refused = refl; first = refl; reason = refl };
     }

@@ -1,7 +1,7 @@
 -- A list of calls of the very functions `piece`, `end` and `access::question`, as their caller knows it. Nothing here says what a function
 -- does: that comes from each function's own `Reads`, which Rattle makes of its `requires` and `ensures`. Assumes nothing.
 use Prim.Native.Nat.{ℕ}
-use mathlib.Core.Path.{_≡_}
+use mathlib.Core.Path.{_≡_, refl}
 use mathlib.Core.Bool.{true}
 use mathlib.Core.List.{List, [], _∷_}
 use lib.ListN.{length}
@@ -15,16 +15,18 @@ use Rattle.load.proofs.end.Kinds as end-kinds
 use Rattle.load.proofs.end.Reads as end-reads
 use Rattle.access.proofs.question.Kinds as question-kinds
 use Rattle.access.proofs.question.Reads as question-reads
-use Rattle.store.specs.Layout.{Store, store, undamagedOf}
+use Rattle.alphabet.specs.Alphabet.{lineLimit}
+use Rattle.store.specs.Layout.{store, undamagedOf}
 use Rattle.access.specs.declared.Answer.{Answer}
-use Rattle.load.specs.declared.Loader.{Loader}
-use Rattle.load.specs.declared.Report.{Report}
+use Rattle.reports.specs.declared.Loader.{Loader}
+use Rattle.reports.specs.declared.Report.{Report}
 use Rattle.load.specs.declared.Fed.{Fed}
 use Rattle.load.specs.declared.Fed.the-variants as f
 use Rattle.load.specs.declared.Ended.{Ended}
 use Rattle.load.specs.declared.Ended.the-variants as e
-use Rattle.load.specs.Loader.{Load, load, freshLoader, fedLoader, endedLoader}
-use Rattle.lists.specs.Reader.{Counts, Call, piece, end-call, question, Reply, done, report, answered, refusal}
+use Rattle.reports.specs.Report.{freshLoader}
+use Rattle.load.specs.Loader.{Load, load, fedLoader, endedLoader}
+use Rattle.lists.specs.Reader.{Totals, Call, piece, end-call, question, Reply, done, report, answered, refusal}
 
 -- One call of any function, with what a Rattle caller has of it and no more: it showed what is asked, and learnt what is ensured, of some
 -- arguments, a result and the parameters' last values
@@ -50,7 +52,7 @@ Called-question = Called question-kinds.ps question-kinds.r question-reads.Asked
 -- what a list begins with: a table that is undamaged, a line of full size, and a fresh loader
 pub record Fresh (s : Load) : Type 0 where
   pub undamaged : undamagedOf (s .store) ≡ true
-  pub line : length (s .line) ≡ 600
+  pub line : length (s .line) ≡ lineLimit
   pub loader : s .loader ≡ freshLoader
 
 -- what a caller makes of an answer
@@ -58,11 +60,11 @@ abbrev pub fed-reply : Fed → Reply
 fed-reply (f.Done l) = done
 fed-reply (f.Refused n) = refusal n
 
-abbrev pub counts-of : Report → Counts
-counts-of r = record { lines = r .lines; accepted = r .accepted; skipped = r .skipped; refused = r .refused; first = r .first; reason = r .reason }
+abbrev pub totals-of : Report → Totals
+totals-of r = record { lines = r .lines; accepted = r .accepted; skipped = r .skipped; refused = r .refused; first = r .first; reason = r .reason }
 
 abbrev pub end-reply : Ended → Reply
-end-reply (e.Report r l) = report (counts-of r)
+end-reply (e.Report r l) = report (totals-of r)
 end-reply (e.Refused n) = refusal n
 
 -- the state that a call is made from, and the state that it leaves
@@ -78,7 +80,10 @@ end-from k = load (store (now (k .args .0)) (now (k .args .1 .0)) (now (k .args 
 abbrev pub end-to : Called-end → Load
 end-to k = load (store (k .last .0) (k .last .1 .0) (k .last .1 .1 .0)) (k .last .1 .1 .1 .0) (endedLoader (k .args .1 .1 .1 .1 .0) (k .result))
 
--- a question is lent the tables alone, and by `&`
+-- a question is lent the tables alone, and by `&`: none of its parameters has a last value, so that what it was lent is as it was
+pub question-lends : (k : Called-question) → k .last ≡ (tt, (tt, (tt, (tt, (tt, (tt, (tt, tt)))))))
+question-lends k = refl
+
 abbrev pub question-of : Called-question → List ℕ → Loader → Load
 question-of k line loader = load (store (now (k .args .0)) (now (k .args .1 .0)) (now (k .args .1 .1 .0))) line loader
 

@@ -12,16 +12,17 @@ use Rattle.store.specs.Layout.{Store, tableOf, undamagedOf}
 use Rattle.access.specs.Access.{answer, questionOf}
 use Rattle.access.specs.declared.Answer.{Answer}
 use Rattle.access.specs.declared.Answer.the-variants as a
-use Rattle.load.specs.declared.Loader.{Loader}
+use Rattle.reports.specs.declared.Loader.{Loader}
 use Rattle.load.specs.declared.Fed.{Fed}
 use Rattle.load.specs.declared.Fed.the-variants as f
 use Rattle.load.specs.declared.Ended.{Ended}
 use Rattle.load.specs.declared.Ended.the-variants as e
-use Rattle.load.specs.Loader.{Load, load, ready, stepPiece, stepEnd, freshLoader, reportOf, fedLoader, endedLoader, pieceAnswer, pieceAfter, endAnswer, endAfter}
-use Rattle.lists.specs.Reader.{Counts, Reader, startOn, takeByte, takePiece, endLine, finish, limited, limitedCounts, Call, piece, end-call, question, Reply, done, report, answered, refusal, after, says, afterAll, saysAll, Event, byte, stop, on, events, reports, settled, keepLast}
+use Rattle.reports.specs.Report.{freshLoader, reportOf}
+use Rattle.load.specs.Loader.{Load, load, ready, stepPiece, stepEnd, fedLoader, endedLoader, pieceAnswer, pieceAfter, endAnswer, endAfter}
+use Rattle.lists.specs.Reader.{Totals, Reader, startOn, takeByte, takePiece, endLine, finish, limited, limitedTotals, Call, piece, end-call, question, Reply, done, report, answered, refusal, after, says, afterAll, saysAll, Event, byte, stop, on, events, reports, settled, keepLast}
 use Rattle.load.proofs.Laws.{Ready, ready-is, is-ready}
-use Rattle.lists.proofs.Follows.{SameCounts, Holds, piece-follows, finish-follows, fresh-holds}
-use Rattle.lists.proofs.Trace.{Fresh, Runs, none, a-piece, an-end, a-question, fed-reply, end-reply, counts-of, piece-from, piece-to, end-from, end-to, question-of}
+use Rattle.lists.proofs.Follows.{SameTotals, Holds, piece-follows, finish-follows, fresh-holds}
+use Rattle.lists.proofs.Trace.{Fresh, Runs, none, a-piece, an-end, a-question, fed-reply, end-reply, totals-of, piece-from, piece-to, end-from, end-to, question-of}
 
 -- what a call keeps: the state it leaves stands for the plain reader, and the reply is the plain reader's
 pub record Follows (s : Load) (r : Reply) (p : Reader) (q : Reply) : Type 0 where
@@ -43,7 +44,7 @@ piece-law text {s} p answer-is after-is h =
     let b = rw z at after-is in
     record { holds = subst (λ (x : Load). Holds x (takePiece p text)) (sym b) (piece-follows s p text h); reply = ap fed-reply a }
 
-same-report : (l : Loader) (c : Counts) → SameCounts l c → counts-of (reportOf l) ≡ limitedCounts c
+same-report : (l : Loader) (c : Totals) → SameTotals l c → totals-of (reportOf l) ≡ limitedTotals c
 same-report l c s = rw (s .lines, s .accepted, s .skipped, s .refused, s .first, s .reason)
 
 pub end-law :
@@ -61,7 +62,7 @@ end-law {s} p answer-is after-is h =
     let fresh = fresh-holds (stepEnd s .store) (stepEnd s .line) (g .ready .undamaged) (g .ready .line) in
     record {
       holds = subst (λ (x : Load). Holds x (startOn (finish p .table))) (sym b) (subst (λ (t : Table). Holds (load (stepEnd s .store) (stepEnd s .line) freshLoader) (startOn t)) (g .table) fresh);
-      reply = ap end-reply a ∙ ap report (same-report (stepEnd s .loader) (finish p .counts) (g .counts));
+      reply = ap end-reply a ∙ ap report (same-report (stepEnd s .loader) (finish p .totals) (g .totals));
     }
 
 pub question-law : (s : Load) (p : Reader) (x o r : List ℕ) (capable : Bool) → Holds s p → questionOf (s .store) x o r capable ≡ answer (p .table) x o r capable
@@ -105,7 +106,7 @@ after-events p (question x o r capable ∷ cs) = after-events p cs
 abbrev reportsOn : Reader → List Event → List Reply
 reportsOn p [] = []
 reportsOn p (byte b ∷ es) = reportsOn (takeByte p b) es
-reportsOn p (stop ∷ es) = report (limitedCounts (finish p .counts)) ∷ reportsOn (startOn (finish p .table)) es
+reportsOn p (stop ∷ es) = report (limitedTotals (finish p .totals)) ∷ reportsOn (startOn (finish p .table)) es
 
 reports-bytes : (p : Reader) (text : List ℕ) (es : List Event) → reportsOn p (map byte text ++ es) ≡ reportsOn (takePiece p text) es
 reports-bytes p [] es = refl
@@ -114,7 +115,7 @@ reports-bytes p (b ∷ bs) es = reports-bytes (takeByte p b) bs es
 reports-events : (p : Reader) (cs : List Call) → reports (saysAll p cs) ≡ reportsOn p (events cs)
 reports-events p [] = refl
 reports-events p (piece text ∷ cs) = reports-events (takePiece p text) cs ∙ sym (reports-bytes p text (events cs))
-reports-events p (end-call ∷ cs) = ap (λ (rs : List Reply). report (limitedCounts (finish p .counts)) ∷ rs) (reports-events (startOn (finish p .table)) cs)
+reports-events p (end-call ∷ cs) = ap (λ (rs : List Reply). report (limitedTotals (finish p .totals)) ∷ rs) (reports-events (startOn (finish p .table)) cs)
 reports-events p (question x o r capable ∷ cs) = reports-events p cs
 
 -- a byte that is no newline acts on no table

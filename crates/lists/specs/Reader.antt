@@ -6,6 +6,7 @@ use mathlib.Core.Bool.{Bool, true, false, cond}
 use mathlib.Core.List.{List, [], _∷_, _++_, foldl, map}
 use lib.ListN.{length}
 use lib.Dec.{ltb, eqb}
+use Rattle.reports.specs.Report.{countLimit}
 use Rattle.store.specs.Table.{Table}
 use Rattle.lines.specs.Lines.{ruleOf}
 use Rattle.writes.specs.Writes.{Judged, is-skipped, is-refused, is-accepted, judged, tableAfter}
@@ -13,7 +14,7 @@ use Rattle.access.specs.Access.{answer}
 use Rattle.access.specs.declared.Answer.{Answer}
 
 -- the report's numbers, as they are; `first` and `reason` are the number (from 1) and reason of the first refused line, 0 where there is none
-pub record Counts : Type 0 where
+pub record Totals : Type 0 where
   pub lines : ℕ
   pub accepted : ℕ
   pub skipped : ℕ
@@ -21,11 +22,11 @@ pub record Counts : Type 0 where
   pub first : ℕ
   pub reason : ℕ
 
-abbrev pub zeros : Counts
+abbrev pub zeros : Totals
 zeros = record { lines = 0; accepted = 0; skipped = 0; refused = 0; first = 0; reason = 0 }
 
 -- a line more: every line counts; the first refused one is kept
-abbrev pub counted : Counts → Judged → Counts
+abbrev pub counted : Totals → Judged → Totals
 counted c is-skipped = record { lines = c .lines + 1; accepted = c .accepted; skipped = c .skipped + 1; refused = c .refused; first = c .first; reason = c .reason }
 counted c (is-accepted t) = record { lines = c .lines + 1; accepted = c .accepted + 1; skipped = c .skipped; refused = c .refused; first = c .first; reason = c .reason }
 counted c (is-refused n) =
@@ -41,11 +42,11 @@ counted c (is-refused n) =
 pub record Reader : Type 0 where
   pub table : Table
   pub kept : List ℕ
-  pub counts : Counts
+  pub totals : Totals
 
 -- a fresh loader has an empty kept line and a report of zeros
 abbrev pub startOn : Table → Reader
-startOn t = record { table = t; kept = []; counts = zeros }
+startOn t = record { table = t; kept = []; totals = zeros }
 
 -- a line that ends is counted and judged by its bytes and these tables, and the next begins empty
 unfoldable pub endLine : Reader → Reader
@@ -53,12 +54,12 @@ endLine p =
     record {
       table = tableAfter (p .table) (judged (p .table) (ruleOf (p .kept)));
       kept = [];
-      counts = counted (p .counts) (judged (p .table) (ruleOf (p .kept)));
+      totals = counted (p .totals) (judged (p .table) (ruleOf (p .kept)));
     }
 
 -- piece: each byte but a newline joins the kept line; a newline ends it
 unfoldable pub takeByte : Reader → ℕ → Reader
-takeByte p b = cond (eqb b 10) (endLine p) (record { table = p .table; kept = p .kept ++ (b ∷ []); counts = p .counts })
+takeByte p b = cond (eqb b 10) (endLine p) (record { table = p .table; kept = p .kept ++ (b ∷ []); totals = p .totals })
 
 abbrev pub takePiece : Reader → List ℕ → Reader
 takePiece p text = foldl takeByte p text
@@ -69,10 +70,10 @@ finish p = cond (ltb 0 (length (p .kept))) (endLine p) p
 
 -- each number of a report is the true one or 4,294,967,295, whichever is smaller
 unfoldable pub limited : ℕ → ℕ
-limited n = min n 4294967295
+limited n = min n countLimit
 
-abbrev pub limitedCounts : Counts → Counts
-limitedCounts c =
+abbrev pub limitedTotals : Totals → Totals
+limitedTotals c =
     record {
       lines = limited (c .lines);
       accepted = limited (c .accepted);
@@ -91,7 +92,7 @@ pub data Call : Type 0 where
 
 pub data Reply : Type 0 where
   done : Reply
-  report : Counts → Reply
+  report : Totals → Reply
   answered : Answer → Reply
   refusal : ℕ → Reply
 
@@ -102,7 +103,7 @@ after p (question s o r capable) = p
 
 abbrev pub says : Reader → Call → Reply
 says p (piece text) = done
-says p end-call = report (limitedCounts (finish p .counts))
+says p end-call = report (limitedTotals (finish p .totals))
 says p (question s o r capable) = answered (answer (p .table) s o r capable)
 
 abbrev pub afterAll : Reader → List Call → Reader

@@ -12,12 +12,13 @@ use lib.Seq.{drop-cons, drop-drop, take-add, take-all, length-take-le, sets, set
 use Rattle.search.specs.Bytes.{written}
 use Rattle.search.proofs.Laws.{and-both}
 use Rattle.store.specs.Layout.{Store, store, undamagedOf}
-use Rattle.writes.specs.Writes.{lineVerdict, lineStored}
-use Rattle.writes.specs.declared.Verdict.{Verdict}
-use Rattle.writes.specs.declared.Verdict.the-variants as v
+use Rattle.writes.specs.Writes.{lineOutcome, lineStored}
+use Rattle.writes.specs.declared.Outcome.{Outcome}
+use Rattle.writes.specs.declared.Outcome.the-variants as v
 use Rattle.writes.proofs.Laws.{line-undamaged}
-use Rattle.load.specs.declared.Loader.{Loader}
-use Rattle.load.specs.Loader.{Load, load, ready, count, endKept, keepByte, stepByte, stepPiece, withKept, beforeNewline}
+use Rattle.reports.specs.declared.Loader.{Loader}
+use Rattle.reports.specs.Report.{count, withKept}
+use Rattle.load.specs.Loader.{Load, load, ready, endKept, keepByte, stepByte, stepPiece, beforeNewline}
 
 -- ---- a state that is ready
 
@@ -37,7 +38,7 @@ pub is-ready : (s : Load) → Ready s → ready s ≡ true
 unfolding ready
 is-ready s r = rw (r .undamaged, eq-eqb _ _ (r .line), le-leb _ _ (r .kept))
 
-count-kept : (l : Loader) (q : Verdict) → count l q .kept ≡ 0
+count-kept : (l : Loader) (q : Outcome) → count l q .kept ≡ 0
 count-kept l v.Skipped = refl
 count-kept l v.Accepted = refl
 count-kept l (v.Refused n) = refl
@@ -45,21 +46,21 @@ count-kept l (v.Refused n) = refl
 pub ready-end : (s : Load) → Ready s → Ready (endKept s)
 ready-end s r = by-test (ltb 600 (s .loader .kept))
   where
-    verdict : Verdict
-    verdict = lineVerdict (s .store) (take (s .loader .kept) (s .line))
+    verdict : Outcome
+    verdict = lineOutcome (s .store) (take (s .loader .kept) (s .line))
 
     by-test :
         (b : Bool) →
         Ready
         (cond b
         (load (s .store) (s .line) (count (s .loader) (v.Refused 1)))
-        (load (lineStored (s .store) (take (s .loader .kept) (s .line))) (s .line) (count (s .loader) (lineVerdict (s .store) (take (s .loader .kept) (s .line))))))
+        (load (lineStored (s .store) (take (s .loader .kept) (s .line))) (s .line) (count (s .loader) (lineOutcome (s .store) (take (s .loader .kept) (s .line))))))
     by-test true = record { undamaged = r .undamaged; line = r .line; kept = omega arith }
     by-test false =
         record {
           undamaged = line-undamaged (s .store) (take (s .loader .kept) (s .line)) (r .undamaged);
           line = r .line;
-          kept = omega (arith, count-kept (s .loader) (lineVerdict (s .store) (take (s .loader .kept) (s .line))));
+          kept = omega (arith, count-kept (s .loader) (lineOutcome (s .store) (take (s .loader .kept) (s .line))));
         }
 
 ready-keep : (s : Load) (b : ℕ) → Ready s → Ready (keepByte s b)

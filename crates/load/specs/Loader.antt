@@ -1,44 +1,24 @@
 -- The loader in lent memory: its exact step, byte by byte, and when it is damaged. A line of over 600 bytes is kept as its first 600 and the
 -- length 601; a count stops at its limit. Assumes nothing.
-use Prim.Native.Nat.{ℕ, suc, _+_, _≤_, min}
-use mathlib.Core.Path.{_≡_}
-use mathlib.Core.Bool.{Bool, true, false, cond, _&&_}
+use Prim.Native.Nat.{ℕ, suc, _+_}
+use mathlib.Core.Bool.{Bool, cond, _&&_}
 use mathlib.Core.List.{List, [], _∷_, foldl}
 use lib.ListN.{length, take, set}
 use lib.Dec.{ltb, leb, eqb}
-use Rattle.store.specs.Layout.{Store, tableOf, undamagedOf}
-use Rattle.writes.specs.Writes.{lineVerdict, lineStored}
-use Rattle.writes.specs.declared.Verdict.{Verdict}
-use Rattle.writes.specs.declared.Verdict.the-variants as v
-use Rattle.load.specs.declared.Loader.{Loader}
-use Rattle.load.specs.declared.Report.{Report}
+use Rattle.alphabet.specs.Alphabet.{lineLimit}
+use Rattle.store.specs.Layout.{Store, undamagedOf}
+use Rattle.writes.specs.Writes.{lineOutcome, lineStored}
+use Rattle.writes.specs.declared.Outcome.the-variants as v
+use Rattle.reports.specs.declared.Loader.{Loader}
+use Rattle.reports.specs.Report.{freshLoader, count, withKept, reportOf}
 use Rattle.load.specs.declared.Fed.{Fed}
 use Rattle.load.specs.declared.Fed.the-variants as f
 use Rattle.load.specs.declared.Ended.{Ended}
 use Rattle.load.specs.declared.Ended.the-variants as e
 
--- a fresh loader
-abbrev pub freshLoader : Loader
-freshLoader = record { kept = 0; lines = 0; accepted = 0; skipped = 0; refused = 0; first = 0; reason = 0 }
-
--- one more, or the limit
-abbrev pub more : ℕ → ℕ
-more n = cond (ltb n 4294967295) (n + 1) n
-
--- a line more, and the next begins empty
-abbrev pub count : Loader → Verdict → Loader
-count l v.Skipped = record { kept = 0; lines = more (l .lines); accepted = l .accepted; skipped = more (l .skipped); refused = l .refused; first = l .first; reason = l .reason }
-count l v.Accepted = record { kept = 0; lines = more (l .lines); accepted = more (l .accepted); skipped = l .skipped; refused = l .refused; first = l .first; reason = l .reason }
-count l (v.Refused n) =
-    record {
-      kept = 0;
-      lines = more (l .lines);
-      accepted = l .accepted;
-      skipped = l .skipped;
-      refused = more (l .refused);
-      first = cond (eqb (l .refused) 0) (more (l .lines)) (l .first);
-      reason = cond (eqb (l .refused) 0) n (l .reason);
-    }
+-- the length that marks a line of over 600 bytes
+abbrev pub overlong : ℕ
+overlong = 601
 
 -- the lent slices of the tables, that of the line, and the loader
 pub record Load : Type 0 where
@@ -52,19 +32,16 @@ load st line l = record { store = st; line = line; loader = l }
 -- the kept line ends
 abbrev pub endKept : Load → Load
 endKept s =
-    cond (ltb 600 (s .loader .kept))
+    cond (ltb lineLimit (s .loader .kept))
     (load (s .store) (s .line) (count (s .loader) (v.Refused 1)))
-    (load (lineStored (s .store) (take (s .loader .kept) (s .line))) (s .line) (count (s .loader) (lineVerdict (s .store) (take (s .loader .kept) (s .line)))))
+    (load (lineStored (s .store) (take (s .loader .kept) (s .line))) (s .line) (count (s .loader) (lineOutcome (s .store) (take (s .loader .kept) (s .line)))))
 
 -- a byte joins the kept line
-abbrev pub withKept : Loader → ℕ → Loader
-withKept l n = record { kept = n; lines = l .lines; accepted = l .accepted; skipped = l .skipped; refused = l .refused; first = l .first; reason = l .reason }
-
 abbrev pub keepByte : Load → ℕ → Load
 keepByte s b =
-    cond (ltb (s .loader .kept) 600)
+    cond (ltb (s .loader .kept) lineLimit)
     (load (s .store) (set (s .line) (s .loader .kept) b) (withKept (s .loader) (s .loader .kept + 1)))
-    (load (s .store) (s .line) (withKept (s .loader) 601))
+    (load (s .store) (s .line) (withKept (s .loader) overlong))
 
 unfoldable pub stepByte : Load → ℕ → Load
 stepByte s b = cond (eqb b 10) (endKept s) (keepByte s b)
@@ -76,7 +53,7 @@ beforeNewline (b ∷ bs) = cond (eqb b 10) 0 (suc (beforeNewline bs))
 
 -- whether the lent state is undamaged, loader and all: refusal 0 otherwise
 unfoldable pub ready : Load → Bool
-ready s = undamagedOf (s .store) && (eqb (length (s .line)) 600 && leb (s .loader .kept) 601)
+ready s = undamagedOf (s .store) && (eqb (length (s .line)) lineLimit && leb (s .loader .kept) overlong)
 
 -- the loader that the caller goes on with: on a refusal the one that it had
 abbrev pub fedLoader : Loader → Fed → Loader
@@ -102,9 +79,6 @@ unfoldable pub pieceAnswer : Load → List ℕ → Fed
 pieceAnswer s text = cond (ready s) (f.Done (stepPiece s text .loader)) (f.Refused 0)
 
 -- the end call: ends a kept line that has a byte, answers the report, and leaves the loader fresh
-abbrev pub reportOf : Loader → Report
-reportOf l = record { lines = l .lines; accepted = l .accepted; skipped = l .skipped; refused = l .refused; first = l .first; reason = l .reason }
-
 unfoldable pub endAfter : Load → Load
 endAfter s = cond (ready s) (load (stepEnd s .store) (stepEnd s .line) freshLoader) s
 

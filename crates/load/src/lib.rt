@@ -1,35 +1,14 @@
 // Loading rule text in pieces (01, Rule text: a piece and the end call). The text may be cut anywhere; each line is judged whole, at its
 // newline or at the end call.
-use writes::Verdict;
+use reports::Loader;
+use reports::Report;
+use writes::Outcome;
 ghost use mathlib.Core.Path.{_≡_};
 ghost use mathlib.Core.Bool.{true};
 ghost use Prim.Native.Nat.{_+_};
 ghost use lib.ListN.{length, drop};
 ghost use Rattle.store.specs.Layout.{Store, store};
-ghost use Rattle.load.specs.Loader.{freshLoader, more, count, withKept, reportOf, endKept, beforeNewline, stepPiece, ready, load, fedLoader, pieceAfter, pieceAnswer, endedLoader, endAfter, endAnswer};
-
-// The loader between two calls: how many bytes of the line under way are kept (601: it has more than 600), and the report's numbers.
-#[repr(C)]
-pub struct Loader {
-    pub kept: usize,
-    pub lines: u32,
-    pub accepted: u32,
-    pub skipped: u32,
-    pub refused: u32,
-    pub first: u32,
-    pub reason: u8,
-}
-
-// The report: how many lines, accepted, skipped and refused, and the number (from 1) and reason of the first refused line, 0 where none.
-#[repr(C)]
-pub struct Report {
-    pub lines: u32,
-    pub accepted: u32,
-    pub skipped: u32,
-    pub refused: u32,
-    pub first: u32,
-    pub reason: u8,
-}
+ghost use Rattle.load.specs.Loader.{endKept, beforeNewline, stepPiece, ready, load, fedLoader, pieceAfter, pieceAnswer, endedLoader, endAfter, endAnswer};
 
 // What a piece answers: done, with the loader for the next call, or refused.
 pub enum Fed {
@@ -41,78 +20,6 @@ pub enum Fed {
 pub enum Ended {
     Report(Report, Loader),
     Refused(u8),
-}
-
-// A fresh loader: an empty kept line and a report of zeros.
-pub fn fresh() -> Loader
-    ensures { λ r. ⌜ r ≡ freshLoader ⌝ }
-{
-    Loader {
-        kept: 0,
-        lines: 0,
-        accepted: 0,
-        skipped: 0,
-        refused: 0,
-        first: 0,
-        reason: 0,
-    }
-}
-
-// One more, or the limit.
-fn one_more(n: u32) -> u32
-    ensures { λ r. ⌜ r ≡ more n ⌝ }
-{
-    if n < 4294967295 { n + 1 } else { n }
-}
-
-// Counts a line that was judged; the next begins empty.
-fn count_line(l: Loader, verdict: Verdict) -> Loader
-    ensures { λ r. ⌜ r ≡ count l verdict ⌝ }
-{
-    let lines = one_more(l.lines);
-    match verdict {
-        Verdict::Skipped => Loader {
-            kept: 0,
-            lines,
-            accepted: l.accepted,
-            skipped: one_more(l.skipped),
-            refused: l.refused,
-            first: l.first,
-            reason: l.reason,
-        },
-        Verdict::Accepted => Loader {
-            kept: 0,
-            lines,
-            accepted: one_more(l.accepted),
-            skipped: l.skipped,
-            refused: l.refused,
-            first: l.first,
-            reason: l.reason,
-        },
-        Verdict::Refused(n) => {
-            let refused = one_more(l.refused);
-            if l.refused == 0 {
-                return Loader {
-                    kept: 0,
-                    lines,
-                    accepted: l.accepted,
-                    skipped: l.skipped,
-                    refused,
-                    first: lines,
-                    reason: n,
-                };
-            }
-            Loader {
-                kept: 0,
-                lines,
-                accepted: l.accepted,
-                skipped: l.skipped,
-                refused,
-                first: l.first,
-                reason: l.reason,
-            }
-        }
-    }
 }
 
 // Ends the kept line: it is judged whole and counted.
@@ -128,39 +35,10 @@ fn end_line(
 {
     let kept = l.kept;
     if 600 < kept {
-        return count_line(l, Verdict::Refused(1));
+        return reports::count_line(l, Outcome::Refused(1));
     }
-    let verdict = writes::write_line(labels, entries, words, &line[..kept]);
-    count_line(l, verdict)
-}
-
-// The loader with another length of the kept line.
-fn keep(l: Loader, kept: usize) -> Loader
-    ensures { λ r. ⌜ r ≡ withKept l kept ⌝ }
-{
-    Loader {
-        kept,
-        lines: l.lines,
-        accepted: l.accepted,
-        skipped: l.skipped,
-        refused: l.refused,
-        first: l.first,
-        reason: l.reason,
-    }
-}
-
-// The loader's numbers, as a report.
-fn report_of(l: Loader) -> Report
-    ensures { λ r. ⌜ r ≡ reportOf l ⌝ }
-{
-    Report {
-        lines: l.lines,
-        accepted: l.accepted,
-        skipped: l.skipped,
-        refused: l.refused,
-        first: l.first,
-        reason: l.reason,
-    }
+    let outcome = writes::write_line(labels, entries, words, &line[..kept]);
+    reports::count_line(l, outcome)
 }
 
 // The index of the first newline from `from` on; where there is none, the text's length, or `from` where that is past it.
@@ -188,22 +66,22 @@ fn take_run(line: &mut [u8], l: Loader, run: &[u8]) -> Loader
         return l;
     }
     if 600 < kept {
-        return keep(l, 601);
+        return reports::keep(l, 601);
     }
     let room = 600 - kept;
     if n <= room {
         search::copy_at(line, kept, run);
-        return keep(l, kept + n);
+        return reports::keep(l, kept + n);
     }
     search::copy_at(line, kept, &run[..room]);
-    keep(l, 601)
+    reports::keep(l, 601)
 }
 
 // Whether the lent state is undamaged, the loader too: refusal 0 otherwise.
 fn is_ready(labels: &[u8], entries: &[u8], words: &[u64], line: &[u8], l: Loader) -> bool
     ensures { λ r. ⌜ r ≡ ready (load (store (now (labels .entry)) (now (entries .entry)) (now (words .entry))) (now (line .entry)) l) ⌝ }
 {
-    if !store::undamaged(labels, entries, words) {
+    if !damage::undamaged(labels, entries, words) {
         return false;
     }
     if line.len() != 600 {
@@ -256,8 +134,8 @@ pub fn end(
     }
     let kept = l.kept;
     if kept == 0 {
-        return Ended::Report(report_of(l), fresh());
+        return Ended::Report(reports::report_of(l), reports::fresh());
     }
     let last = end_line(labels, entries, words, line, l);
-    Ended::Report(report_of(last), fresh())
+    Ended::Report(reports::report_of(last), reports::fresh())
 }

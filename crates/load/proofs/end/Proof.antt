@@ -4,11 +4,12 @@ use mathlib.Core.Path.{_≡_, refl, sym, _∙_, ap}
 use mathlib.Core.Bool.{true}
 use borrow.Author.Tests.{not-true, not-false, lt-ltb, le-ltb}
 use Rattle.store.specs.Layout.{store}
-use Rattle.load.specs.declared.Loader.{Loader}
-use Rattle.load.specs.declared.Report.{Report}
+use Rattle.reports.specs.declared.Loader.{Loader}
+use Rattle.reports.specs.declared.Report.{Report}
 use Rattle.load.specs.declared.Ended.{Ended}
 use Rattle.load.specs.declared.Ended.the-variants as e
-use Rattle.load.specs.Loader.{Load, load, ready, endAnswer, endAfter, stepEnd, reportOf}
+use Rattle.reports.specs.Report.{reportOf}
+use Rattle.load.specs.Loader.{Load, load, ready, endAnswer, endAfter, stepEnd}
 use borrow.Author.Needs.{needs}
 use native.Mathlib.Omega.{arith}
 use Rattle.load.proofs.Laws.{same-load}

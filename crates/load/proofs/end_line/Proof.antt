@@ -3,9 +3,10 @@ use mathlib.Core.Path.{refl, sym, _∙_, ap}
 use lib.Seq.{length-take-le}
 use borrow.Author.Tests.{lt-ltb, le-ltb}
 use Rattle.store.specs.Layout.{store}
-use Rattle.writes.specs.declared.Verdict.{Verdict}
-use Rattle.load.specs.declared.Loader.{Loader}
-use Rattle.load.specs.Loader.{load, count}
+use Rattle.writes.specs.declared.Outcome.{Outcome}
+use Rattle.reports.specs.declared.Loader.{Loader}
+use Rattle.reports.specs.Report.{count}
+use Rattle.load.specs.Loader.{load}
 use borrow.Author.Needs.{needs}
 use native.Mathlib.Omega.{arith}
 use Rattle.load.proofs.Laws.{Ready, ready-is, same-load}
@@ -44,7 +45,7 @@ same-length-3 c = search needs
 returns-2 : tie.Need-returns-2
 returns-2 c =
     let a = c .before .before .before .before .before .before .before .before .before .before .before .before .before .before .before .before .before .args in
-    rw (le-ltb _ _ (c .before .before .before .before .before .before .before .before .before .before .before .before .if1 .left)) (same-load (c .before .before .before .before .before .before .before .write-line .ensures .1) refl (c .count-line2 .ensures ∙ ap (λ (q : Verdict). count (a .l) q) (c .before .before .before .before .before .before .before .write-line .ensures .0)))
+    rw (le-ltb _ _ (c .before .before .before .before .before .before .before .before .before .before .before .before .if1 .left)) (same-load (c .before .before .before .before .before .before .before .write-line .ensures .1) refl (c .count-line2 .ensures ∙ ap (λ (q : Outcome). count (a .l) q) (c .before .before .before .before .before .before .before .write-line .ensures .0)))
 
 pub end-line-spec : {M : Type 1} → statement M
 end-line-spec =

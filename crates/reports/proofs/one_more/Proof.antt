@@ -1,8 +1,8 @@
--- `load::one_more` meets its contract. Assumes nothing.
+-- `reports::one_more` meets its contract. Assumes nothing.
 use borrow.Author.Tests.{lt-ltb, le-ltb}
 use borrow.Author.Needs.{needs}
-use Rattle.load.proofs.one_more.Statement.{statement}
-use Rattle.load.proofs.one_more.Tie as tie
+use Rattle.reports.proofs.one_more.Statement.{statement}
+use Rattle.reports.proofs.one_more.Tie as tie
 
 add-result : tie.Need-add-result
 add-result c = search needs
