@@ -1,8 +1,8 @@
-// The program (01, What the program reads and writes): standard input to standard output. What is written is decided in `session`; here it
+// The program (01, What the program reads and writes): standard input to standard output. What is written is decided in `program`; here it
 // is only read and written.
-use session::Session;
-use session::Turn;
-ghost use Rattle.session.specs.Session.{Front};
+use program::Turn;
+use program_line::Session;
+ghost use Rattle.program.specs.Input.{Front};
 
 const STDIN: i32 = 0;
 
@@ -45,7 +45,7 @@ fn feed_piece(
     s: Session,
     piece: &[u8],
 ) -> Next {
-    match session::feed(labels, entries, words, line, text, out, s, piece) {
+    match program::feed(labels, entries, words, line, text, out, s, piece) {
         Turn::Went(next, count) => put_out(out, count, next),
         Turn::Refused(_) => {
             complain(b"damaged state");
@@ -64,7 +64,7 @@ fn end_input(
     out: &mut [u8],
     s: Session,
 ) {
-    match session::finish(labels, entries, words, line, text, out, s) {
+    match program::finish(labels, entries, words, line, text, out, s) {
         Turn::Went(next, count) => {
             put_out(out, count, next);
         }
@@ -96,6 +96,11 @@ fn read_once(
     feed_piece(labels, entries, words, line, text, out, s, &piece[..n])
 }
 
+// Says that the loop below has come to the end of its count.
+fn out_of_turns() {
+    complain(b"too many pieces of input");
+}
+
 // A proved loop has to end, and nothing says that the input does. So the loop counts its turns down, from a number that no run uses up.
 fn read_all(
     labels: &mut [u8],
@@ -119,6 +124,7 @@ fn read_all(
         }
         turns -= 1;
     }
+    out_of_turns();
 }
 
 fn main() {
@@ -129,7 +135,7 @@ fn main() {
     let mut text = [0u8; 602];
     // Room for what a piece of 1,024 bytes may say.
     let mut out = [0u8; 67584];
-    let s = session::begin(&mut labels, &entries, &mut words);
+    let s = program::begin(&mut labels, &entries, &mut words);
     read_all(
         &mut labels,
         &mut entries,

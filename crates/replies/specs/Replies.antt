@@ -5,11 +5,11 @@ use mathlib.Core.List.{List, [], _∷_, _++_}
 use lib.ListN.{length}
 use lib.Dec.{ltb}
 use Rattle.search.specs.Bytes.{sameBytes}
-use Rattle.alphabet.specs.Alphabet.{fields}
+use Rattle.alphabet.specs.Alphabet.{lineLimit, fields}
 use Rattle.access.specs.Access.{shown}
 use Rattle.access.specs.declared.Answer.{Answer}
 use Rattle.access.specs.declared.Answer.the-variants.{Granted, Denied, Override, Refused}
-use Rattle.load.specs.declared.Report.{Report}
+use Rattle.reports.specs.declared.Report.{Report}
 
 -- ---- a question line
 
@@ -23,9 +23,9 @@ asked ask (s ∷ o ∷ r ∷ []) = ask s o r false
 asked ask (s ∷ o ∷ r ∷ c ∷ []) = cond (sameBytes c (111 ∷ [])) (ask s o r true) (Refused 2)
 asked ask (s ∷ o ∷ r ∷ c ∷ x ∷ more) = Refused 2
 
--- a line over 600 bytes is refused with 1, before every other
+-- a line over 600 bytes is refused with 1, before 2 and the question's own. (The program has tested the state before: 0 comes first there)
 unfoldable pub answerTo : (List ℕ → List ℕ → List ℕ → Bool → Answer) → List ℕ → Answer
-answerTo ask line = cond (ltb 600 (length line)) (Refused 1) (asked ask (fields line))
+answerTo ask line = cond (ltb lineLimit (length line)) (Refused 1) (asked ask (fields line))
 
 -- ---- what is written
 

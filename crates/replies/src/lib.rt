@@ -2,7 +2,7 @@
 // answer to a question line.
 use access::Answer;
 use alphabet::Field;
-use load::Report;
+use reports::Report;
 ghost use mathlib.Core.Path.{_≡_};
 ghost use mathlib.Core.List.{[], _∷_, _++_};
 ghost use Prim.Native.Nat.{_+_, _≤_};
@@ -39,7 +39,7 @@ fn write_field(out: &mut [u8], at: usize, n: u32, behind: u8) -> usize
     next + 1
 }
 
-// Writes the report on one line, from index `at`. Session's `feed` and `finish` have made sure that there is room for it.
+// Writes the report on one line, from index `at`. Who calls it has made sure that there is room for it: `program::feed` and `program::finish` test it.
 pub fn write_report(out: &mut [u8], at: usize, report: Report) -> usize
     requires { ⌜ at + 66 ≤ length (now out) ⌝ }
     ensures { λ r. ⌜ Put 66 (now (out .entry)) at (reportText report) (now (out .exit)) r ⌝ }
@@ -81,7 +81,7 @@ fn write_word(out: &mut [u8], at: usize, answer: Answer) -> usize
     }
 }
 
-// Writes an answer on one line, from index `at`. Session's `feed` and `finish` have made sure that there is room for it.
+// Writes an answer on one line, from index `at`. Who calls it has made sure that there is room for it: `program::feed` and `program::finish` test it.
 pub fn write_answer(out: &mut [u8], at: usize, answer: Answer) -> usize
     requires { ⌜ at + 66 ≤ length (now out) ⌝ }
     ensures { λ r. ⌜ Put 66 (now (out .entry)) at (answerLine answer) (now (out .exit)) r ⌝ }
@@ -98,7 +98,8 @@ pub fn write_answer(out: &mut [u8], at: usize, answer: Answer) -> usize
     end + 1
 }
 
-// The answer to a question line: refusals 1 and 2 before the question's own.
+// The answer to a question line: refusals 1 and 2 before the question's own. Where the state is damaged a line that asks is refused with 0 by
+// the question; the program tests the whole state before it looks at a line, so none of its lines gets 1 or 2 before 0.
 pub fn question_line(labels: &[u8], entries: &[u8], words: &[u64], line: &[u8]) -> Answer
     ensures { λ r. ⌜ r ≡ answerTo (questionOf (store (now (labels .entry)) (now (entries .entry)) (now (words .entry)))) (now (line .entry)) ⌝ }
 {

@@ -1,7 +1,7 @@
--- `balqirven::end_input` is safe: what `session::finish` answers counts bytes at the front of the output. Assumes nothing.
+-- `balqirven::end_input` is safe: what `program::finish` answers counts bytes at the front of the output. Assumes nothing.
 use mathlib.Core.Path.{subst}
-use Rattle.session.specs.declared.Turn.{Turn}
-use Rattle.session.specs.Session.{Front, wentCount}
+use Rattle.program.specs.declared.Turn.{Turn}
+use Rattle.program.specs.Input.{Front, wentCount}
 use borrow.Author.Needs.{needs}
 use Rattle.balqirven.proofs.end_input.Statement.{statement}
 use Rattle.balqirven.proofs.end_input.Tie as tie

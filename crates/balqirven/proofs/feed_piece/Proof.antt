@@ -1,7 +1,7 @@
--- `balqirven::feed_piece` is safe: what `session::feed` answers counts bytes at the front of the output. Assumes nothing.
+-- `balqirven::feed_piece` is safe: what `program::feed` answers counts bytes at the front of the output. Assumes nothing.
 use mathlib.Core.Path.{subst}
-use Rattle.session.specs.declared.Turn.{Turn}
-use Rattle.session.specs.Session.{Front, wentCount}
+use Rattle.program.specs.declared.Turn.{Turn}
+use Rattle.program.specs.Input.{Front, wentCount}
 use borrow.Author.Needs.{needs}
 use Rattle.balqirven.proofs.feed_piece.Statement.{statement}
 use Rattle.balqirven.proofs.feed_piece.Tie as tie

@@ -75,23 +75,26 @@ loop-again c =
       out-size = c .before .before .before .before .before .before .before .before .before .before .before .before .before .before .before .read-once .kept .1 .1 .1 .1 .1 .0 ∙ c .before .before .before .before .before .before .before .before .before .before .before .before .before .before .before .before .before .before .before .before .before .before .before .loop .inv .out-size;
     }
 
+out-of-turns-requires : tie.Need-out-of-turns-requires Inv-loop μ-loop
+out-of-turns-requires c κs = search needs
+
 same-length-7 : tie.Need-same-length-7 Inv-loop μ-loop
-same-length-7 c = c .before .loop .inv .labels-size
+same-length-7 c = c .before .before .loop .inv .labels-size
 
 same-length-8 : tie.Need-same-length-8 Inv-loop μ-loop
-same-length-8 c = c .before .loop .inv .entries-size
+same-length-8 c = c .before .before .loop .inv .entries-size
 
 same-length-9 : tie.Need-same-length-9 Inv-loop μ-loop
-same-length-9 c = c .before .loop .inv .words-size
+same-length-9 c = c .before .before .loop .inv .words-size
 
 same-length-10 : tie.Need-same-length-10 Inv-loop μ-loop
-same-length-10 c = c .before .loop .inv .line-size
+same-length-10 c = c .before .before .loop .inv .line-size
 
 same-length-11 : tie.Need-same-length-11 Inv-loop μ-loop
-same-length-11 c = c .before .loop .inv .text-size
+same-length-11 c = c .before .before .loop .inv .text-size
 
 same-length-12 : tie.Need-same-length-12 Inv-loop μ-loop
-same-length-12 c = c .before .loop .inv .out-size
+same-length-12 c = c .before .before .loop .inv .out-size
 
 returns-2 : tie.Need-returns-2 Inv-loop μ-loop
 returns-2 c = tt
@@ -116,6 +119,7 @@ read-all-spec =
     sub-turns
     loop-less
     loop-again
+    out-of-turns-requires
     same-length-7
     same-length-8
     same-length-9

@@ -1,0 +1,5 @@
+pub mod Laws
+pub mod Follows
+pub mod Whole
+pub mod Every
+pub mod RuleText

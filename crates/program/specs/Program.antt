@@ -1,0 +1,57 @@
+-- 01, What the program reads and writes: all that it writes, as a function of all that it reads. Assumes nothing.
+use Prim.Native.Nat.{ℕ}
+use mathlib.Core.Bool.{cond}
+use mathlib.Core.List.{List, [], _∷_, _++_}
+use lib.ListN.{length}
+use lib.Dec.{ltb, eqb}
+use Rattle.store.specs.Table.{Table, fresh}
+use Rattle.access.specs.Access.{answer}
+use Rattle.lists.specs.Reader.{Totals, Reader, startOn, takePiece, finish, limitedTotals}
+use Rattle.replies.specs.Replies.{answerTo, numbersLine, answerLine}
+use Rattle.program_line.specs.Line.{isMark}
+
+-- ---- the lines of the input
+
+-- each byte but a newline joins the line under way; a newline ends it, and the next begins empty; bytes after the last newline are one
+-- more line
+abbrev pub linesFrom : List ℕ → List ℕ → List (List ℕ)
+linesFrom kept [] = cond (ltb 0 (length kept)) (kept ∷ []) []
+linesFrom kept (b ∷ bs) = cond (eqb b 10) (kept ∷ linesFrom [] bs) (linesFrom (kept ++ (b ∷ [])) bs)
+
+abbrev pub lines : List ℕ → List (List ℕ)
+lines input = linesFrom [] input
+
+-- the lines before the first line that is exactly `?` are rule text, those after it are questions; where there is none, all are rule text
+abbrev pub ruleLines : List (List ℕ) → List (List ℕ)
+ruleLines [] = []
+ruleLines (l ∷ ls) = cond (isMark l) [] (l ∷ ruleLines ls)
+
+abbrev pub questionLines : List (List ℕ) → List (List ℕ)
+questionLines [] = []
+questionLines (l ∷ ls) = cond (isMark l) ls (questionLines ls)
+
+-- lines as text, each with its newline
+abbrev pub asText : List (List ℕ) → List ℕ
+asText [] = []
+asText (l ∷ ls) = (l ++ (10 ∷ [])) ++ asText ls
+
+-- ---- what is written
+
+-- the report: lines, accepted, skipped, refused, first refused line, its reason
+unfoldable pub reportLine : Totals → List ℕ
+reportLine c = numbersLine (c .lines ∷ c .accepted ∷ c .skipped ∷ c .refused ∷ c .first ∷ c .reason ∷ [])
+
+-- a line for each question
+abbrev pub answerLines : Table → List (List ℕ) → List ℕ
+answerLines t [] = []
+answerLines t (l ∷ ls) = answerLine (answerTo (answer t) l) ++ answerLines t ls
+
+-- ---- the whole
+
+-- the plain reader, begun on a fresh table and fed the rule text, up to its end call
+abbrev pub afterRules : List ℕ → Reader
+afterRules input = finish (takePiece (startOn fresh) (asText (ruleLines (lines input))))
+
+-- the report on one line, then a line for each question
+unfoldable pub output : List ℕ → List ℕ
+output input = reportLine (limitedTotals (afterRules input .totals)) ++ answerLines (afterRules input .table) (questionLines (lines input))

@@ -1,4 +1,0 @@
-pub mod Laws
-pub mod Follows
-pub mod Whole
-pub mod RuleText
