@@ -6,14 +6,14 @@ use Prim.Native.Nat.{ℕ}
 use Rattle.search.specs.Search.{first, all, put, entries}
 use Rattle.search.specs.Bytes.{sameBytes}
 use Rattle.alphabet.specs.Alphabet.{isBlank, labelByte, wellFormed, fields}
-use Rattle.modes.specs.Modes.{bitOf, allowedByte, modesOf, readModes}
+use Rattle.modes.specs.Modes.{bitOf, allowedByte, modesOf, readModes, modesText}
 use Rattle.numbers.specs.Numbers.{numberOf}
 use Rattle.numbers.specs.Categories.{categories, withCategory}
 use Rattle.store.specs.Table.{Table, fresh, isPair}
 use Rattle.lines.specs.Lines.{ruleBy, ruleOf, changeBy, changeOf}
 use Rattle.rules.specs.Rules.{placing, withPair}
 use Rattle.access.specs.Access.{effective, decide, answer}
-use Rattle.cipso.specs.Cipso.{Said, mapping, categoriesOf, saidBy, mappingOf, names, withMapping, mappedTable, tableBy}
+use Rattle.cipso.specs.Cipso.{SaidMapping, mapping, categoriesOf, saidBy, mappingOf, names, withMapping, mappedTable, tableBy}
 use Rattle.lookups.specs.Lookups.{labelLookup}
 use Rattle.cipso.specs.Cipso as cipso
 use Rattle.claims.specs.Cases.{Case, asks, changes, maps, right, sameLookup, cases, Vault7}
@@ -39,8 +39,8 @@ after-it = refl
 
 mapped : right (maps write Vault7 9 (1 ∷ 63 ∷ []) 2) ≡ true
 unfolding right mappedTable
-mapped = ap (λ (s : Said). sameLookup (labelLookup (tableBy fresh s) Vault7) 9 (1 ∷ 63 ∷ []) 2) says ∙ after-it
+mapped = ap (λ (s : SaidMapping). sameLookup (labelLookup (tableBy fresh s) Vault7) 9 (1 ∷ 63 ∷ []) 2) says ∙ after-it
 
 pub cases-right : all right cases ≡ true
-unfolding all right first put sameBytes isBlank labelByte wellFormed fields bitOf allowedByte modesOf readModes ruleBy ruleOf changeBy changeOf isPair placing withPair effective decide answer
+unfolding all right first put sameBytes isBlank labelByte wellFormed fields bitOf allowedByte modesOf readModes modesText ruleBy ruleOf changeBy changeOf isPair placing withPair effective decide answer
 cases-right = and-true (right (maps write Vault7 9 (1 ∷ 63 ∷ []) 2)) ∙ mapped

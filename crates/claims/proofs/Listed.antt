@@ -20,7 +20,7 @@ use Rattle.numbers.specs.declared.Number.{Number}
 use Rattle.numbers.specs.declared.Number.the-variants as number
 use Rattle.store.specs.declared.Done.{Done}
 use Rattle.store.specs.declared.Done.the-variants as d
-use Rattle.store.specs.Table.{Table, labelIn, labelLimit, ruleLimit, mappingLimit, onlycapLimit}
+use Rattle.store.specs.Table.{Table, labelIn, labelLimit, ruleLimit, mappingLimit, onlycapLimit, ruleNumbered, knownSet}
 use Rattle.store.specs.Layout.{Store, tableOf, undamagedOf, fullSizes, freshAnswer}
 use Rattle.lines.specs.Lines.{Said, skipped, refused, rule, change, ruleWith, ruleBy, ruleFields, ruleOf, changeWith, changeBy, changeFields, changeOf}
 use Rattle.rules.specs.Rules.{placing, placeFor, labelsAfter, noPlace}
@@ -28,9 +28,9 @@ use Rattle.rules.specs.Rules as rules
 use Rattle.rules.specs.declared.Spot.{Spot}
 use Rattle.rules.specs.declared.Place.{Place}
 use Rattle.rules.specs.declared.Place.the-variants as p
-use Rattle.writes.specs.Writes.{Judged, is-skipped, is-refused, is-accepted, judged, ruleJudged, changeJudged, verdictOf, lineVerdict, doneOf, changeAnswer}
-use Rattle.writes.specs.declared.Verdict.{Verdict}
-use Rattle.writes.specs.declared.Verdict.the-variants as v
+use Rattle.writes.specs.Writes.{Judged, is-skipped, is-refused, is-accepted, judged, ruleJudged, changeJudged, outcomeOf, lineOutcome, doneOf, changeAnswer}
+use Rattle.writes.specs.declared.Outcome.{Outcome}
+use Rattle.writes.specs.declared.Outcome.the-variants as v
 use Rattle.revoke.specs.Revoke.{revokeOf, revokeAnswer}
 use Rattle.revoke.specs.declared.Revoked.{Revoked}
 use Rattle.revoke.specs.declared.Revoked.the-variants as r
@@ -52,7 +52,7 @@ use Rattle.access.specs.declared.Verdict.{Verdict as Ruling}
 use Rattle.access.specs.declared.Verdict.the-variants as ruling
 use Rattle.access.specs.declared.Answer.{Answer}
 use Rattle.access.specs.declared.Answer.the-variants as a
-use Rattle.listing.specs.Listing.{ruleText, ruleNumbered, putAnswer, listRule, listAnswer, labelAnswer}
+use Rattle.listing.specs.Listing.{ruleText, putAnswer, listRule, listAnswer, labelAnswer}
 use Rattle.listing.specs.declared.Listed.{Listed}
 use Rattle.listing.specs.declared.Listed.the-variants as l
 use Rattle.load.specs.Loader.{Load, ready, pieceAnswer, endAnswer}
@@ -90,13 +90,13 @@ ended-or ns (e.Refused n) = isAmong n ns
 of-ended : (ns : List ℕ) (x : Ended) (n : ℕ) → ended-or ns x ≡ true → x ≡ e.Refused n → Among n ns
 of-ended ns x n h q = rw q at h
 
-abbrev verdict-or : List ℕ → Verdict → Bool
-verdict-or ns v.Skipped = true
-verdict-or ns v.Accepted = true
-verdict-or ns (v.Refused n) = isAmong n ns
+abbrev outcome-or : List ℕ → Outcome → Bool
+outcome-or ns v.Skipped = true
+outcome-or ns v.Accepted = true
+outcome-or ns (v.Refused n) = isAmong n ns
 
-of-verdict : (ns : List ℕ) (x : Verdict) (n : ℕ) → verdict-or ns x ≡ true → x ≡ v.Refused n → Among n ns
-of-verdict ns x n h q = rw q at h
+of-outcome : (ns : List ℕ) (x : Outcome) (n : ℕ) → outcome-or ns x ≡ true → x ≡ v.Refused n → Among n ns
+of-outcome ns x n h q = rw q at h
 
 abbrev revoked-or : List ℕ → Revoked → Bool
 revoked-or ns (r.Count x) = true
@@ -213,7 +213,7 @@ unfolding placing
 placed P t s o at six seven = by-found (labelIn t s) (labelIn t o)
   where
     by-found : (x y : Found) → P (placeFor t x y) ≡ true
-    by-found x y = either P (ltb labelLimit (labelsAfter t x y)) six (either P (noPlace (rules.ruleOf t x y) (length (t .rules)) ruleLimit) seven (at _))
+    by-found x y = either P (ltb labelLimit (labelsAfter t x y)) six (either P (noPlace (rules.ruleOfPair t x y) (length (t .rules)) ruleLimit) seven (at _))
 
 judged-said : (ns : List ℕ) (t : Table) (said : Said) → Among 6 ns → Among 7 ns → said-or ns said ≡ true → judged-or ns (judged t said) ≡ true
 judged-said ns t skipped six seven h = refl
@@ -221,7 +221,7 @@ judged-said ns t (refused n) six seven h = h
 judged-said ns t (rule s o m) six seven h = placed (λ (x : Place). judged-or ns (ruleJudged t s o m x)) t s o (λ spot. refl) six seven
 judged-said ns t (change s o m k) six seven h = placed (λ (x : Place). judged-or ns (changeJudged t s o m k x)) t s o (λ spot. refl) six seven
 
-verdict-judged : (ns : List ℕ) (j : Judged) → judged-or ns j ≡ true → verdict-or ns (verdictOf j) ≡ true
+verdict-judged : (ns : List ℕ) (j : Judged) → judged-or ns j ≡ true → outcome-or ns (outcomeOf j) ≡ true
 verdict-judged ns is-skipped h = refl
 verdict-judged ns (is-refused n) h = h
 verdict-judged ns (is-accepted t) h = refl
@@ -231,10 +231,10 @@ done-judged ns is-skipped h = refl
 done-judged ns (is-refused n) h = h
 done-judged ns (is-accepted t) h = refl
 
-line-listed : (st : Store) (text : List ℕ) (n : ℕ) → lineVerdict st text ≡ v.Refused n → Among n ruleNumbers
-unfolding lineVerdict isAmong
+line-listed : (st : Store) (text : List ℕ) (n : ℕ) → lineOutcome st text ≡ v.Refused n → Among n ruleNumbers
+unfolding lineOutcome isAmong
 line-listed st text n =
-    of-verdict ruleNumbers _ n
+    of-outcome ruleNumbers _ n
     (verdict-judged ruleNumbers (judged (tableOf st) (ruleOf text)) (judged-said ruleNumbers (tableOf st) (ruleOf text) refl refl (rule-said text)))
 
 change-listed : (st : Store) (text : List ℕ) (n : ℕ) → changeAnswer st text ≡ d.Refused n → Among n changeNumbers
@@ -277,7 +277,7 @@ onlycap-listed st text n =
 abbrev mappingNumbers : List ℕ
 mappingNumbers = 0 ∷ 1 ∷ 2 ∷ 3 ∷ 9 ∷ 6 ∷ 10 ∷ []
 
-abbrev mapping-or : cipso.Said → Bool
+abbrev mapping-or : cipso.SaidMapping → Bool
 mapping-or (cipso.refused n) = isAmong n mappingNumbers
 mapping-or (cipso.mapping x level s) = true
 
@@ -310,9 +310,9 @@ mapping-fields (x ∷ level ∷ fs) = either mapping-or (wellFormed x) (with-lev
 
 mapping-said : (text : List ℕ) → mapping-or (cipso.mappingOf text) ≡ true
 unfolding isAmong cipso.mappingOf
-mapping-said text = either mapping-or (ltb cipso.writeLimit (length text)) refl (mapping-fields (fields text))
+mapping-said text = either mapping-or (ltb lineLimit (length text)) refl (mapping-fields (fields text))
 
-mapping-answer : (t : Table) (said : cipso.Said) → mapping-or said ≡ true → done-or mappingNumbers (cipso.answerBy t said) ≡ true
+mapping-answer : (t : Table) (said : cipso.SaidMapping) → mapping-or said ≡ true → done-or mappingNumbers (cipso.answerBy t said) ≡ true
 unfolding isAmong cipso.placing
 mapping-answer t (cipso.refused n) h = h
 mapping-answer t (cipso.mapping x level s) h = by-found (labelIn t x)
@@ -358,7 +358,7 @@ unfolding byLevelOf levelLookup isAmong
 by-level-listed st level set n =
     of-label byLevelNumbers _ n
     (either (label-or byLevelNumbers) (undamagedOf st)
-    (either (label-or byLevelNumbers) (cipso.isLevel level && cipso.knownSet set)
+    (either (label-or byLevelNumbers) (cipso.isLevel level && knownSet set)
     (numbered-label (first (hasBoth (tableOf st) level set) (entries (λ (k : ℕ). k) (length (tableOf st .labels))))) refl) refl)
 
 best-label : (b : Best) → label-or (9 ∷ []) (run.said b) ≡ true

@@ -11,16 +11,17 @@ use Rattle.search.specs.declared.Found.{Found}
 use Rattle.alphabet.specs.Alphabet.{wellFormed, fields, lineLimit}
 use Rattle.store.specs.declared.Done.{Done}
 use Rattle.store.specs.declared.Done.the-variants as d
-use Rattle.store.specs.Table.{labelIn}
+use Rattle.store.specs.Table.{labelIn, ruleNumbered}
 use Rattle.store.specs.Layout.{Store, store, tableOf, undamagedOf, fullSizes, freshLabels, freshWords, freshAnswer, freshStore}
 use Rattle.writes.proofs.Laws.{change-refused}
 use Rattle.revoke.specs.Revoke.{revokeOf, revokeAnswer, revokeEntries, subjectCount, clearedFor}
 use Rattle.revoke.specs.declared.Revoked.the-variants as r
 use Rattle.onlycap.specs.Onlycap.{onlycapAnswer, onlycapStore, storeBy}
 use Rattle.cipso.proofs.Refused.{map-refused}
-use Rattle.listing.specs.Listing.{listRule, listRuleOut, listAnswer, listOut, putAnswer, putOut, ruleText, ruleNumbered}
+use Rattle.listing.specs.Listing.{listRule, listRuleOut, listAnswer, listOut, putAnswer, putOut, ruleText}
 use Rattle.listing.specs.declared.Listed.the-variants as l
-use Rattle.load.specs.Loader.{Load, load, ready, stepPiece, stepEnd, freshLoader, reportOf, pieceAnswer, pieceAfter, endAnswer, endAfter}
+use Rattle.reports.specs.Report.{freshLoader, reportOf}
+use Rattle.load.specs.Loader.{Load, load, ready, stepPiece, stepEnd, pieceAnswer, pieceAfter, endAnswer, endAfter}
 use Rattle.load.specs.declared.Fed.the-variants as f
 use Rattle.load.specs.declared.Ended.the-variants as e
 use Rattle.claims.specs.Refusals.{NothingChanges}

@@ -2,14 +2,12 @@
 use Prim.Native.Nat.{ℕ}
 use mathlib.Core.Bool.{Bool, true, false, cond, _&&_, Bool·beq}
 use mathlib.Core.List.{List, [], _∷_, foldl}
-use lib.ListN.{getD}
 use lib.Dec.{eqb}
 use Rattle.search.specs.Bytes.{sameBytes}
-use Rattle.search.specs.declared.Found.{Found}
-use Rattle.search.specs.declared.Found.the-variants.{At, Nothing}
-use Rattle.store.specs.declared.Rule.{Rule}
+use Rattle.modes.specs.Modes.{modesText}
 use Rattle.store.specs.Table.{Table, fresh, floor, hat, star, labelIn}
 use Rattle.lines.specs.Lines.{ruleOf, changeOf}
+use Rattle.rules.specs.Rules.{modesOfRule}
 use Rattle.writes.specs.Writes.{judged, tableAfter}
 use Rattle.access.specs.Rules.{ruleBetween}
 use Rattle.access.specs.Access.{answer, shown}
@@ -21,23 +19,19 @@ use Rattle.lookups.specs.declared.Lookup.the-variants as l
 use Rattle.numbers.specs.Categories.{categories}
 
 -- a case: after these lines are loaded into a fresh table, a subject asks a request of an object; after a line and a change, a pair has
--- these modes; after a mapping write, a label has this level, these categories and their count
+-- these modes, as text; after a mapping write, a label has this level, these categories and their count
 pub data Case : Type 0 where
   asks : List (List ℕ) → List ℕ → List ℕ → List ℕ → Shown → Case
-  changes : List ℕ → List ℕ → List ℕ → List ℕ → ℕ → Case
+  changes : List ℕ → List ℕ → List ℕ → List ℕ → List ℕ → Case
   maps : List ℕ → List ℕ → ℕ → List ℕ → ℕ → Case
 
 -- a fresh table with lines loaded
-abbrev pub loaded : List (List ℕ) → Table
-loaded lines = foldl (λ (t : Table) (line : List ℕ). tableAfter t (judged t (ruleOf line))) fresh lines
+abbrev pub afterLines : List (List ℕ) → Table
+afterLines lines = foldl (λ (t : Table) (line : List ℕ). tableAfter t (judged t (ruleOf line))) fresh lines
 
 -- the modes of a pair's rule
-abbrev pub modesAt : List Rule → Found → ℕ
-modesAt rules (At k) = getD rules k (record { subject = 0; object = 0; modes = 0 }) .modes
-modesAt rules Nothing = 0
-
-abbrev pub modesBetween : Table → List ℕ → List ℕ → ℕ
-modesBetween t s o = modesAt (t .rules) (ruleBetween t (labelIn t s) (labelIn t o))
+abbrev pub pairModes : Table → List ℕ → List ℕ → ℕ
+pairModes t s o = modesOfRule (ruleBetween t (labelIn t s) (labelIn t o)) (t .rules)
 
 abbrev pub sameShown : Shown → Shown → Bool
 sameShown a b = eqb (a .kind) (b .kind) && (eqb (a .number) (b .number) && Bool·beq (a .bringup) (b .bringup))
@@ -48,9 +42,9 @@ sameLookup l.Unmapped x cs n = false
 sameLookup (l.Refused k) x cs n = false
 
 unfoldable pub right : Case → Bool
-right (asks lines s o request expected) = sameShown (shown (answer (loaded lines) s o request false)) expected
+right (asks lines s o request expected) = sameShown (shown (answer (afterLines lines) s o request false)) expected
 right (changes line write s o modes) =
-    eqb (modesBetween (tableAfter (loaded (line ∷ [])) (judged (loaded (line ∷ [])) (changeOf write))) s o) modes
+    sameBytes (modesText (pairModes (tableAfter (afterLines (line ∷ [])) (judged (afterLines (line ∷ [])) (changeOf write))) s o)) modes
 right (maps write label level cs count) = sameLookup (labelLookup (mappedTable fresh write) label) level cs count
 
 -- ---- the texts, in bytes
@@ -111,6 +105,6 @@ cases =
     ∷ asks (Probe3-Air w ∷ []) Probe3 Air rw′ (denied 7)
     ∷ asks (Probe3-Air w ∷ []) Air Probe3 w (denied 7)
     ∷ asks (Probe3-Air (114 ∷ 82 ∷ 98 ∷ []) ∷ []) Probe3 Air r granted-b
-    ∷ changes (Probe3-Air r) (Probe3-Air (119 ∷ 97 ∷ 32 ∷ 119 ∷ [])) Probe3 Air 36
+    ∷ changes (Probe3-Air r) (Probe3-Air (119 ∷ 97 ∷ 32 ∷ 119 ∷ [])) Probe3 Air (114 ∷ 97 ∷ [])
     ∷ maps (86 ∷ 97 ∷ 117 ∷ 108 ∷ 116 ∷ 55 ∷ 32 ∷ 57 ∷ 32 ∷ 49 ∷ 32 ∷ 54 ∷ 51 ∷ []) Vault7 9 (1 ∷ 63 ∷ []) 2
     ∷ []

@@ -1,4 +1,4 @@
--- Demand 1, its first half: bad input is refused by a number from the list. 01, The refusal numbers, with the calls in its order: a refusal of
+-- Demand 1: bad input is refused by a number from the list. 01, The refusal numbers, with the calls in its order: a refusal of
 -- a call has one of these numbers, which stand in the order in which 01 gives them, 0 before every other. Assumes nothing.
 use Prim.Native.Nat.{ℕ}
 use mathlib.Core.Path.{_≡_}
@@ -10,8 +10,8 @@ use Rattle.store.specs.Layout.{Store, freshAnswer}
 use Rattle.load.specs.Loader.{Load, pieceAnswer, endAnswer}
 use Rattle.load.specs.declared.Fed.the-variants as f
 use Rattle.load.specs.declared.Ended.the-variants as e
-use Rattle.writes.specs.Writes.{lineVerdict, changeAnswer}
-use Rattle.writes.specs.declared.Verdict.the-variants as v
+use Rattle.writes.specs.Writes.{lineOutcome, changeAnswer}
+use Rattle.writes.specs.declared.Outcome.the-variants as v
 use Rattle.revoke.specs.Revoke.{revokeAnswer}
 use Rattle.revoke.specs.declared.Revoked.the-variants as r
 use Rattle.onlycap.specs.Onlycap.{onlycapAnswer}
@@ -40,7 +40,7 @@ pub record FromTheList : Type 0 where
   pub fresh-table : (st : Store) (n : ℕ) → freshAnswer st ≡ d.Refused n → Among n (0 ∷ [])
   pub piece : (s : Load) (text : List ℕ) (n : ℕ) → pieceAnswer s text ≡ f.Refused n → Among n (0 ∷ [])
   pub end-call : (s : Load) (n : ℕ) → endAnswer s ≡ e.Refused n → Among n (0 ∷ [])
-  pub line : (st : Store) (text : List ℕ) (n : ℕ) → lineVerdict st text ≡ v.Refused n → Among n (1 ∷ 2 ∷ 3 ∷ 4 ∷ 5 ∷ 6 ∷ 7 ∷ [])
+  pub line : (st : Store) (text : List ℕ) (n : ℕ) → lineOutcome st text ≡ v.Refused n → Among n (1 ∷ 2 ∷ 3 ∷ 4 ∷ 5 ∷ 6 ∷ 7 ∷ [])
   pub change : (st : Store) (text : List ℕ) (n : ℕ) → changeAnswer st text ≡ d.Refused n → Among n (0 ∷ 1 ∷ 2 ∷ 3 ∷ 4 ∷ 5 ∷ 6 ∷ 7 ∷ [])
   pub revoke : (st : Store) (label : List ℕ) (n : ℕ) → revokeAnswer st label ≡ r.Refused n → Among n (0 ∷ 1 ∷ 3 ∷ [])
   pub onlycap : (st : Store) (text : List ℕ) (n : ℕ) → onlycapAnswer st text ≡ d.Refused n → Among n (0 ∷ 1 ∷ 2 ∷ 3 ∷ 11 ∷ 6 ∷ [])

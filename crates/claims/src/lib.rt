@@ -3,26 +3,38 @@
 ghost use mathlib.Core.Path.{_≡_};
 ghost use mathlib.Core.Bool.{true, false};
 ghost use mathlib.Core.List.{List, map};
+ghost use Prim.Native.Nat.{ℕ, _<_};
+ghost use lib.ListN.{getD};
 ghost use Rattle.search.specs.Search.{all};
+ghost use Rattle.alphabet.specs.Alphabet.{classOf, classTable};
+ghost use Rattle.modes.specs.Modes.{letters, soundLetters};
 ghost use Rattle.store.specs.Layout.{tableOf, undamagedOf};
 ghost use Rattle.load.specs.Loader.{Load};
 ghost use Rattle.lists.specs.Reader.{Call, Reply, events, reports};
 ghost use Rattle.lists.proofs.Trace.{Fresh, Runs};
 ghost use Rattle.lists.proofs.Undivided.{PlainReaders, refusal-of};
 ghost use Rattle.claims.specs.Cases.{right, cases};
+ghost use Rattle.claims.specs.Exported.{ExportedCalls};
 ghost use Rattle.claims.specs.Listed.{FromTheList};
+ghost use Rattle.claims.specs.Program.{ProgramOutput};
 ghost use Rattle.claims.specs.Refusals.{NothingChanges};
+ghost use Rattle.claims.specs.Runs.{SearchesTheRun};
 ghost use Rattle.claims.specs.Tables.{TablesFollow};
 
-// Demand 1: every call of a host has an answer, since none has a precondition and each contract gives its answer by a definition; and a
-// refusal leaves the tables, the loader and every lent buffer holding what they held before.
-pub fn demand_1()
+// Demand 1, that every input is met with an answer: of every exported function of the crate host, out of its own contract, it asks nothing of its
+// caller, and its answer and what it leaves in each lent slice are what the definitions say.
+pub fn demand_1_every_call_answers()
+    ensures { λ _. ⌜ ExportedCalls ⌝ }
+{}
+
+// Demand 1, that a refusal leaves the tables, the loader and every lent buffer holding what they held before.
+pub fn demand_1_refusals_change_nothing()
     ensures { λ _. ⌜ NothingChanges ⌝ }
 {}
 
 // Demand 1, that bad input is refused by a number from the list: a refusal of a call, or of a line of rule text, has one of the numbers that 01
 // gives for it.
-pub fn refusals_are_listed()
+pub fn demand_1_refusals_are_listed()
     ensures { λ _. ⌜ FromTheList ⌝ }
 {}
 
@@ -45,6 +57,28 @@ pub fn demand_3_of_two_lists()
 // Of a damaged table: every call of a list is refused with 0, and nothing changes.
 pub fn damaged_table_refused()
     ensures { λ _. ⌜ ((s s′ : Load) (cs : List Call) (rs : List Reply) → undamagedOf (s .store) ≡ false → Runs s cs rs s′ → (s′ ≡ s) × (rs ≡ map refusal-of cs)) ⌝ }
+{}
+
+// Every list of calls can be made from every state, so that the three above do not speak of nothing.
+pub fn every_list_has_a_run()
+    ensures { λ _. ⌜ ((s : Load) (cs : List Call) → (rs : List Reply) × (s′ : Load) × Runs s cs rs s′) ⌝ }
+{}
+
+// What the program writes: for every cutting of its input into pieces, the report and the answers that 01 has written for the whole.
+pub fn program_output()
+    ensures { λ _. ⌜ ProgramOutput ⌝ }
+{}
+
+// What the search of a run answers is the lowest label number whose level and set both match, or none, whatever the run.
+pub fn search_of_a_run()
+    ensures { λ _. ⌜ SearchesTheRun ⌝ }
+{}
+
+// Byte classes and letters, the rule of each once over its table: each of the 256 entries is the class of its byte; each letter is a small one,
+// each bit a power of two, and none of them stands twice.
+pub fn bytes_and_letters()
+    ensures { λ _. ⌜ ((b : ℕ) → b < 256 → getD classTable b 0 ≡ classOf b) ⌝ }
+    ensures { λ _. ⌜ soundLetters letters ≡ true ⌝ }
 {}
 
 // The cases P1 to P12.

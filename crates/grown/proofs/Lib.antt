@@ -3,3 +3,4 @@ pub mod Growing
 pub mod Pairs
 pub mod Order
 pub mod Relisted
+pub mod ByNumber

@@ -51,7 +51,7 @@ says-first ls k v e q =
       says = sym (first-says none ls k e) ∙ q;
     }
   where
-    earlier : (j : ℕ) → 1 ≤ j → j < suc k → Rattle.grown.specs.Order.numbered ls j .applies ≡ false
+    earlier : (j : ℕ) → 1 ≤ j → j < suc k → Rattle.grown.specs.Order.publishedRule ls j .applies ≡ false
     earlier zero a b = refl
     earlier (suc j) a b = first-before (λ (l : Line). l .applies) none ls k e j (le-of-suc-le-suc b)
 

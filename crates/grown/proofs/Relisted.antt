@@ -18,16 +18,16 @@ use Rattle.alphabet.specs.Alphabet.{wellFormed}
 use Rattle.modes.specs.Modes.{modesText}
 use Rattle.modes.proofs.Laws.{text-read}
 use Rattle.store.specs.declared.Rule.{Rule}
-use Rattle.store.specs.Table.{Table, fresh, labelIn, isPair, pairIn, soundRule}
+use Rattle.store.specs.Table.{Table, fresh, labelIn, isPair, pairIn, soundRule, labelNumbered, ruleNumbered}
 use Rattle.lines.specs.Lines.{rule, ruleOf}
 use Rattle.lines.proofs.Laws.{Taken}
 use Rattle.writes.specs.Writes.{is-accepted, judged, tableAfter}
 use Rattle.access.specs.Rules.{ruleBetween}
-use Rattle.access.specs.Access.{isAt}
-use Rattle.lists.specs.Reader.{Reader, Counts, endLine, takeByte, takePiece, finish, limited, limitedCounts, done, report}
+use Rattle.access.specs.Access.{isFound}
+use Rattle.lists.specs.Reader.{Reader, Totals, endLine, takeByte, takePiece, finish, limited, limitedTotals, done, report}
 use Rattle.listing.specs.Listing.{lineOf, ruleText, textsOf, listing}
 use Rattle.listing.proofs.Laws.{noNewline, ListedLine, rule-line}
-use Rattle.grown.specs.Sane.{labelOf, ruleAt, twoLabels, Sane}
+use Rattle.grown.specs.Sane.{twoLabels, Sane}
 use Rattle.grown.specs.Pairs.{Triple, no-rule, modesFound, modesBetween, newLabels, hasRoom}
 use Rattle.grown.specs.Relisted.{Spelled, spell, spelled, allAccepted, LoadsBack}
 use Rattle.grown.proofs.Sane.{same-bytes, sound-parts, enter, enter-once, enter-all, five-front, subjectAt, objectAt, pairLabels, paired, subject-number, object-number, pair-length, pair-front, stored-known, rule-known, paired-sane, rule-paired, fresh-sane}
@@ -36,20 +36,20 @@ use Rattle.grown.proofs.Pairs.{pair-read, rule-accepted, triple-rule, a
 -- ---- the plain reader and one line
 
 abbrev keeping : Reader → List ℕ → Reader
-keeping p l = record { table = p .table; kept = p .kept ++ l; counts = p .counts }
+keeping p l = record { table = p .table; kept = p .kept ++ l; totals = p .totals }
 
 -- bytes that are no newlines join the kept line
 keeps : (p : Reader) (l : List ℕ) → all noNewline l ≡ true → takePiece p l ≡ keeping p l
 unfolding takeByte all
-keeps p [] e = ap (λ (k : List ℕ). record { table = p .table; kept = k; counts = p .counts }) (sym (append-nil (p .kept)))
+keeps p [] e = ap (λ (k : List ℕ). record { table = p .table; kept = k; totals = p .totals }) (sym (append-nil (p .kept)))
 keeps p (b ∷ bs) e =
     let h = and-both (noNewline b) (all noNewline bs) e in
     let z : eqb b 10 ≡ false = not-true (eqb b 10) (h .0) in
-    rw z (keeps (keeping p (b ∷ [])) bs (h .1) ∙ ap (λ (k : List ℕ). record { table = p .table; kept = k; counts = p .counts }) (append-assoc (p .kept) (b ∷ []) bs))
+    rw z (keeps (keeping p (b ∷ [])) bs (h .1) ∙ ap (λ (k : List ℕ). record { table = p .table; kept = k; totals = p .totals }) (append-assoc (p .kept) (b ∷ []) bs))
 
 -- the reader between lines, once n have been accepted and no other has come
 abbrev between : Table → ℕ → Reader
-between u n = record { table = u; kept = []; counts = allAccepted n }
+between u n = record { table = u; kept = []; totals = allAccepted n }
 
 accepts : (u u′ : Table) (line : List ℕ) (n : ℕ) → all noNewline line ≡ true → judged u (ruleOf line) ≡ is-accepted u′ → takePiece (between u n) (line ++ (10 ∷ [])) ≡ between u′ (n + 1)
 unfolding takeByte endLine
@@ -63,7 +63,7 @@ accepts u u′ line n plain e =
 -- u holds the rules rs of t, and no label that t has not
 record Loaded (t u : Table) (rs : List Rule) : Type 0 where
   sane : Sane u
-  known : all (λ (l : List ℕ). isAt (labelIn t l)) (u .labels) ≡ true
+  known : all (λ (l : List ℕ). isFound (labelIn t l)) (u .labels) ≡ true
   same : map (spell u) (u .rules) ≡ map (spell t) rs
 
 abbrev none : Rule
@@ -75,16 +75,16 @@ no-spelling = record { subject = []; object = []; modes = 0 }
 same-place : {a b : ℕ} → At a ≡ At b → a ≡ b
 same-place e = cc
 
-found-known : (f : Found) → isAt f ≡ true → f ≡ Nothing → ⊥
+found-known : (f : Found) → isFound f ≡ true → f ≡ Nothing → ⊥
 found-known (At i) e q = let z : _≡_ {A = ℕ} 0 1 = cc in omega arith
 found-known Nothing e q = no e
 
 module _ (t u : Table) (rs rest : List Rule) (r : Rule) (h : Sane t) (w : Loaded t u rs) (is : t .rules ≡ rs ++ (r ∷ rest)) where
   abbrev s : List ℕ
-  s = labelOf t (r .subject)
+  s = labelNumbered t (r .subject)
 
   abbrev o : List ℕ
-  o = labelOf t (r .object)
+  o = labelNumbered t (r .object)
 
   abbrev m : ℕ
   m = r .modes
@@ -93,7 +93,7 @@ module _ (t u : Table) (rs rest : List Rule) (r : Rule) (h : Sane t) (w : Loaded
   at-end : length rs < length (t .rules)
   at-end = rw (is, length-append) (omega arith)
 
-  r-is : ruleAt t (length rs) ≡ r
+  r-is : ruleNumbered t (length rs) ≡ r
   r-is = ap (λ (l : List Rule). getD l (length rs) none) is ∙ getD-at rs r rest none (length rs) refl
 
   r-known : (r .subject < length (t .labels)) × (r .object < length (t .labels)) × (r .modes < 64)
@@ -143,7 +143,7 @@ module _ (t u : Table) (rs rest : List Rule) (r : Rule) (h : Sane t) (w : Loaded
   so-many = sym (length-map (u .rules) (spell u)) ∙ ap length (w .same) ∙ length-map rs (spell t)
 
   -- a rule of u is spelled as t's rule at its place
-  spelled-at : (q : ℕ) → q < length (u .rules) → spell u (ruleAt u q) ≡ spell t (ruleAt t q)
+  spelled-at : (q : ℕ) → q < length (u .rules) → spell u (ruleNumbered u q) ≡ spell t (ruleNumbered t q)
   spelled-at q hq =
       let hr : q < length rs = omega (arith, so-many) in
       sym (map-at (spell u) none no-spelling (u .rules) q hq)
@@ -156,20 +156,20 @@ module _ (t u : Table) (rs rest : List Rule) (r : Rule) (h : Sane t) (w : Loaded
   unfolding isPair
   none-before i j q es eo e =
       let f = first-is (isPair i j) none (u .rules) q e in
-      let b = and-both (eqb (ruleAt u q .subject) i) (eqb (ruleAt u q .object) j) (f .1) in
+      let b = and-both (eqb (ruleNumbered u q .subject) i) (eqb (ruleNumbered u q .object) j) (f .1) in
       let hq : q < length (t .rules) = omega (arith, f .0, so-many, at-end) in
       let x = spelled-at q (f .0) in
       let k = stored-known t (length (t .labels)) (h .sound) q hq in
-      let a : s ≡ labelOf t (ruleAt t q .subject) =
-      same-equal s (labelOf u i) (first-is (sameBytes s) [] (u .labels) i es .1)
-      ∙ ap (labelOf u) (sym (eqb-true _ _ (b .0)))
+      let a : s ≡ labelNumbered t (ruleNumbered t q .subject) =
+      same-equal s (labelNumbered u i) (first-is (sameBytes s) [] (u .labels) i es .1)
+      ∙ ap (labelNumbered u) (sym (eqb-true _ _ (b .0)))
       ∙ ap (λ (z : Spelled). z .subject) x in
-      let c : o ≡ labelOf t (ruleAt t q .object) =
-      same-equal o (labelOf u j) (first-is (sameBytes o) [] (u .labels) j eo .1)
-      ∙ ap (labelOf u) (sym (eqb-true _ _ (b .1)))
+      let c : o ≡ labelNumbered t (ruleNumbered t q .object) =
+      same-equal o (labelNumbered u j) (first-is (sameBytes o) [] (u .labels) j eo .1)
+      ∙ ap (labelNumbered u) (sym (eqb-true _ _ (b .1)))
       ∙ ap (λ (z : Spelled). z .object) x in
-      let y = same-place (sym s-number ∙ ap (labelIn t) a ∙ h .label-once (ruleAt t q .subject) (k .0)) in
-      let z = same-place (sym o-number ∙ ap (labelIn t) c ∙ h .label-once (ruleAt t q .object) (k .1)) in
+      let y = same-place (sym s-number ∙ ap (labelIn t) a ∙ h .label-once (ruleNumbered t q .subject) (k .0)) in
+      let z = same-place (sym o-number ∙ ap (labelIn t) c ∙ h .label-once (ruleNumbered t q .object) (k .1)) in
       let there : pairIn t (r .subject) (r .object) ≡ At q = rw (y, z) (h .pair-once q hq) in
       let here : pairIn t (r .subject) (r .object) ≡ At (length rs) = subst (λ (v : Rule). pairIn t (v .subject) (v .object) ≡ At (length rs)) r-is (h .pair-once (length rs) at-end) in
       let n = same-place (sym there ∙ here) in
@@ -196,16 +196,16 @@ module _ (t u : Table) (rs rest : List Rule) (r : Rule) (h : Sane t) (w : Loaded
       by-case Nothing e = refl
 
   -- no label enters that t has not, so there is room
-  still-known : all (λ (l : List ℕ). isAt (labelIn t l)) (pairLabels u s o) ≡ true
+  still-known : all (λ (l : List ℕ). isFound (labelIn t l)) (pairLabels u s o) ≡ true
   still-known =
-      enter-all (enter (u .labels) s) o (λ (l : List ℕ). isAt (labelIn t l))
-      (enter-all (u .labels) s (λ (l : List ℕ). isAt (labelIn t l)) (w .known) (rw s-number))
+      enter-all (enter (u .labels) s) o (λ (l : List ℕ). isFound (labelIn t l))
+      (enter-all (u .labels) s (λ (l : List ℕ). isFound (labelIn t l)) (w .known) (rw s-number))
       (rw o-number)
 
   fits : length (pairLabels u s o) ≤ length (t .labels)
   fits =
       distinct-fits sameBytes [] (pairLabels u s o) (t .labels) same-bytes (enter-once (enter (u .labels) s) o (enter-once (u .labels) s (w .sane .label-once)))
-      (λ k hk. found-known (labelIn t (getD (pairLabels u s o) k [])) (all-at (λ (l : List ℕ). isAt (labelIn t l)) [] (pairLabels u s o) still-known k hk))
+      (λ k hk. found-known (labelIn t (getD (pairLabels u s o) k [])) (all-at (λ (l : List ℕ). isFound (labelIn t l)) [] (pairLabels u s o) still-known k hk))
 
   room : hasRoom u s o ≡ true
   unfolding hasRoom
@@ -276,13 +276,13 @@ loads t h [] rs u w e =
 loads t h (r ∷ rest) rs u w e =
     subst (Result t)
     (sym (foldl-append takeByte (between u (length rs)) (ruleText t r) (textsOf t rest) ∙ ap (λ (p : Reader). takePiece p (textsOf t rest)) (next t u rs rest r h w e)))
-    (loads t h rest (rs ++ (r ∷ [])) (paired u (labelOf t (r .subject)) (labelOf t (r .object)) (r .modes)) (one-more t u rs rest r h w e) (e ∙ sym (append-assoc rs (r ∷ []) rest)))
+    (loads t h rest (rs ++ (r ∷ [])) (paired u (labelNumbered t (r .subject)) (labelNumbered t (r .object)) (r .modes)) (one-more t u rs rest r h w e) (e ∙ sym (append-assoc rs (r ∷ []) rest)))
 
 begun : (t : Table) → Sane t → Loaded t fresh []
 begun t h =
     record {
       sane = fresh-sane;
-      known = all-by (λ (l : List ℕ). isAt (labelIn t l)) [] (fresh .labels) (λ k hk. ap isAt (front-first (sameBytes (labelOf fresh k)) k (five-front (h .five)) (fresh-sane .label-once k hk)));
+      known = all-by (λ (l : List ℕ). isFound (labelIn t l)) [] (fresh .labels) (λ k hk. ap isFound (front-first (sameBytes (labelNumbered fresh k)) k (five-front (h .five)) (fresh-sane .label-once k hk)));
       same = refl;
     }
 
@@ -290,13 +290,13 @@ limited-small : (n : ℕ) → n ≤ 256 → limited n ≡ n
 unfolding limited
 limited-small n h = omega arith
 
-pub loads-back : (t : Table) → Sane t → LoadsBack t
+pub loads-back : (t : Table) → Sane t → LoadsBack t (listing t)
 unfolding finish listing
 loads-back t h =
     let z = loads t h (t .rules) [] fresh (begun t h) refl in
     record {
       same-rules = ap (λ (p : Reader). spelled (finish p .table)) (z .is) ∙ z .loaded .same;
       replies =
-          ap (λ (p : Reader). done ∷ report (limitedCounts (finish p .counts)) ∷ []) (z .is)
-          ∙ ap (λ (c : Counts). done ∷ report c ∷ []) (rw (limited-small (length (t .rules)) (h .rules), limited-small 0 (omega arith)));
+          ap (λ (p : Reader). done ∷ report (limitedTotals (finish p .totals)) ∷ []) (z .is)
+          ∙ ap (λ (c : Totals). done ∷ report c ∷ []) (rw (limited-small (length (t .rules)) (h .rules), limited-small 0 (omega arith)));
     }

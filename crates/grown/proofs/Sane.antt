@@ -16,7 +16,7 @@ use Rattle.search.specs.declared.Found.the-variants.{At, Nothing}
 use Rattle.search.proofs.Laws.{no, and-both, same-refl, same-equal, same-sym, all-snoc, all-at, all-put, first-is, first-snoc, first-last, length-put, Same, Distinct, distinct-put, Front, front-same, front-more, front-length}
 use Rattle.alphabet.specs.Alphabet.{labelByte, wellFormed}
 use Rattle.store.specs.declared.Rule.{Rule}
-use Rattle.store.specs.Table.{Table, fresh, labelIn, isPair, pairIn, soundRule, soundMapping, soundTable}
+use Rattle.store.specs.Table.{Table, fresh, labelIn, isPair, pairIn, soundRule, soundMapping, soundTable, labelNumbered, ruleNumbered}
 use Rattle.store.proofs.Laws.{sound-more}
 use Rattle.rules.specs.declared.Spot.{Spot}
 use Rattle.rules.specs.declared.Place.{Place}
@@ -28,7 +28,7 @@ use Rattle.lines.specs.Lines.{Said, skipped, refused, rule, change}
 use Rattle.lines.proofs.Laws.{Taken, Sound}
 use Rattle.writes.specs.Writes.{changed, is-accepted, ruleJudged, changeJudged, judged}
 use Rattle.writes.proofs.Laws.{changed-small}
-use Rattle.grown.specs.Sane.{labelOf, ruleAt, twoLabels, Sane}
+use Rattle.grown.specs.Sane.{twoLabels, Sane}
 
 -- ---- tests that tell labels and rules apart
 
@@ -58,13 +58,13 @@ one-label ls x y i e q =
 -- ---- a label enters: last, where it is not there
 
 abbrev pub enter : List (List ℕ) → List ℕ → List (List ℕ)
-enter ls l = rules.grown (first (sameBytes l) ls) ls l
+enter ls l = rules.labelsEntered (first (sameBytes l) ls) ls l
 
 module _ (ls : List (List ℕ)) (l : List ℕ) where
   pub enter-front : Front ls (enter ls l)
   enter-front = by-case (first (sameBytes l) ls)
     where
-      by-case : (f : Found) → Front ls (rules.grown f ls l)
+      by-case : (f : Found) → Front ls (rules.labelsEntered f ls l)
       by-case (At i) = front-same ls
       by-case Nothing = record { rest = l ∷ []; is = refl }
 
@@ -72,14 +72,14 @@ module _ (ls : List (List ℕ)) (l : List ℕ) where
   unfolding put
   enter-length = by-case (first (sameBytes l) ls)
     where
-      by-case : (f : Found) → length (rules.grown f ls l) ≡ countOf f (length ls)
+      by-case : (f : Found) → length (rules.labelsEntered f ls l) ≡ countOf f (length ls)
       by-case (At i) = refl
       by-case Nothing = length-put Nothing ls l
 
   pub enter-number : first (sameBytes l) (enter ls l) ≡ At (placeOf (first (sameBytes l) ls) (length ls))
   enter-number = by-case (first (sameBytes l) ls) refl
     where
-      by-case : (f : Found) → first (sameBytes l) ls ≡ f → first (sameBytes l) (rules.grown f ls l) ≡ At (placeOf f (length ls))
+      by-case : (f : Found) → first (sameBytes l) ls ≡ f → first (sameBytes l) (rules.labelsEntered f ls l) ≡ At (placeOf f (length ls))
       by-case (At i) e = e
       by-case Nothing e = first-last (sameBytes l) ls l e (same-refl l)
 
@@ -87,7 +87,7 @@ module _ (ls : List (List ℕ)) (l : List ℕ) where
   pub enter-other : (x : List ℕ) → sameBytes x l ≡ false → first (sameBytes x) (enter ls l) ≡ first (sameBytes x) ls
   enter-other x e = by-case (first (sameBytes l) ls)
     where
-      by-case : (f : Found) → first (sameBytes x) (rules.grown f ls l) ≡ first (sameBytes x) ls
+      by-case : (f : Found) → first (sameBytes x) (rules.labelsEntered f ls l) ≡ first (sameBytes x) ls
       by-case (At i) = refl
       by-case Nothing = first-snoc (sameBytes x) ls l e
 
@@ -95,14 +95,14 @@ module _ (ls : List (List ℕ)) (l : List ℕ) where
   unfolding put
   enter-once once = by-case (first (sameBytes l) ls) (distinct-put sameBytes [] ls l same-bytes once)
     where
-      by-case : (f : Found) → Distinct sameBytes [] (put f ls l) → Distinct sameBytes [] (rules.grown f ls l)
+      by-case : (f : Found) → Distinct sameBytes [] (put f ls l) → Distinct sameBytes [] (rules.labelsEntered f ls l)
       by-case (At i) q = once
       by-case Nothing q = q
 
   pub enter-all : (q : List ℕ → Bool) → all q ls ≡ true → q l ≡ true → all q (enter ls l) ≡ true
   enter-all q e h = by-case (first (sameBytes l) ls)
     where
-      by-case : (f : Found) → all q (rules.grown f ls l) ≡ true
+      by-case : (f : Found) → all q (rules.labelsEntered f ls l) ≡ true
       by-case (At i) = e
       by-case Nothing = all-snoc q ls l ∙ rw (e, h)
 
@@ -186,13 +186,13 @@ module _ (t : Table) (s o : List ℕ) (taken : Taken s o) where
   pub paired-is : (m : ℕ) (spot : Spot) → placing t s o ≡ p.At spot → withPair t s o spot m ≡ paired t s o m
   unfolding placing withPair
   paired-is m spot e =
-      let room = placed (length (t .labels)) (length (t .rules)) (labelIn t s) (labelIn t o) (rules.ruleOf t (labelIn t s) (labelIn t o)) spot e in
+      let room = placed (length (t .labels)) (length (t .rules)) (labelIn t s) (labelIn t o) (rules.ruleOfPair t (labelIn t s) (labelIn t o)) spot e in
       ap (λ (z : Spot). withPair t s o z m) (room .same)
-      ∙ ap (λ (f : Found). record { labels = rules.grown f (enter (t .labels) s) o; rules = paired t s o m .rules; mappings = t .mappings; onlycap = t .onlycap }) (sym (enter-other (t .labels) s o apart))
+      ∙ ap (λ (f : Found). record { labels = rules.labelsEntered f (enter (t .labels) s) o; rules = paired t s o m .rules; mappings = t .mappings; onlycap = t .onlycap }) (sym (enter-other (t .labels) s o apart))
 
-  pub pair-room : (spot : Spot) → placing t s o ≡ p.At spot → Room (length (t .labels)) (length (t .rules)) (labelIn t s) (labelIn t o) (rules.ruleOf t (labelIn t s) (labelIn t o)) spot
+  pub pair-room : (spot : Spot) → placing t s o ≡ p.At spot → Room (length (t .labels)) (length (t .rules)) (labelIn t s) (labelIn t o) (rules.ruleOfPair t (labelIn t s) (labelIn t o)) spot
   unfolding placing
-  pair-room spot e = placed (length (t .labels)) (length (t .rules)) (labelIn t s) (labelIn t o) (rules.ruleOf t (labelIn t s) (labelIn t o)) spot e
+  pair-room spot e = placed (length (t .labels)) (length (t .rules)) (labelIn t s) (labelIn t o) (rules.ruleOfPair t (labelIn t s) (labelIn t o)) spot e
 
   pub pair-sound : (m : ℕ) → soundTable (length (t .labels)) t ≡ true → m < 64 → soundTable (length (pairLabels t s o)) (paired t s o m) ≡ true
   pair-sound m sound small =
@@ -247,8 +247,8 @@ rule-known n r e =
     let b = and-both (ltb (r .subject) n) (ltb (r .object) n) (a .0) in
     (ltb-true _ _ (b .0), ltb-true _ _ (b .1), ltb-true _ _ (a .1))
 
-pub stored-known : (t : Table) (n : ℕ) → soundTable n t ≡ true → (k : ℕ) → k < length (t .rules) → (ruleAt t k .subject < n) × (ruleAt t k .object < n) × (ruleAt t k .modes < 64)
-stored-known t n sound k h = rule-known n (ruleAt t k) (all-at (soundRule n) (record { subject = 0; object = 0; modes = 0 }) (t .rules) (sound-parts t n sound .0) k h)
+pub stored-known : (t : Table) (n : ℕ) → soundTable n t ≡ true → (k : ℕ) → k < length (t .rules) → (ruleNumbered t k .subject < n) × (ruleNumbered t k .object < n) × (ruleNumbered t k .modes < 64)
+stored-known t n sound k h = rule-known n (ruleNumbered t k) (all-at (soundRule n) (record { subject = 0; object = 0; modes = 0 }) (t .rules) (sound-parts t n sound .0) k h)
 
 pub modes-below : (t : Table) (n : ℕ) → soundTable n t ≡ true → (i j : ℕ) → modesOfRule (pairIn t i j) (t .rules) < 64
 modes-below t n sound i j = by-case (pairIn t i j) (first-is (isPair i j) (record { subject = 0; object = 0; modes = 0 }) (t .rules))
@@ -318,7 +318,7 @@ fresh-sane =
       onlycap = omega arith;
     }
   where
-    once : (k : ℕ) → k < 5 → labelIn fresh (labelOf fresh k) ≡ At k
+    once : (k : ℕ) → k < 5 → labelIn fresh (labelNumbered fresh k) ≡ At k
     once zero h = refl
     once (suc zero) h = refl
     once (suc (suc zero)) h = refl

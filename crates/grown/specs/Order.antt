@@ -25,17 +25,17 @@ pub record Asks (s o request : List ℕ) (wanted : ℕ) : Type 0 where
   pub letters : readModes requestLetters false request ≡ Modes wanted
 
 -- rule number n, from 1
-abbrev pub numbered : List Line → ℕ → Line
-numbered rules zero = line false Undecided
-numbered rules (suc k) = getD rules k (line false Undecided)
+abbrev pub publishedRule : List Line → ℕ → Line
+publishedRule rules zero = line false Undecided
+publishedRule rules (suc k) = getD rules k (line false Undecided)
 
 -- rule n is the first that applies, and this is what it says
 pub record FirstSays (rules : List Line) (n : ℕ) (v : Verdict) : Type 0 where
   pub from-one : 1 ≤ n
   pub among : n ≤ length rules
-  pub applies : numbered rules n .applies ≡ true
-  pub none-earlier : (j : ℕ) → 1 ≤ j → j < n → numbered rules j .applies ≡ false
-  pub says : numbered rules n .says ≡ v
+  pub applies : publishedRule rules n .applies ≡ true
+  pub none-earlier : (j : ℕ) → 1 ≤ j → j < n → publishedRule rules j .applies ≡ false
+  pub says : publishedRule rules n .says ≡ v
 
 -- granted by rule n exactly when rule n is the first of the seven that applies and it grants, and denied likewise
 pub record ByFirst (t : Table) (s o request : List ℕ) (capable : Bool) (wanted : ℕ) : Type 0 where

@@ -1,14 +1,17 @@
 -- Demand 2, last sentence: 'A listing of the rules, loaded into a fresh table, gives the same rules in the same order.' Two tables can number
 -- their labels differently, so rules are compared by their labels' bytes and their modes. Assumes nothing.
-use Prim.Native.Nat.{ℕ}
+use Prim.Native.Nat.{ℕ, zero, suc, _<_, _≤_}
 use mathlib.Core.Path.{_≡_}
-use mathlib.Core.List.{List, [], _∷_, map}
-use lib.ListN.{length}
+use mathlib.Core.List.{List, [], _∷_, _++_, map}
+use lib.ListN.{length, take}
 use Rattle.store.specs.declared.Rule.{Rule}
-use Rattle.store.specs.Table.{Table, fresh}
-use Rattle.lists.specs.Reader.{Counts, Call, piece, end-call, done, report, startOn, afterAll, saysAll}
-use Rattle.listing.specs.Listing.{listing}
-use Rattle.grown.specs.Sane.{labelOf}
+use Rattle.store.specs.Table.{Table, fresh, labelNumbered, ruleNumbered}
+use Rattle.store.specs.Layout.{Store, tableOf}
+use Rattle.lists.specs.Reader.{Totals, Call, piece, end-call, done, report, startOn, afterAll, saysAll}
+use Rattle.listing.specs.Listing.{ruleText, listing, listAnswer, listOut}
+use Rattle.listing.specs.declared.Listed.{Listed}
+use Rattle.listing.specs.declared.Listed.the-variants as l
+use Rattle.grown.specs.Grown.{Grown}
 
 -- a rule by the bytes of its labels, and its modes
 pub record Spelled : Type 0 where
@@ -17,21 +20,52 @@ pub record Spelled : Type 0 where
   pub modes : ℕ
 
 abbrev pub spell : Table → Rule → Spelled
-spell t r = record { subject = labelOf t (r .subject); object = labelOf t (r .object); modes = r .modes }
+spell t r = record { subject = labelNumbered t (r .subject); object = labelNumbered t (r .object); modes = r .modes }
 
 -- the rules of a table, in order
 abbrev pub spelled : Table → List Spelled
 spelled t = map (spell t) (t .rules)
 
--- the whole listing handed over as rule text, and the end call
-abbrev pub reload : Table → List Call
-reload t = piece (listing t) ∷ end-call ∷ []
+-- a listing handed over as rule text, and the end call
+abbrev pub reload : List ℕ → List Call
+reload text = piece text ∷ end-call ∷ []
 
 -- a report of n lines, all of them accepted
-abbrev pub allAccepted : ℕ → Counts
+abbrev pub allAccepted : ℕ → Totals
 allAccepted n = record { lines = n; accepted = n; skipped = 0; refused = 0; first = 0; reason = 0 }
 
 -- the plain reader, begun on a fresh table, has then the same rules in the same order, and has refused no line
-pub record LoadsBack (t : Table) : Type 0 where
-  pub same-rules : spelled (afterAll (startOn fresh) (reload t) .table) ≡ spelled t
-  pub replies : saysAll (startOn fresh) (reload t) ≡ done ∷ report (allAccepted (length (t .rules))) ∷ []
+pub record LoadsBack (t : Table) (text : List ℕ) : Type 0 where
+  pub same-rules : spelled (afterAll (startOn fresh) (reload text) .table) ≡ spelled t
+  pub replies : saysAll (startOn fresh) (reload text) ≡ done ∷ report (allAccepted (length (t .rules))) ∷ []
+
+-- ---- the same of what the listing call writes, which is asked for one rule at a time, by its number, and is lent a buffer
+
+-- what a call puts at the front of its buffer: as many bytes as it answers, and none where it is refused
+abbrev pub front : Listed → List ℕ → List ℕ
+front (l.Length n) out = take n out
+front (l.Refused n) out = []
+
+-- what n calls write, for the rules from number k on, one text behind the other; each call may be lent another buffer
+abbrev pub listed : Store → (ℕ → List ℕ) → ℕ → ℕ → List ℕ
+listed st buffers k zero = []
+listed st buffers k (suc n) = front (listAnswer st k (buffers k)) (listOut st k (buffers k)) ++ listed st buffers (suc k) n
+
+-- a buffer of 519 bytes is long enough for every rule; asked for each number in turn the call writes the listing; and the number after the
+-- last rule's is refused with 13, so that a host knows where it ends. What was written loads back
+pub record ListedByNumber (st : Store) : Type 0 where
+  pub given :
+      (k : ℕ) (out : List ℕ) →
+      k < length (tableOf st .rules) →
+      519 ≤ length out →
+      listAnswer st k out ≡ l.Length (length (ruleText (tableOf st) (ruleNumbered (tableOf st) k)))
+  pub whole :
+      (buffers : ℕ → List ℕ) →
+      ((k : ℕ) → 519 ≤ length (buffers k)) →
+      listed st buffers 0 (length (tableOf st .rules)) ≡ listing (tableOf st)
+  pub ends : (out : List ℕ) → listAnswer st (length (tableOf st .rules)) out ≡ l.Refused 13
+  pub loads-back :
+      (buffers : ℕ → List ℕ) →
+      ((k : ℕ) → 519 ≤ length (buffers k)) →
+      Grown (tableOf st) →
+      LoadsBack (tableOf st) (listed st buffers 0 (length (tableOf st .rules)))

@@ -11,18 +11,8 @@ use Rattle.search.specs.declared.Found.the-variants.{At}
 use Rattle.alphabet.specs.Alphabet.{wellFormed}
 use Rattle.store.specs.declared.Rule.{Rule}
 use Rattle.store.specs.declared.Mapping.{Mapping}
-use Rattle.store.specs.Table.{Table, fresh, labelIn, pairIn, soundTable, labelLimit, ruleLimit, mappingLimit, onlycapLimit}
+use Rattle.store.specs.Table.{Table, fresh, labelIn, pairIn, labelNumbered, ruleNumbered, mappingNumbered, soundTable, labelLimit, ruleLimit, mappingLimit, onlycapLimit}
 use Rattle.cipso.specs.Cipso.{mappingIn}
-
--- label k, rule k and mapping k, from 0, in table order
-abbrev pub labelOf : Table → ℕ → List ℕ
-labelOf t k = getD (t .labels) k []
-
-abbrev pub ruleAt : Table → ℕ → Rule
-ruleAt t k = getD (t .rules) k (record { subject = 0; object = 0; modes = 0 })
-
-abbrev pub mappingAt : Table → ℕ → Mapping
-mappingAt t k = getD (t .mappings) k (record { label = 0; level = 0; set = 0 })
 
 -- whether a rule's subject is not its object
 abbrev pub twoLabels : Rule → Bool
@@ -33,14 +23,14 @@ pub record Sane (t : Table) : Type 0 where
   pub five : take 5 (t .labels) ≡ fresh .labels
   -- every label is well formed, and none is there twice: each is found at its own number
   pub formed : all wellFormed (t .labels) ≡ true
-  pub label-once : (k : ℕ) → k < length (t .labels) → labelIn t (labelOf t k) ≡ At k
+  pub label-once : (k : ℕ) → k < length (t .labels) → labelIn t (labelNumbered t k) ≡ At k
   -- no rule is from a label to itself, and no pair has two rules: each is found at its own place
   pub two-labels : all twoLabels (t .rules) ≡ true
-  pub pair-once : (k : ℕ) → k < length (t .rules) → pairIn t (ruleAt t k .subject) (ruleAt t k .object) ≡ At k
+  pub pair-once : (k : ℕ) → k < length (t .rules) → pairIn t (ruleNumbered t k .subject) (ruleNumbered t k .object) ≡ At k
   -- every number names a stored label, and no mode or category bit is unknown
   pub sound : soundTable (length (t .labels)) t ≡ true
   -- no label has two mappings: each mapping is found at its own place
-  pub mapping-once : (k : ℕ) → k < length (t .mappings) → mappingIn t (mappingAt t k .label) ≡ At k
+  pub mapping-once : (k : ℕ) → k < length (t .mappings) → mappingIn t (mappingNumbered t k .label) ≡ At k
   -- at most 64 labels, 256 rules, 32 mappings and 8 labels in the onlycap list
   pub labels : length (t .labels) ≤ labelLimit
   pub rules : length (t .rules) ≤ ruleLimit

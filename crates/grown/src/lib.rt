@@ -6,14 +6,16 @@ ghost use mathlib.Core.List.{List};
 ghost use mathlib.Core.Logic.{_↔_};
 ghost use Prim.Native.Nat.{ℕ};
 ghost use Rattle.store.specs.Table.{Table, labelIn};
+ghost use Rattle.store.specs.Layout.{Store, undamagedOf};
 ghost use Rattle.lines.specs.Lines.{rule, change, ruleOf, changeOf};
 ghost use Rattle.writes.specs.Writes.{judged, is-accepted, tableAfter, changed};
 ghost use Rattle.access.specs.Access.{effective};
+ghost use Rattle.listing.specs.Listing.{listing};
 ghost use Rattle.grown.specs.Grown.{Grown};
 ghost use Rattle.grown.specs.Sane.{Sane};
 ghost use Rattle.grown.specs.Pairs.{Triple, hasRoom, isAccepted, modesBetween, modesSoFar, SetsPair};
 ghost use Rattle.grown.specs.Order.{Asks, ByFirst};
-ghost use Rattle.grown.specs.Relisted.{LoadsBack};
+ghost use Rattle.grown.specs.Relisted.{LoadsBack, ListedByNumber};
 
 // What holds of every grown table.
 pub fn grown_is_sane()
@@ -21,13 +23,13 @@ pub fn grown_is_sane()
 {}
 
 // Demand 2, first half: without an effective override, the first of the seven rules that applies decides.
-pub fn first_rule_decides()
+pub fn demand_2_first_rule_decides()
     ensures { λ _. ⌜ ((t : Table) (s o request : List ℕ) (capable : Bool) (wanted : ℕ) → Asks s o request wanted → effective t (labelIn t s) capable ≡ false → ByFirst t s o request capable wanted) ⌝ }
 {}
 
 // Demand 2, second half: a well-formed triple of two different labels, within the line length and with room for it, sets its pair's modes
 // and changes no other pair's answer.
-pub fn triple_sets_its_pair()
+pub fn demand_2_triple_sets_its_pair()
     ensures { λ _. ⌜ ((t : Table) (line s o : List ℕ) (m : ℕ) → Grown t → Triple line s o m → hasRoom t s o ≡ true → SetsPair t (tableAfter t (judged t (ruleOf line))) s o m) ⌝ }
 {}
 
@@ -52,6 +54,11 @@ pub fn accepted_change_sets_its_pair()
 {}
 
 // Demand 2, last sentence: a listing of the rules, loaded into a fresh table, gives the same rules in the same order.
-pub fn listing_loads_back()
-    ensures { λ _. ⌜ ((t : Table) → Grown t → LoadsBack t) ⌝ }
+pub fn demand_2_listing_loads_back()
+    ensures { λ _. ⌜ ((t : Table) → Grown t → LoadsBack t (listing t)) ⌝ }
+{}
+
+// The listing is what the listing call itself writes, asked for the rules' numbers in turn; so that loads back.
+pub fn demand_2_listed_by_number_loads_back()
+    ensures { λ _. ⌜ ((st : Store) → undamagedOf st ≡ true → ListedByNumber st) ⌝ }
 {}

@@ -1,6 +1,7 @@
--- Laws of the host's interface. The loader that a host goes on with is the one that the callee's contract speaks of., and a label stands in its place where the interface says. Assumes nothing.
+-- Laws of the host's interface. The loader that a host goes on with is the one that the callee's contract speaks of, and a
+-- label stands in its place where the interface says. Assumes nothing.
 use mathlib.Core.Path.{_≡_, refl, sym, ap, _∙_}
-use Rattle.load.specs.declared.Loader.{Loader}
+use Rattle.reports.specs.declared.Loader.{Loader}
 use Rattle.load.specs.declared.Fed.{Fed}
 use Rattle.load.specs.declared.Fed.the-variants as fed
 use Rattle.load.specs.declared.Ended.{Ended}
@@ -14,9 +15,9 @@ use native.Mathlib.Numerals.{add-one}
 use native.Mathlib.Omega.{arith}
 use lib.ListN.{length, take, drop, getD}
 use lib.Seq.{drop-cons}
-use Rattle.host.specs.Answers.{pieceShown, endShown}
-use Rattle.host.specs.declared.Taken.{Taken}
-use Rattle.host.specs.declared.Finished.{Finished}
+use Rattle.answers.specs.Answers.{pieceShown, endShown}
+use Rattle.answers.specs.declared.Taken.{Taken}
+use Rattle.answers.specs.declared.Finished.{Finished}
 
 shown-fed : (l : Loader) (a : Fed) → pieceShown l a .loader ≡ fedLoader l a
 shown-fed l (fed.Done next) = refl

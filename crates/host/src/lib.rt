@@ -1,16 +1,17 @@
 // The host's interface: every call of the library, for a C or Rust program to link. An exported function can't answer an enum, so each
-// answers plain numbers: those that 01 gives for the case, as specs/Answers.antt says once for each answer. No call has a condition: any
+// answers plain numbers: those that 01 gives for the case, as the crate answers says once for each answer. No call has a condition: any
 // bytes, any lengths and any lent state have a defined answer. include/balqirven.h is the C side of it.
 use access::Shown;
-use listing::Listed;
-use load::Ended;
-use load::Fed;
-use load::Loader;
-use load::Report;
-use lookups::Label;
-use lookups::Lookup;
+use answers::Counted;
+use answers::Finished;
+use answers::Length;
+use answers::Lowest;
+use answers::Mapped;
+use answers::Part;
+use answers::Taken;
+use answers::Written;
 use lookups::Record;
-use revoke::Revoked;
+use reports::Loader;
 use store::Done;
 ghost use mathlib.Core.Path.{_≡_};
 ghost use lib.ListN.{length, take, drop};
@@ -23,224 +24,9 @@ ghost use Rattle.lookups.specs.Lookups.{byLabelOf, byLevelOf};
 ghost use Rattle.run.specs.Run.{runOf, recordsOf};
 ghost use Rattle.access.specs.Access.{questionOf, shown};
 ghost use Rattle.listing.specs.Listing.{listAnswer, listOut, labelGiven, labelAnswer};
-ghost use Rattle.load.specs.Loader.{load, freshLoader, pieceAnswer, pieceAfter, endAnswer, endAfter};
-ghost use Rattle.host.specs.Answers.{writeShown, revokeShown, pieceShown, endShown, listShown, lookupShown, searchShown, partShown};
-
-// What a write answers. `number` is the refusal's number where `refused` is true and 0 otherwise; so in all that follow.
-#[repr(C)]
-pub struct Written {
-    pub refused: bool,
-    pub number: u8,
-}
-
-// What revoke-subject answers: how many rules have that subject.
-#[repr(C)]
-pub struct Counted {
-    pub refused: bool,
-    pub number: u8,
-    pub count: usize,
-}
-
-// What a piece of rule text answers: the loader for the next call.
-#[repr(C)]
-pub struct Taken {
-    pub refused: bool,
-    pub number: u8,
-    pub loader: Loader,
-}
-
-// What the end call answers: the report, and the loader for the next call.
-#[repr(C)]
-pub struct Finished {
-    pub refused: bool,
-    pub number: u8,
-    pub report: Report,
-    pub loader: Loader,
-}
-
-// What the listing of a rule answers: how many bytes were written.
-#[repr(C)]
-pub struct Length {
-    pub refused: bool,
-    pub number: u8,
-    pub length: usize,
-}
-
-// What a look-up by label answers. Kind 0 is a mapping, 1 none, 2 refused.
-#[repr(C)]
-pub struct Mapped {
-    pub kind: u8,
-    pub number: u8,
-    pub level: u8,
-    pub count: u32,
-    pub set: u64,
-}
-
-// What a look-up by level and set answers, in the table or in a run. Kind 0 is a label, by its number, 1 none, 2 refused.
-#[repr(C)]
-pub struct Lowest {
-    pub kind: u8,
-    pub number: u8,
-    pub label: usize,
-}
-
-// Where a label stands in the lent label store: `length` bytes from `start` on.
-#[repr(C)]
-pub struct Part {
-    pub refused: bool,
-    pub number: u8,
-    pub start: usize,
-    pub length: usize,
-}
-
-// A write's answer in 01's numbers.
-fn write_shown(answer: Done) -> Written
-    ensures { λ r. ⌜ r ≡ writeShown answer ⌝ }
-{
-    match answer {
-        Done::Done => Written {
-            refused: false,
-            number: 0,
-        },
-        Done::Refused(number) => Written {
-            refused: true,
-            number,
-        },
-    }
-}
-
-// So for revoke-subject.
-fn revoke_shown(answer: Revoked) -> Counted
-    ensures { λ r. ⌜ r ≡ revokeShown answer ⌝ }
-{
-    match answer {
-        Revoked::Count(count) => Counted {
-            refused: false,
-            number: 0,
-            count,
-        },
-        Revoked::Refused(number) => Counted {
-            refused: true,
-            number,
-            count: 0,
-        },
-    }
-}
-
-// So for a piece. `before` is the loader that was handed in.
-fn piece_shown(before: Loader, answer: Fed) -> Taken
-    ensures { λ r. ⌜ r ≡ pieceShown before answer ⌝ }
-{
-    match answer {
-        Fed::Done(loader) => Taken {
-            refused: false,
-            number: 0,
-            loader,
-        },
-        Fed::Refused(number) => Taken {
-            refused: true,
-            number,
-            loader: before,
-        },
-    }
-}
-
-// So for the end call.
-fn end_shown(before: Loader, answer: Ended) -> Finished
-    ensures { λ r. ⌜ r ≡ endShown before answer ⌝ }
-{
-    match answer {
-        Ended::Report(report, loader) => Finished {
-            refused: false,
-            number: 0,
-            report,
-            loader,
-        },
-        Ended::Refused(number) => Finished {
-            refused: true,
-            number,
-            report: Report {
-                lines: 0,
-                accepted: 0,
-                skipped: 0,
-                refused: 0,
-                first: 0,
-                reason: 0,
-            },
-            loader: before,
-        },
-    }
-}
-
-// So for the listing of a rule.
-fn list_shown(answer: Listed) -> Length
-    ensures { λ r. ⌜ r ≡ listShown answer ⌝ }
-{
-    match answer {
-        Listed::Length(length) => Length {
-            refused: false,
-            number: 0,
-            length,
-        },
-        Listed::Refused(number) => Length {
-            refused: true,
-            number,
-            length: 0,
-        },
-    }
-}
-
-// So for a look-up by label.
-fn lookup_shown(answer: Lookup) -> Mapped
-    ensures { λ r. ⌜ r ≡ lookupShown answer ⌝ }
-{
-    match answer {
-        Lookup::Mapped { level, set, count } => Mapped {
-            kind: 0,
-            number: 0,
-            level,
-            count,
-            set,
-        },
-        Lookup::Unmapped => Mapped {
-            kind: 1,
-            number: 0,
-            level: 0,
-            count: 0,
-            set: 0,
-        },
-        Lookup::Refused(number) => Mapped {
-            kind: 2,
-            number,
-            level: 0,
-            count: 0,
-            set: 0,
-        },
-    }
-}
-
-// So for a look-up by level and set.
-fn search_shown(answer: Label) -> Lowest
-    ensures { λ r. ⌜ r ≡ searchShown answer ⌝ }
-{
-    match answer {
-        Label::Number(label) => Lowest {
-            kind: 0,
-            number: 0,
-            label,
-        },
-        Label::Nothing => Lowest {
-            kind: 1,
-            number: 0,
-            label: 0,
-        },
-        Label::Refused(number) => Lowest {
-            kind: 2,
-            number,
-            label: 0,
-        },
-    }
-}
+ghost use Rattle.reports.specs.Report.{freshLoader};
+ghost use Rattle.load.specs.Loader.{load, pieceAnswer, pieceAfter, endAnswer, endAfter};
+ghost use Rattle.answers.specs.Answers.{writeShown, revokeShown, pieceShown, endShown, listShown, lookupShown, searchShown, partShown};
 
 // Makes a fresh table of lent memory.
 #[no_mangle]
@@ -248,7 +34,7 @@ pub extern "C" fn bq_fresh_table(labels: &mut [u8], entries: &[u8], words: &mut 
     ensures { λ r. ⌜ r ≡ writeShown (freshAnswer (store (now (labels .entry)) (now (entries .entry)) (now (words .entry)))) ⌝ }
     ensures { λ _. ⌜ store (now (labels .exit)) (now (entries .entry)) (now (words .exit)) ≡ freshStore (store (now (labels .entry)) (now (entries .entry)) (now (words .entry))) ⌝ }
 {
-    write_shown(store::fresh_table(labels, entries, words))
+    answers::write_shown(store::fresh_table(labels, entries, words))
 }
 
 // A fresh loader.
@@ -256,7 +42,7 @@ pub extern "C" fn bq_fresh_table(labels: &mut [u8], entries: &[u8], words: &mut 
 pub extern "C" fn bq_fresh_loader() -> Loader
     ensures { λ r. ⌜ r ≡ freshLoader ⌝ }
 {
-    load::fresh()
+    reports::fresh()
 }
 
 // Takes a piece of rule text: any bytes, any length, also none.
@@ -272,7 +58,7 @@ pub extern "C" fn bq_piece(
     ensures { λ r. ⌜ r ≡ pieceShown l (pieceAnswer (load (store (now (labels .entry)) (now (entries .entry)) (now (words .entry))) (now (line .entry)) l) (now (text .entry))) ⌝ }
     ensures { λ r. ⌜ load (store (now (labels .exit)) (now (entries .exit)) (now (words .exit))) (now (line .exit)) (r .loader) ≡ pieceAfter (load (store (now (labels .entry)) (now (entries .entry)) (now (words .entry))) (now (line .entry)) l) (now (text .entry)) ⌝ }
 {
-    piece_shown(l, load::piece(labels, entries, words, line, l, text))
+    answers::piece_shown(l, load::piece(labels, entries, words, line, l, text))
 }
 
 // The end call.
@@ -287,7 +73,7 @@ pub extern "C" fn bq_end(
     ensures { λ r. ⌜ r ≡ endShown l (endAnswer (load (store (now (labels .entry)) (now (entries .entry)) (now (words .entry))) (now (line .entry)) l)) ⌝ }
     ensures { λ r. ⌜ load (store (now (labels .exit)) (now (entries .exit)) (now (words .exit))) (now (line .exit)) (r .loader) ≡ endAfter (load (store (now (labels .entry)) (now (entries .entry)) (now (words .entry))) (now (line .entry)) l) ⌝ }
 {
-    end_shown(l, load::end(labels, entries, words, line, l))
+    answers::end_shown(l, load::end(labels, entries, words, line, l))
 }
 
 // Change-rule (01: change).
@@ -301,7 +87,7 @@ pub extern "C" fn bq_change(
     ensures { λ r. ⌜ r ≡ writeShown (changeAnswer (store (now (labels .entry)) (now (entries .entry)) (now (words .entry))) (now (text .entry))) ⌝ }
     ensures { λ _. ⌜ store (now (labels .exit)) (now (entries .exit)) (now (words .exit)) ≡ changeStore (store (now (labels .entry)) (now (entries .entry)) (now (words .entry))) (now (text .entry)) ⌝ }
 {
-    write_shown(writes::change(labels, entries, words, text))
+    answers::write_shown(writes::change(labels, entries, words, text))
 }
 
 // The onlycap list (01: the override list).
@@ -315,7 +101,7 @@ pub extern "C" fn bq_onlycap(
     ensures { λ r. ⌜ r ≡ writeShown (onlycapAnswer (store (now (labels .entry)) (now (entries .entry)) (now (words .entry))) (now (text .entry))) ⌝ }
     ensures { λ _. ⌜ store (now (labels .exit)) (now (entries .exit)) (now (words .exit)) ≡ onlycapStore (store (now (labels .entry)) (now (entries .entry)) (now (words .entry))) (now (text .entry)) ⌝ }
 {
-    write_shown(onlycap::set_onlycap(labels, entries, words, text))
+    answers::write_shown(onlycap::set_onlycap(labels, entries, words, text))
 }
 
 // A CIPSO mapping.
@@ -329,7 +115,7 @@ pub extern "C" fn bq_mapping(
     ensures { λ r. ⌜ r ≡ writeShown (mapAnswer (store (now (labels .entry)) (now (entries .entry)) (now (words .entry))) (now (text .entry))) ⌝ }
     ensures { λ _. ⌜ store (now (labels .exit)) (now (entries .exit)) (now (words .exit)) ≡ mapStored (store (now (labels .entry)) (now (entries .entry)) (now (words .entry))) (now (text .entry)) ⌝ }
 {
-    write_shown(cipso::map_label(labels, entries, words, text))
+    answers::write_shown(cipso::map_label(labels, entries, words, text))
 }
 
 // Revoke-subject (01: revoke).
@@ -343,7 +129,7 @@ pub extern "C" fn bq_revoke(
     ensures { λ r. ⌜ r ≡ revokeShown (revokeAnswer (store (now (labels .entry)) (now (entries .entry)) (now (words .entry))) (now (label .entry))) ⌝ }
     ensures { λ _. ⌜ now (entries .exit) ≡ revokeEntries (store (now (labels .entry)) (now (entries .entry)) (now (words .entry))) (now (label .entry)) ⌝ }
 {
-    revoke_shown(revoke::revoke(labels, entries, words, label))
+    answers::revoke_shown(revoke::revoke(labels, entries, words, label))
 }
 
 // The mapping of a label.
@@ -351,7 +137,7 @@ pub extern "C" fn bq_revoke(
 pub extern "C" fn bq_by_label(labels: &[u8], entries: &[u8], words: &[u64], label: &[u8]) -> Mapped
     ensures { λ r. ⌜ r ≡ lookupShown (byLabelOf (store (now (labels .entry)) (now (entries .entry)) (now (words .entry))) (now (label .entry))) ⌝ }
 {
-    lookup_shown(lookups::by_label(labels, entries, words, label))
+    answers::lookup_shown(lookups::by_label(labels, entries, words, label))
 }
 
 // The lowest-numbered label with a level and a set.
@@ -365,7 +151,7 @@ pub extern "C" fn bq_by_level(
 ) -> Lowest
     ensures { λ r. ⌜ r ≡ searchShown (byLevelOf (store (now (labels .entry)) (now (entries .entry)) (now (words .entry))) level set) ⌝ }
 {
-    search_shown(lookups::by_level(labels, entries, words, level, set))
+    answers::search_shown(lookups::by_level(labels, entries, words, level, set))
 }
 
 // The lowest label number of a run, whose fields stand in three slices, with a level and a set.
@@ -379,7 +165,7 @@ pub extern "C" fn bq_lowest_of(
 ) -> Lowest
     ensures { λ r. ⌜ r ≡ searchShown (runOf (recordsOf (now (labels .entry)) (now (levels .entry)) (now (sets .entry))) level set) ⌝ }
 {
-    search_shown(run::lowest_of(labels, levels, sets, level, set))
+    answers::search_shown(run::lowest_of(labels, levels, sets, level, set))
 }
 
 // The lowest label number of a run of records with a level and a set.
@@ -387,7 +173,7 @@ pub extern "C" fn bq_lowest_of(
 pub extern "C" fn bq_lowest_in_run(run: &[Record], level: u64, set: u64) -> Lowest
     ensures { λ r. ⌜ r ≡ searchShown (runOf (now (run .entry)) level set) ⌝ }
 {
-    search_shown(run::lowest(run, level, set))
+    answers::search_shown(run::lowest(run, level, set))
 }
 
 // The access check (01: a question).
@@ -418,7 +204,7 @@ pub extern "C" fn bq_list_rule(
     ensures { λ r. ⌜ r ≡ listShown (listAnswer (store (now (labels .entry)) (now (entries .entry)) (now (words .entry))) k (now (out .entry))) ⌝ }
     ensures { λ _. ⌜ now (out .exit) ≡ listOut (store (now (labels .entry)) (now (entries .entry)) (now (words .entry))) k (now (out .entry)) ⌝ }
 {
-    list_shown(listing::list_rule(labels, entries, words, k, out))
+    answers::list_shown(listing::list_rule(labels, entries, words, k, out))
 }
 
 // What the label of a number is answered with: done, or the refusal.
@@ -426,7 +212,7 @@ pub extern "C" fn bq_list_rule(
 pub extern "C" fn bq_label_check(labels: &[u8], entries: &[u8], words: &[u64], k: usize) -> Written
     ensures { λ r. ⌜ r ≡ writeShown (labelAnswer (store (now (labels .entry)) (now (entries .entry)) (now (words .entry))) k) ⌝ }
 {
-    write_shown(listing::label_check(labels, entries, words, k))
+    answers::write_shown(listing::label_check(labels, entries, words, k))
 }
 
 // The very part of the lent label store that holds label k, by where it stands: an exported function can't answer a reference.

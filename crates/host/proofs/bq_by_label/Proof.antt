@@ -1,6 +1,6 @@
 -- `host::bq_by_label` meets its contract: its callee's answer in numbers. Assumes nothing.
 use mathlib.Core.Path.{_∙_, ap}
-use Rattle.host.specs.Answers.{lookupShown}
+use Rattle.answers.specs.Answers.{lookupShown}
 use borrow.Author.Needs.{needs}
 use Rattle.host.proofs.bq_by_label.Statement.{statement}
 use Rattle.host.proofs.bq_by_label.Tie as tie

@@ -1,6 +1,6 @@
 -- `host::bq_end` meets its contract: its callee's answer in numbers, and what the callee left. Assumes nothing.
 use mathlib.Core.Path.{_∙_, ap}
-use Rattle.host.specs.Answers.{endShown}
+use Rattle.answers.specs.Answers.{endShown}
 use Rattle.host.proofs.Laws.{end-goes-on}
 use borrow.Author.Needs.{needs}
 use Rattle.host.proofs.bq_end.Statement.{statement}

@@ -1,6 +1,6 @@
 -- `host::bq_fresh_table` meets its contract: its callee's answer in numbers, and what the callee left. Assumes nothing.
 use mathlib.Core.Path.{_∙_, ap}
-use Rattle.host.specs.Answers.{writeShown}
+use Rattle.answers.specs.Answers.{writeShown}
 use borrow.Author.Needs.{needs}
 use Rattle.host.proofs.bq_fresh_table.Statement.{statement}
 use Rattle.host.proofs.bq_fresh_table.Tie as tie

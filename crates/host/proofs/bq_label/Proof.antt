@@ -10,7 +10,7 @@ use Rattle.store.proofs.Laws.{Undamaged}
 use Rattle.store.specs.declared.Done.the-variants as d
 use Rattle.listing.specs.Listing.{labelGiven, labelAnswer}
 use Rattle.listing.proofs.Laws.{label-done, label-is, label-refused}
-use Rattle.host.specs.Answers.{partShown}
+use Rattle.answers.specs.Answers.{partShown}
 use Rattle.host.proofs.Laws.{label-stands}
 use Rattle.host.proofs.bq_label.Statement.{statement}
 use Rattle.host.proofs.bq_label.Tie as tie

@@ -1,6 +1,6 @@
 -- `host::bq_label_check` meets its contract: its callee's answer in numbers. Assumes nothing.
 use mathlib.Core.Path.{_∙_, ap}
-use Rattle.host.specs.Answers.{writeShown}
+use Rattle.answers.specs.Answers.{writeShown}
 use borrow.Author.Needs.{needs}
 use Rattle.host.proofs.bq_label_check.Statement.{statement}
 use Rattle.host.proofs.bq_label_check.Tie as tie

@@ -1,6 +1,6 @@
 -- `host::bq_list_rule` meets its contract: its callee's answer in numbers, and what the callee left. Assumes nothing.
 use mathlib.Core.Path.{_∙_, ap}
-use Rattle.host.specs.Answers.{listShown}
+use Rattle.answers.specs.Answers.{listShown}
 use borrow.Author.Needs.{needs}
 use Rattle.host.proofs.bq_list_rule.Statement.{statement}
 use Rattle.host.proofs.bq_list_rule.Tie as tie

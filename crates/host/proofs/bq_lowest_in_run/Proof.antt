@@ -47,14 +47,14 @@ use Rattle.run.proofs.lowest as lowest
 use Rattle.run.proofs.lowest.Symbol as lowest-def
 use Rattle.run.proofs.lowest.Symbol.{name as #run·lowest}
 use Rattle.run.proofs.lowest.Met as lowest-thm
-use Rattle.host.specs.Answers.{searchShown}
-use Rattle.host.specs.declared.Lowest.{Lowest}
-use Rattle.host.proofs.Lowest as L
-use Rattle.host.proofs.Lowest.Laws as L′
-use Rattle.host.proofs.search_shown as shown
-use Rattle.host.proofs.search_shown.Symbol as shown-def
-use Rattle.host.proofs.search_shown.Symbol.{name as #host·search-shown}
-use Rattle.host.proofs.search_shown.Met as shown-thm
+use Rattle.answers.specs.Answers.{searchShown}
+use Rattle.answers.specs.declared.Lowest.{Lowest}
+use Rattle.answers.proofs.Lowest as L
+use Rattle.answers.proofs.Lowest.Laws as L′
+use Rattle.answers.proofs.search_shown as shown
+use Rattle.answers.proofs.search_shown.Symbol as shown-def
+use Rattle.answers.proofs.search_shown.Symbol.{name as #answers·search-shown}
+use Rattle.answers.proofs.search_shown.Met as shown-thm
 use Rattle.host.proofs.bq_lowest_in_run.Key.{name as #host·bq-lowest-in-run}
 use Rattle.host.proofs.bq_lowest_in_run as fn
 use Rattle.host.proofs.bq_lowest_in_run.Statement as stated
@@ -125,7 +125,7 @@ module _ {M : Type 1} (𝓤 : URA M) (H : Heap 𝓤) (A : Atoms 𝓤) (W : Given
   goes-show : (n : Label) (u : Val) → ent 𝓤 (sem 𝓤 H A (R.the-row .own n (u ∷ []))) (Show 𝓤 H A mem run .pre (to-show n u))
   goes-show n u = qed W (‵ (R.the-row .own n (u ∷ [])) ∷ []) ∵ nothing ! $ move ! (1 ∷ 0 ∷ []) $ fjoin ! $ nothing ! $ join ! $ frame ! $ done !
 
-  module _ (𝓣 : Tables 𝓤 H) (fm : FmC 𝓤 H (W .laws) (𝓣 .C)) (known-lowest : Triple 𝓤 (𝓣 .C #run·lowest) (Search 𝓤 H A mem run)) (known-shown : Triple 𝓤 (𝓣 .C #host·search-shown) (Show 𝓤 H A mem run)) where
+  module _ (𝓣 : Tables 𝓤 H) (fm : FmC 𝓤 H (W .laws) (𝓣 .C)) (known-lowest : Triple 𝓤 (𝓣 .C #run·lowest) (Search 𝓤 H A mem run)) (known-shown : Triple 𝓤 (𝓣 .C #answers·search-shown) (Show 𝓤 H A mem run)) where
     walk : Is (ShrSlice (named 0) κ T.the-row) s (lent ∷ []) → ent 𝓤 (onEntry 𝓤 H A fn.signature (κ, tt) (q, tt) x at) (WpFn 𝓤 H (𝓣 .C) (𝓣 .Λ) code.function (lent ∷ vint w64 lv ∷ vint w64 st ∷ []) Post)
     walk p =
         qed W (raw (onEntry 𝓤 H A fn.signature (κ, tt) (q, tt) x at) ∷ []) ∵ enter ! (𝓣 .C) (𝓣 .Λ) code.function (lent ∷ vint w64 lv ∷ vint w64 st ∷ []) _ $
@@ -150,7 +150,7 @@ module _ {M : Type 1} (𝓤 : URA M) (H : Heap 𝓤) (A : Atoms 𝓤) (W : Given
         move ! (11 ∷ 12 ∷ []) $ free1 ! $ move ! (9 ∷ 10 ∷ []) $ free1 ! $ move ! (7 ∷ 8 ∷ []) $ free1 ! $ move ! (5 ∷ 6 ∷ []) $ free1 ! $ move ! (3 ∷ 4 ∷ []) $ free1 ! $ free0 ! $
         by ! (exits r u′ (e′ ∙ ap searchShown e)))))))))))))))
 
-module _ {M : Type 1} (𝓤 : URA M) (H : Heap 𝓤) (A : Atoms 𝓤) (W : Given 𝓤 H A) (mem : Memory → SProp 𝓤) (run : Routine → Fun 𝓤) (𝓣 : Tables 𝓤 H) (known-lowest : Triple 𝓤 (𝓣 .C #run·lowest) (Search 𝓤 H A mem run)) (known-shown : Triple 𝓤 (𝓣 .C #host·search-shown) (Show 𝓤 H A mem run)) where
+module _ {M : Type 1} (𝓤 : URA M) (H : Heap 𝓤) (A : Atoms 𝓤) (W : Given 𝓤 H A) (mem : Memory → SProp 𝓤) (run : Routine → Fun 𝓤) (𝓣 : Tables 𝓤 H) (known-lowest : Triple 𝓤 (𝓣 .C #run·lowest) (Search 𝓤 H A mem run)) (known-shown : Triple 𝓤 (𝓣 .C #answers·search-shown) (Show 𝓤 H A mem run)) where
   walks : Walks 𝓤 H A fn.ended stayed (WpFn 𝓤 H (𝓣 .C) (𝓣 .Λ) code.function) (fn.clauses 𝓤 H A mem run)
   walks = walked 𝓤 H A fn.ended stayed (fn.clauses 𝓤 H A mem run) (WpFn 𝓤 H (𝓣 .C) (𝓣 .Λ) code.function) (λ κs. (slice-vals, (uint-vals w64, (uint-vals w64, tt)))) (λ κs. (shr-slice-tells (named 0) (κs .0) T.the-row, (uint-tells w64, (uint-tells w64, tt))))
       (λ κs qs bounds a g are. via 𝓤 _ (fst∗ 𝓤 _ (emp 𝓤))
@@ -166,4 +166,4 @@ bq-lowest-in-run-spec 𝓤 H 𝓜 𝓖 𝓡 =
     (tables 𝓤 H 𝓜 𝓡 code.env .C) (tables 𝓤 H 𝓜 𝓡 code.env .Λ) #host·bq-lowest-in-run code.function (code.unfolded 𝓤 H 𝓜 𝓡)
     (meets 𝓤 H (𝓖 .A) (givenOf 𝓤 H 𝓜 𝓖) (𝓜 .mem) (𝓡 .run) (tablesOf 𝓤 H 𝓜 (tables 𝓤 H 𝓜 𝓡 code.env))
     (cited 𝓤 H (Search 𝓤 H (𝓖 .A) (𝓜 .mem) (𝓡 .run)) 𝓜 𝓡 code.env #run·lowest lowest-def.routine code.calls-run·lowest (lowest-thm.met 𝓤 H 𝓜 𝓖 𝓡))
-    (cited 𝓤 H (Show 𝓤 H (𝓖 .A) (𝓜 .mem) (𝓡 .run)) 𝓜 𝓡 code.env #host·search-shown shown-def.routine code.calls-host·search-shown (shown-thm.met 𝓤 H 𝓜 𝓖 𝓡)))
+    (cited 𝓤 H (Show 𝓤 H (𝓖 .A) (𝓜 .mem) (𝓡 .run)) 𝓜 𝓡 code.env #answers·search-shown shown-def.routine code.calls-answers·search-shown (shown-thm.met 𝓤 H 𝓜 𝓖 𝓡)))

@@ -1,6 +1,6 @@
 -- `host::bq_lowest_of` meets its contract: its callee's answer in numbers. Assumes nothing.
 use mathlib.Core.Path.{_∙_, ap}
-use Rattle.host.specs.Answers.{searchShown}
+use Rattle.answers.specs.Answers.{searchShown}
 use borrow.Author.Needs.{needs}
 use Rattle.host.proofs.bq_lowest_of.Statement.{statement}
 use Rattle.host.proofs.bq_lowest_of.Tie as tie

@@ -1,6 +1,6 @@
 -- `host::bq_piece` meets its contract: its callee's answer in numbers, and what the callee left. Assumes nothing.
 use mathlib.Core.Path.{_∙_, ap}
-use Rattle.host.specs.Answers.{pieceShown}
+use Rattle.answers.specs.Answers.{pieceShown}
 use Rattle.host.proofs.Laws.{piece-goes-on}
 use borrow.Author.Needs.{needs}
 use Rattle.host.proofs.bq_piece.Statement.{statement}

@@ -1,6 +1,6 @@
 -- `host::bq_revoke` meets its contract: its callee's answer in numbers, and what the callee left. Assumes nothing.
 use mathlib.Core.Path.{_∙_, ap}
-use Rattle.host.specs.Answers.{revokeShown}
+use Rattle.answers.specs.Answers.{revokeShown}
 use borrow.Author.Needs.{needs}
 use Rattle.host.proofs.bq_revoke.Statement.{statement}
 use Rattle.host.proofs.bq_revoke.Tie as tie

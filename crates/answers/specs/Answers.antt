@@ -1,0 +1,71 @@
+-- 01's number and values for each case of each answer that is an enum: what a host gets for it, as plain numbers. The promises of the
+-- exported functions use these definitions; for a question it is `shown` of the crate access. Where an answer is refused the number is the
+-- refusal's, and otherwise 0; what a case has no value for is 0. Assumes nothing.
+use Prim.Native.Nat.{ℕ, _+_, _*_}
+use mathlib.Core.Bool.{true, false}
+use Rattle.store.specs.declared.Done.{Done}
+use Rattle.store.specs.declared.Done.the-variants as done
+use Rattle.revoke.specs.declared.Revoked.{Revoked}
+use Rattle.revoke.specs.declared.Revoked.the-variants as revoked
+use Rattle.lookups.specs.declared.Lookup.{Lookup}
+use Rattle.lookups.specs.declared.Lookup.the-variants as lookup
+use Rattle.lookups.specs.declared.Label.{Label}
+use Rattle.lookups.specs.declared.Label.the-variants as label
+use Rattle.listing.specs.declared.Listed.{Listed}
+use Rattle.listing.specs.declared.Listed.the-variants as listed
+use Rattle.reports.specs.declared.Loader.{Loader}
+use Rattle.load.specs.declared.Fed.{Fed}
+use Rattle.load.specs.declared.Fed.the-variants as fed
+use Rattle.load.specs.declared.Ended.{Ended}
+use Rattle.load.specs.declared.Ended.the-variants as ended
+use Rattle.answers.specs.declared.Written.{Written}
+use Rattle.answers.specs.declared.Counted.{Counted}
+use Rattle.answers.specs.declared.Taken.{Taken}
+use Rattle.answers.specs.declared.Finished.{Finished}
+use Rattle.answers.specs.declared.Length.{Length}
+use Rattle.answers.specs.declared.Mapped.{Mapped}
+use Rattle.answers.specs.declared.Lowest.{Lowest}
+use Rattle.answers.specs.declared.Part.{Part}
+
+-- a write, and the call beside the label of a number: done, or refused with its number
+abbrev pub writeShown : Done → Written
+writeShown done.Done = record { refused = false; number = 0 }
+writeShown (done.Refused n) = record { refused = true; number = n }
+
+-- revoke-subject: how many rules have that subject
+abbrev pub revokeShown : Revoked → Counted
+revokeShown (revoked.Count k) = record { refused = false; number = 0; count = k }
+revokeShown (revoked.Refused n) = record { refused = true; number = n; count = 0 }
+
+-- a piece: done, with the loader for the next call; refused, with the loader that was handed in
+abbrev pub pieceShown : Loader → Fed → Taken
+pieceShown old (fed.Done l) = record { refused = false; number = 0; loader = l }
+pieceShown old (fed.Refused n) = record { refused = true; number = n; loader = old }
+
+-- the end call: the report; refused, with a report of zeros and the loader that was handed in
+abbrev pub endShown : Loader → Ended → Finished
+endShown old (ended.Report r l) = record { refused = false; number = 0; report = r; loader = l }
+endShown old (ended.Refused n) =
+    record { refused = true; number = n; report = record { lines = 0; accepted = 0; skipped = 0; refused = 0; first = 0; reason = 0 }; loader = old }
+
+-- the listing of a rule: its length
+abbrev pub listShown : Listed → Length
+listShown (listed.Length k) = record { refused = false; number = 0; length = k }
+listShown (listed.Refused n) = record { refused = true; number = n; length = 0 }
+
+-- a look-up by label: kind 0 a mapping, with level, set and how many categories are in the set; 1 none; 2 refused
+abbrev pub lookupShown : Lookup → Mapped
+lookupShown (lookup.Mapped level s count) = record { kind = 0; number = 0; level = level; count = count; set = s }
+lookupShown lookup.Unmapped = record { kind = 1; number = 0; level = 0; count = 0; set = 0 }
+lookupShown (lookup.Refused n) = record { kind = 2; number = n; level = 0; count = 0; set = 0 }
+
+-- a look-up by level and set, in the table or in a run: kind 0 a label, by its number; 1 none; 2 refused
+abbrev pub searchShown : Label → Lowest
+searchShown (label.Number k) = record { kind = 0; number = 0; label = k }
+searchShown label.Nothing = record { kind = 1; number = 0; label = 0 }
+searchShown (label.Refused n) = record { kind = 2; number = n; label = 0 }
+
+-- a label by its number, whose length is n: where it stands in the label store, the byte before it being its length
+abbrev pub partShown : ℕ → ℕ → Done → Part
+partShown k n done.Done = record { refused = false; number = 0; start = k * 256 + 1; length = n }
+partShown k n (done.Refused number) = record { refused = true; number = number; start = 0; length = 0 }

@@ -1,0 +1,229 @@
+// What each call answers, in 01's numbers: an exported function can't answer an enum, so a host gets a struct of plain numbers for it. Which
+// number and values each case has, specs/Answers.antt says once for each answer.
+use listing::Listed;
+use load::Ended;
+use load::Fed;
+use lookups::Label;
+use lookups::Lookup;
+use reports::Loader;
+use reports::Report;
+use revoke::Revoked;
+use store::Done;
+ghost use mathlib.Core.Path.{_≡_};
+ghost use Rattle.answers.specs.Answers.{writeShown, revokeShown, pieceShown, endShown, listShown, lookupShown, searchShown};
+
+// What a write answers. `number` is the refusal's number where `refused` is true and 0 otherwise; so in all that follow.
+#[repr(C)]
+pub struct Written {
+    pub refused: bool,
+    pub number: u8,
+}
+
+// What revoke-subject answers: how many rules have that subject.
+#[repr(C)]
+pub struct Counted {
+    pub refused: bool,
+    pub number: u8,
+    pub count: usize,
+}
+
+// What a piece of rule text answers: the loader for the next call.
+#[repr(C)]
+pub struct Taken {
+    pub refused: bool,
+    pub number: u8,
+    pub loader: Loader,
+}
+
+// What the end call answers: the report, and the loader for the next call.
+#[repr(C)]
+pub struct Finished {
+    pub refused: bool,
+    pub number: u8,
+    pub report: Report,
+    pub loader: Loader,
+}
+
+// What the listing of a rule answers: how many bytes were written.
+#[repr(C)]
+pub struct Length {
+    pub refused: bool,
+    pub number: u8,
+    pub length: usize,
+}
+
+// What a look-up by label answers. Kind 0 is a mapping, 1 none, 2 refused.
+#[repr(C)]
+pub struct Mapped {
+    pub kind: u8,
+    pub number: u8,
+    pub level: u8,
+    pub count: u32,
+    pub set: u64,
+}
+
+// What a look-up by level and set answers, in the table or in a run. Kind 0 is a label, by its number, 1 none, 2 refused.
+#[repr(C)]
+pub struct Lowest {
+    pub kind: u8,
+    pub number: u8,
+    pub label: usize,
+}
+
+// Where a label stands in the lent label store: `length` bytes from `start` on.
+#[repr(C)]
+pub struct Part {
+    pub refused: bool,
+    pub number: u8,
+    pub start: usize,
+    pub length: usize,
+}
+
+// A write's answer in 01's numbers.
+pub fn write_shown(answer: Done) -> Written
+    ensures { λ r. ⌜ r ≡ writeShown answer ⌝ }
+{
+    match answer {
+        Done::Done => Written {
+            refused: false,
+            number: 0,
+        },
+        Done::Refused(number) => Written {
+            refused: true,
+            number,
+        },
+    }
+}
+
+// So for revoke-subject.
+pub fn revoke_shown(answer: Revoked) -> Counted
+    ensures { λ r. ⌜ r ≡ revokeShown answer ⌝ }
+{
+    match answer {
+        Revoked::Count(count) => Counted {
+            refused: false,
+            number: 0,
+            count,
+        },
+        Revoked::Refused(number) => Counted {
+            refused: true,
+            number,
+            count: 0,
+        },
+    }
+}
+
+// So for a piece. `before` is the loader that was handed in.
+pub fn piece_shown(before: Loader, answer: Fed) -> Taken
+    ensures { λ r. ⌜ r ≡ pieceShown before answer ⌝ }
+{
+    match answer {
+        Fed::Done(loader) => Taken {
+            refused: false,
+            number: 0,
+            loader,
+        },
+        Fed::Refused(number) => Taken {
+            refused: true,
+            number,
+            loader: before,
+        },
+    }
+}
+
+// So for the end call.
+pub fn end_shown(before: Loader, answer: Ended) -> Finished
+    ensures { λ r. ⌜ r ≡ endShown before answer ⌝ }
+{
+    match answer {
+        Ended::Report(report, loader) => Finished {
+            refused: false,
+            number: 0,
+            report,
+            loader,
+        },
+        Ended::Refused(number) => Finished {
+            refused: true,
+            number,
+            report: Report {
+                lines: 0,
+                accepted: 0,
+                skipped: 0,
+                refused: 0,
+                first: 0,
+                reason: 0,
+            },
+            loader: before,
+        },
+    }
+}
+
+// So for the listing of a rule.
+pub fn list_shown(answer: Listed) -> Length
+    ensures { λ r. ⌜ r ≡ listShown answer ⌝ }
+{
+    match answer {
+        Listed::Length(length) => Length {
+            refused: false,
+            number: 0,
+            length,
+        },
+        Listed::Refused(number) => Length {
+            refused: true,
+            number,
+            length: 0,
+        },
+    }
+}
+
+// So for a look-up by label.
+pub fn lookup_shown(answer: Lookup) -> Mapped
+    ensures { λ r. ⌜ r ≡ lookupShown answer ⌝ }
+{
+    match answer {
+        Lookup::Mapped { level, set, count } => Mapped {
+            kind: 0,
+            number: 0,
+            level,
+            count,
+            set,
+        },
+        Lookup::Unmapped => Mapped {
+            kind: 1,
+            number: 0,
+            level: 0,
+            count: 0,
+            set: 0,
+        },
+        Lookup::Refused(number) => Mapped {
+            kind: 2,
+            number,
+            level: 0,
+            count: 0,
+            set: 0,
+        },
+    }
+}
+
+// So for a look-up by level and set.
+pub fn search_shown(answer: Label) -> Lowest
+    ensures { λ r. ⌜ r ≡ searchShown answer ⌝ }
+{
+    match answer {
+        Label::Number(label) => Lowest {
+            kind: 0,
+            number: 0,
+            label,
+        },
+        Label::Nothing => Lowest {
+            kind: 1,
+            number: 0,
+            label: 0,
+        },
+        Label::Refused(number) => Lowest {
+            kind: 2,
+            number,
+            label: 0,
+        },
+    }
+}

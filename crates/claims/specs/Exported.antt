@@ -1,0 +1,192 @@
+-- What a C or Rust program that links the library relies on: of each exported function of the crate host, that it asks nothing of its caller,
+-- and what it answers and leaves. Nothing here says what a function does by itself: `Asked` and `Learnt` are what Rattle makes of that
+-- function's own `requires` and `ensures`. So an exported contract that said less would no longer give what stands here. Assumes nothing.
+use Prim.Native.Nat.{ℕ}
+use mathlib.Core.Path.{_≡_, refl}
+use mathlib.Core.List.{List}
+use lib.ListN.{length, take, drop}
+use contract.Lifetimes.{Lfts}
+use contract.Monad.{fact}
+use denote.Ref.{RefT, now}
+use denote.Triple.Entry.{Args, Res}
+use denote.Triple.Clauses.{Ended, Lasts, AtExit, atExit}
+use borrow.Fn.Claims.{AllOf}
+use borrow.Fn.World.{World, Pr, In, Bounds}
+use borrow.Fn.Read.{Read, r-top, r-last, all-models, no-know}
+use Rattle.host.proofs.bq_fresh_table as fresh-table
+use Rattle.host.proofs.bq_fresh_table.Reads as fresh-table-reads
+use Rattle.host.proofs.bq_fresh_loader as fresh-loader
+use Rattle.host.proofs.bq_fresh_loader.Reads as fresh-loader-reads
+use Rattle.host.proofs.bq_piece as piece
+use Rattle.host.proofs.bq_piece.Reads as piece-reads
+use Rattle.host.proofs.bq_end as end
+use Rattle.host.proofs.bq_end.Reads as end-reads
+use Rattle.host.proofs.bq_change as change
+use Rattle.host.proofs.bq_change.Reads as change-reads
+use Rattle.host.proofs.bq_revoke as revoke
+use Rattle.host.proofs.bq_revoke.Reads as revoke-reads
+use Rattle.host.proofs.bq_onlycap as onlycap
+use Rattle.host.proofs.bq_onlycap.Reads as onlycap-reads
+use Rattle.host.proofs.bq_mapping as mapping
+use Rattle.host.proofs.bq_mapping.Reads as mapping-reads
+use Rattle.host.proofs.bq_by_label as by-label
+use Rattle.host.proofs.bq_by_label.Reads as by-label-reads
+use Rattle.host.proofs.bq_by_level as by-level
+use Rattle.host.proofs.bq_by_level.Reads as by-level-reads
+use Rattle.host.proofs.bq_lowest_of as lowest-of
+use Rattle.host.proofs.bq_lowest_of.Reads as lowest-of-reads
+use Rattle.host.proofs.bq_lowest_in_run as lowest-in-run
+use Rattle.host.proofs.bq_question as question
+use Rattle.host.proofs.bq_question.Reads as question-reads
+use Rattle.host.proofs.bq_list_rule as list-rule
+use Rattle.host.proofs.bq_list_rule.Reads as list-rule-reads
+use Rattle.host.proofs.bq_label_check as label-check
+use Rattle.host.proofs.bq_label_check.Reads as label-check-reads
+use Rattle.host.proofs.bq_label as label
+use Rattle.host.proofs.bq_label.Reads as label-reads
+use Rattle.listing.proofs.label_by_number as label-part
+use Rattle.listing.proofs.label_by_number.Reads as label-part-reads
+use Rattle.store.specs.Layout.{Store, store, freshAnswer, freshStore}
+use Rattle.writes.specs.Writes.{changeAnswer, changeStore}
+use Rattle.revoke.specs.Revoke.{revokeAnswer, revokeEntries}
+use Rattle.onlycap.specs.Onlycap.{onlycapAnswer, onlycapStore}
+use Rattle.cipso.specs.Cipso.{mapAnswer, mapStored}
+use Rattle.lookups.specs.Lookups.{byLabelOf, byLevelOf}
+use Rattle.run.specs.Run.{runOf, recordsOf}
+use Rattle.access.specs.Access.{questionOf, shown}
+use Rattle.listing.specs.Listing.{listAnswer, listOut, labelGiven, labelAnswer}
+use Rattle.reports.specs.Report.{freshLoader}
+use Rattle.load.specs.Loader.{Load, load, pieceAnswer, pieceAfter, endAnswer, endAfter}
+use Rattle.reports.specs.declared.Loader.{Loader}
+use Rattle.answers.specs.Answers.{writeShown, revokeShown, pieceShown, endShown, listShown, lookupShown, searchShown, partShown}
+
+-- The promise of a function. Its caller has nothing to show, whatever the arguments a. And of every call, with the answer r and with what the
+-- parameters lent by `&mut` hold at its end, l, what the function ensures says this
+pub record Promise (T : Ended)
+    (Asked : (κs : Lfts (T .signature .lifetimes)) → Args (T .signature) κs → Type 0)
+    (Learnt : (κs : Lfts (T .signature .lifetimes)) → Args (T .signature) κs → Res (T .signature) κs → AtExit T κs → Type 0)
+    (Says : (κs : Lfts (T .signature .lifetimes)) (a : Args (T .signature) κs) → Res (T .signature) κs → Lasts T κs a → Type 0) : Type 0 where
+  pub free : (κs : Lfts (T .signature .lifetimes)) (a : Args (T .signature) κs) → Asked κs a
+  pub says :
+      (κs : Lfts (T .signature .lifetimes)) (a : Args (T .signature) κs) (r : Res (T .signature) κs) (l : Lasts T κs a) →
+      Learnt κs a r (atExit T κs a l) →
+      Says κs a r l
+
+-- What is lent by `&` has no last value, and stands as `tt` among the last values: it is as it was. Each promise says of which parameters that is so,
+-- and would have no type if one of them were lent by `&mut`.
+
+-- ---- the arguments and the last values by their places
+
+abbrev pub first : {A B : Type 0} → A × B → A
+first a = a .0
+
+abbrev pub second : {A B C : Type 0} → A × (B × C) → B
+second a = a .1 .0
+
+abbrev pub third : {A B C D : Type 0} → A × (B × (C × D)) → C
+third a = a .1 .1 .0
+
+abbrev pub fourth : {A B C D E : Type 0} → A × (B × (C × (D × E))) → D
+fourth a = a .1 .1 .1 .0
+
+abbrev pub fifth : {A B C D E F : Type 0} → A × (B × (C × (D × (E × F)))) → E
+fifth a = a .1 .1 .1 .1 .0
+
+abbrev pub sixth : {A B C D E F G : Type 0} → A × (B × (C × (D × (E × (F × G))))) → F
+sixth a = a .1 .1 .1 .1 .1 .0
+
+abbrev pub seventh : {A B C D E F G H : Type 0} → A × (B × (C × (D × (E × (F × (G × H)))))) → G
+seventh a = a .1 .1 .1 .1 .1 .1 .0
+
+-- the tables, which are the first three arguments, and after the call where all three are lent by `&mut`
+abbrev pub lent : {A : Type 0} → RefT (List ℕ) × (RefT (List ℕ) × (RefT (List ℕ) × A)) → Store
+lent a = store (now (a .0)) (now (a .1 .0)) (now (a .1 .1 .0))
+
+abbrev pub left : {A : Type 0} → List ℕ × (List ℕ × (List ℕ × A)) → Store
+left l = store (l .0) (l .1 .0) (l .1 .1 .0)
+
+-- and with the line and the loader of a text, which are the next two
+abbrev pub loading : {A : Type 0} → RefT (List ℕ) × (RefT (List ℕ) × (RefT (List ℕ) × (RefT (List ℕ) × (Loader × A)))) → Load
+loading a = load (lent a) (now (a .1 .1 .1 .0)) (a .1 .1 .1 .1 .0)
+
+abbrev pub loaded : {A : Type 0} → List ℕ × (List ℕ × (List ℕ × (List ℕ × A))) → Loader → Load
+loaded l loader = load (left l) (l .1 .1 .1 .0) loader
+
+-- ---- the run of records is a slice of structs, for which Rattle makes no `Asked` and `Learnt`; so they are made here, of the function's own clauses
+-- and as for the others: what has to be shown for its `requires`, and what is learnt from its `ensures`
+
+module _ (κs : Lfts 1) (a : Args lowest-in-run.signature κs) where
+  abbrev requires-in-run : (w : World) → Pr w
+  requires-in-run w = lowest-in-run.clauses (w .𝓤) (w .H) (w .𝓖 .A) (w .𝓜 .mem) (w .𝓡 .run) κs a .requires tt
+
+  abbrev asked-in-run : Read (In lowest-in-run.signature κs a) no-know requires-in-run
+  asked-in-run = all-models requires-in-run (λ w. r-top) (λ w. refl) (λ w. refl) (λ w. refl)
+
+  abbrev pub Asked-in-run : Type 0
+  Asked-in-run = AllOf (asked-in-run .owes)
+
+  module _ (r : Res lowest-in-run.signature κs) (l : AtExit lowest-in-run.ended κs) where
+    abbrev ensures-in-run : (w : World) → Pr w
+    ensures-in-run w = lowest-in-run.clauses (w .𝓤) (w .H) (w .𝓖 .A) (w .𝓜 .mem) (w .𝓡 .run) κs a .ensures tt r l
+
+    abbrev learnt-in-run : Read (λ w. fact (w .𝓤) (Bounds lowest-in-run.signature κs)) no-know ensures-in-run
+    learnt-in-run = all-models ensures-in-run (λ w. r-last _) (λ w. refl) (λ w. refl) (λ w. refl)
+
+    abbrev pub Learnt-in-run : Type 0
+    Learnt-in-run = AllOf (learnt-in-run .tells)
+
+-- ---- the sixteen exported functions, in 01's order of the calls, and the one call that can't be exported in its own form
+
+pub record ExportedCalls : Type 0 where
+  -- a fresh table: the entries are lent by `&`
+  pub fresh-table : Promise fresh-table.ended fresh-table-reads.Asked fresh-table-reads.Learnt
+      (λ κs a r l. (r ≡ writeShown (freshAnswer (lent a))) × (store (first l) (now (second a)) (third l) ≡ freshStore (lent a)) × (second l ≡ tt))
+  -- a fresh loader
+  pub fresh-loader : Promise fresh-loader.ended fresh-loader-reads.Asked fresh-loader-reads.Learnt
+      (λ κs a r l. r ≡ freshLoader)
+  -- a piece of rule text
+  pub piece : Promise piece.ended piece-reads.Asked piece-reads.Learnt
+      (λ κs a r l. (r ≡ pieceShown (fifth a) (pieceAnswer (loading a) (now (sixth a)))) × (loaded l (r .loader) ≡ pieceAfter (loading a) (now (sixth a))) × (sixth l ≡ tt))
+  -- the end call
+  pub end-call : Promise end.ended end-reads.Asked end-reads.Learnt
+      (λ κs a r l. (r ≡ endShown (fifth a) (endAnswer (loading a))) × (loaded l (r .loader) ≡ endAfter (loading a)))
+  -- change-rule
+  pub change : Promise change.ended change-reads.Asked change-reads.Learnt
+      (λ κs a r l. (r ≡ writeShown (changeAnswer (lent a) (now (fourth a)))) × (left l ≡ changeStore (lent a) (now (fourth a))) × (fourth l ≡ tt))
+  -- revoke-subject: the entries alone are lent by `&mut`
+  pub revoke : Promise revoke.ended revoke-reads.Asked revoke-reads.Learnt
+      (λ κs a r l. (r ≡ revokeShown (revokeAnswer (lent a) (now (fourth a)))) × (second l ≡ revokeEntries (lent a) (now (fourth a))) × (first l ≡ tt) × (third l ≡ tt) × (fourth l ≡ tt))
+  -- the override list
+  pub onlycap : Promise onlycap.ended onlycap-reads.Asked onlycap-reads.Learnt
+      (λ κs a r l. (r ≡ writeShown (onlycapAnswer (lent a) (now (fourth a)))) × (left l ≡ onlycapStore (lent a) (now (fourth a))) × (fourth l ≡ tt))
+  -- a mapping
+  pub mapping : Promise mapping.ended mapping-reads.Asked mapping-reads.Learnt
+      (λ κs a r l. (r ≡ writeShown (mapAnswer (lent a) (now (fourth a)))) × (left l ≡ mapStored (lent a) (now (fourth a))) × (fourth l ≡ tt))
+  -- the mapping of a label
+  pub mapping-by-label : Promise by-label.ended by-label-reads.Asked by-label-reads.Learnt
+      (λ κs a r l. (r ≡ lookupShown (byLabelOf (lent a) (now (fourth a)))) × (l ≡ (tt, (tt, (tt, (tt, tt))))))
+  -- the lowest-numbered label with a level and a set
+  pub by-level-and-set : Promise by-level.ended by-level-reads.Asked by-level-reads.Learnt
+      (λ κs a r l. (r ≡ searchShown (byLevelOf (lent a) (fourth a) (fifth a))) × (l ≡ (tt, (tt, (tt, (tt, (tt, tt)))))))
+  -- the same in a run whose fields stand in three slices
+  pub in-three-slices : Promise lowest-of.ended lowest-of-reads.Asked lowest-of-reads.Learnt
+      (λ κs a r l. (r ≡ searchShown (runOf (recordsOf (now (first a)) (now (second a)) (now (third a))) (fourth a) (fifth a))) × (l ≡ (tt, (tt, (tt, (tt, (tt, tt)))))))
+  -- and in a run of records
+  pub in-a-run : Promise lowest-in-run.ended Asked-in-run Learnt-in-run
+      (λ κs a r l. (r ≡ searchShown (runOf (now (first a)) (second a) (third a))) × (l ≡ (tt, (tt, (tt, tt)))))
+  -- a question: subject, object, request, and whether the asker has the capability
+  pub question : Promise question.ended question-reads.Asked question-reads.Learnt
+      (λ κs a r l. (r ≡ shown (questionOf (lent a) (now (fourth a)) (now (fifth a)) (now (sixth a)) (seventh a))) × (l ≡ (tt, (tt, (tt, (tt, (tt, (tt, (tt, tt)))))))))
+  -- a rule by its number, at the front of the lent buffer
+  pub listing : Promise list-rule.ended list-rule-reads.Asked list-rule-reads.Learnt
+      (λ κs a r l. (r ≡ listShown (listAnswer (lent a) (fourth a) (now (fifth a)))) × (fifth l ≡ listOut (lent a) (fourth a) (now (fifth a))) × (first l ≡ tt) × (second l ≡ tt) × (third l ≡ tt))
+  -- whether a number is a label's
+  pub label-check : Promise label-check.ended label-check-reads.Asked label-check-reads.Learnt
+      (λ κs a r l. (r ≡ writeShown (labelAnswer (lent a) (fourth a))) × (l ≡ (tt, (tt, (tt, (tt, tt))))))
+  -- where the label of a number stands in the lent labels
+  pub label-by-number : Promise label.ended label-reads.Asked label-reads.Learnt
+      (λ κs a r l. (r ≡ partShown (fourth a) (length (labelGiven (lent a) (fourth a))) (labelAnswer (lent a) (fourth a)))
+      × (take (r .length) (drop (r .start) (now (first a))) ≡ labelGiven (lent a) (fourth a)) × (l ≡ (tt, (tt, (tt, (tt, tt))))))
+  -- the very part of the lent labels, as a host in Rattle gets it
+  pub label-part : Promise label-part.ended label-part-reads.Asked label-part-reads.Learnt
+      (λ κs a r l. (now r ≡ labelGiven (lent a) (fourth a)) × (l ≡ (tt, (tt, (tt, (tt, tt))))))
