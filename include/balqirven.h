@@ -156,7 +156,8 @@ bq_loader bq_fresh_loader(void);
 /* ---- rule text */
 
 /* Takes a piece of rule text, cut anywhere, of any length. Each line (subject, object, access) is judged at its newline, whole, against
- * the tables as they then are. A refused line does nothing but enter the report; the piece is done all the same.
+ * the tables as they then are. Access is letters of r w x a t b, either case, and dashes, which stand for none; a line of at most 600 blanks
+ * and no other byte is skipped. A refused line does nothing but enter the report; the piece is done all the same.
  * Refusals: 0, also for a line part that is not 600 bytes and for `kept` over 601. */
 bq_taken bq_piece(uint8_t *labels, size_t labels_len, uint8_t *entries, size_t entries_len, uint64_t *words, size_t words_len,
                   uint8_t *line, size_t line_len, bq_loader loader, const uint8_t *text, size_t text_len);
@@ -166,7 +167,7 @@ bq_taken bq_piece(uint8_t *labels, size_t labels_len, uint8_t *entries, size_t e
 bq_finished bq_end(uint8_t *labels, size_t labels_len, uint8_t *entries, size_t entries_len, uint64_t *words, size_t words_len,
                    uint8_t *line, size_t line_len, bq_loader loader);
 
-/* ---- single writes: each is a whole buffer of at most 600 bytes, fields with blanks between */
+/* ---- single writes: each is a whole buffer of at most 600 bytes; all but revoke's are fields with one or more blanks (space, tab) between */
 
 /* Change: subject, object, modes to allow, modes to deny. The pair's new modes are (old or allow) without deny; a pair with no rule starts
  * from none and goes last. Letters are r w x a t and the dash, either case; b is refused with 4, and a stored b stays.
@@ -174,7 +175,7 @@ bq_finished bq_end(uint8_t *labels, size_t labels_len, uint8_t *entries, size_t 
 bq_written bq_change(uint8_t *labels, size_t labels_len, uint8_t *entries, size_t entries_len, uint64_t *words, size_t words_len,
                      const uint8_t *text, size_t text_len);
 
-/* Revoke: every rule with this subject gets no modes and keeps its place; the count of these rules is answered, 0 for an unknown label.
+/* Revoke: the whole buffer is one label, with no blanks. Every rule with this subject gets no modes and keeps its place; the count of these rules is answered, 0 for an unknown label.
  * Refusals: 0 1 3. */
 bq_counted bq_revoke(const uint8_t *labels, size_t labels_len, uint8_t *entries, size_t entries_len, const uint64_t *words,
                      size_t words_len, const uint8_t *label, size_t label_len);

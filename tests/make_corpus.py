@@ -2044,6 +2044,512 @@ def ranges():
 
 
 # ---------------------------------------------------------------------------------------------------------------------------------------------
+# Near cases: what a program gets wrong that is right nearly everywhere
+# ---------------------------------------------------------------------------------------------------------------------------------------------
+
+def near_runs():
+    s = Script("limits_runs", "01: a run of any length and content. Each is searched as records and as three slices. Label numbers, levels and sets count whole.", True)
+    s.say("The last record of a long run is the only one that matches, or the lowest of all that match.")
+    for n in (1001, 1024, 1025, 2049, 4097):
+        s.run(9, 2, [(1, 8, 2)] * (n - 1) + [(7, 9, 2)], "label 7")
+        s.run(9, 2, [(8, 9, 2)] * (n - 1) + [(7, 9, 2)], "label 7")
+        s.run(9, 2, [(8, 9, 2)] * (n - 1) + [(7, 9, 4)], "label 8")
+        s.run(9, 2, [(1, 8, 2)] * (n - 1) + [(7, 9, 4)], "none")
+    s.run(9, 2, [(8, 9, 2)] + [(9, 9, 2)] * 4095 + [(7, 9, 2)] + [(9, 9, 2)] * 1000, "label 7")
+    s.run(9, 2, [(8, 9, 2)] * 65536 + [(7, 9, 2)], "label 7")
+    s.say("Label numbers are compared whole, each of the 64 bits; they have no sign.")
+    for bit in range(3, 64):
+        high = 1 << bit
+        s.run(9, 2, [(5, 9, 2), (high, 9, 2)], "label 5")
+        s.run(9, 2, [(high, 9, 2), (5, 9, 2)], "label 5")
+        s.run(9, 2, [(high, 9, 2)], "label %d" % high)
+        s.run(9, 2, [(high + 1, 9, 2), (high, 9, 2)], "label %d" % high)
+        s.run(9, 2, [(high + 6, 9, 2), (2 * high - 1, 9, 2)], "label %d" % min(high + 6, 2 * high - 1))
+        s.run(9, 2, [(high, 9, 2), (high - 1, 9, 2)], "label %d" % (high - 1))
+        s.run(9, 2, [(high - 1, 9, 2), (high, 9, 2)], "label %d" % (high - 1))
+    two = 1 << 32
+    for some, lowest in (((two, 5), 5), ((two + 1, 2), 2), ((two, 1), 1), ((2 * two, two + 9), two + 9), ((HUGE, two), two), ((two - 1, two), two - 1), ((3 * two, 2 * two + 7), 2 * two + 7),
+                         ((1 << 63, (1 << 63) - 1), (1 << 63) - 1), ((HUGE, 1 << 63), 1 << 63), ((HUGE, HUGE - 1), HUGE - 1), ((HUGE, HUGE), HUGE), ((HUGE, 0), 0), ((1 << 63, 0), 0)):
+        s.run(9, 2, [(k, 9, 2) for k in some], "label %d" % lowest)
+        s.run(9, 2, [(k, 9, 2) for k in reversed(some)], "label %d" % lowest)
+    s.say("Levels side by side are told apart: in a run, then in the table.")
+    for low in (0, 1, 2, 126, 127, 128, 253, 254):
+        high = low + 1
+        for set_ in (0, category(1), category(63)):
+            for one, other in ((low, high), (high, low)):
+                s.run(one, set_, [(3, other, set_)], "none")
+                s.run(one, set_, [(3, other, set_), (4, one, set_)], "label 4")
+                s.run(one, set_, [(4, one, set_), (3, other, set_)], "label 4")
+            cats = b" 1" if set_ == category(1) else b" 63" if set_ else b""
+            s.call("fresh", "done")
+            s.mapping(b"A %d" % low + cats)
+            s.bylevel(low, set_, "label 5")
+            s.bylevel(high, set_, "none")
+            s.mapping(b"B %d" % high + cats)
+            s.bylevel(low, set_, "label 5")
+            s.bylevel(high, set_, "label 6")
+            s.bylabel(b"A", "mapping %d %d %d" % (low, set_, len(cats) > 0))
+            s.bylabel(b"B", "mapping %d %d %d" % (high, set_, len(cats) > 0))
+            s.mapping(b"A %d" % high + cats)
+            s.bylevel(low, set_, "none")
+            s.bylevel(high, set_, "label 5")
+            s.mapping(b"B %d" % low + cats)
+            s.bylevel(low, set_, "label 6")
+    s.say("Both 254 and 255, 0 and 1, by each of 32 mappings.")
+    for low in (0, 254):
+        s.fresh()
+        labels_to(s, 40)
+        for k in range(32):
+            s.mapping(name_of(39 - k) + b" %d" % (low + k % 2))
+        s.bylevel(low, 0, "label 9")
+        s.bylevel(low + 1, 0, "label 8")
+    s.store()
+
+
+def near_full():
+    s = Script("limits_full", "01: the last free places. The order in which labels enter; what is still done with full tables.", True)
+    s.say("62 labels: a rule's two new labels both enter, subject before object. 63: refused 6, and neither enters.")
+    for first, second in ((b"New1", b"New2"), (b"New2", b"New1"), (b"z", b"a"), (b"a", b"z"), (b"L" * 255, b"x"), (b"x", b"L" * 255)):
+        for write in ("line", "change"):
+            for count in (61, 62, 63):
+                s.fresh()
+                labels_to(s, count)
+                s.dump("%d labels" % count, True)
+                if write == "line":
+                    s.line(first + b" " + second + b" r", None if count < 63 else 6)
+                else:
+                    s.change(first + b" " + second + b" r -", "done" if count < 63 else "refused 6")
+                if count < 63:
+                    s.label(count, first)
+                    s.label(count + 1, second)
+                    s.label(count + 2, 13)
+                    s.list(0, first + b" " + second + b" r\n", b"\xee" * 300)
+                    s.ask(first, second, b"r", "granted 6")
+                    s.ask(second, first, b"r", "denied 7")
+                else:
+                    s.label(63, 13)
+                    s.list(0, 13)
+                    s.dump("63 labels", True)
+                    s.ask(first, second, b"r", "denied 7")
+    s.say("63 labels: one new label enters, as subject or as object.")
+    for text in (b"New1 L05 r", b"L05 New1 r"):
+        s.fresh()
+        labels_to(s, 63)
+        s.line(text, None)
+        s.label(63, b"New1")
+        s.list(0, text + b"\n")
+        s.line(b"New2 New1 r", 6)
+        s.line(b"New1 New2 r", 6)
+    s.say("64 labels and 256 rules: a known pair is set, at each place, by a line and by a change; it is not refused 7 or 6.")
+    full(s, 64, 256, 0)
+    for k in (0, 1, 31, 32, 127, 128, 254, 255):
+        a, b = pairs()[k]
+        s.line(a + b" " + b + b" wb", None)
+        s.list(k, a + b" " + b + b" wb\n")
+        s.ask(a, b, b"w", "granted 6 b")
+        s.change(a + b" " + b + b" xt w")
+        s.list(k, a + b" " + b + b" xtb\n")
+        s.change(a + b" " + b + b" - -")
+        s.list(k, a + b" " + b + b" xtb\n")
+        s.line(a + b" " + b + b" r", None)
+        s.list(k, a + b" " + b + b" r\n")
+        s.line(b + b" " + a + b" r" if (b, a) not in pairs()[:256] else b"L40 L41 r", 7)
+    s.list(256, 13)
+    s.say("The same tables: a label that is not stored is judged like any other.")
+    for label in (b"Unseen", b"u", b"Q" * 255, b"New1", b"L64", b"**"):
+        for request in (b"r", b"w", b"rwxa"):
+            s.ask(label, label, request, "granted 5")
+            s.ask(label, label, request, "granted 5", 1)
+            s.ask(label, b"L05", request, "denied 7")
+            s.ask(b"L05", label, request, "denied 7")
+            s.ask(label, b"Other", request, "override 7", 1)
+            s.ask(b"*", label, request, "denied 1")
+            s.ask(label, b"*", request, "granted 4")
+        s.ask(b"^", label, b"rx", "granted 2")
+        s.ask(label, b"_", b"rx", "granted 3")
+        s.ask(label, b"_", b"w", "denied 7")
+        s.bylabel(label, "none")
+        s.revoke(label, "revoked 0")
+    s.override(b"L05")
+    s.ask(b"Unseen", b"L05", b"r", "denied 7", 1)
+    s.ask(b"Unseen", b"Unseen", b"r", "granted 5", 1)
+    s.say("A new label enters by the 32nd mapping, at level 0 as at any other, with and without a category; by the first too.")
+    for labels in (40, 63):
+        for text, level, set_ in ((b"0", 0, 0), (b"000", 0, 0), (b"0 7", 0, category(7)), (b"00 63 1", 0, category(1) | category(63)), (b"1", 1, 0), (b"255", 255, 0), (b"255 7", 255, category(7))):
+            full(s, labels, 0, 31)
+            s.mapping(b"New1 " + text)
+            s.label(labels, b"New1")
+            s.label(labels + 1, 13)
+            s.bylabel(b"New1", "mapping %d %d %d" % (level, set_, bin(set_).count("1")))
+            s.bylevel(level, set_, "label %d" % labels)
+            s.mapping(b"L32 0", "refused 10")
+            s.mapping(b"New2 0", "refused 10" if labels < 63 else "refused 6")
+            s.label(labels + 1, 13)
+            s.mapping(b"New1 3")
+            s.bylabel(b"New1", "mapping 3 0 0")
+            s.bylevel(level, set_, "none")
+            s.call("fresh", "done")
+            s.mapping(b"New1 " + text)
+            s.label(5, b"New1")
+            s.bylevel(level, set_, "label 5")
+    s.store()
+
+
+def near_lengths():
+    s = Script("limits_lengths", "01: a line or write of 600 bytes and any byte more is refused 1. A piece, a listing's buffer and a request have any length.", True)
+    line, blanks = b"A B r" + b" " * 595, b" " * 600
+    s.say("NUL as the 601st byte, in one piece and cut just before it, with a newline behind it and without; in the 600th place it is a byte of a field.")
+    for kept in (line, blanks, b"A B" + b" " * 596 + b"r", b"x" * 600, b"\x00" * 600):
+        for more in (b"\x00", b"\x00\x00", b" \x00", b"\x00 "):
+            s.fresh()
+            s.line(kept + more, 1)
+            s.piece(kept)
+            s.piece(more)
+            s.end("report 1 0 0 1 1 1")
+            s.piece(kept)
+            s.piece(more[:1])
+            s.piece(more[1:] + b"\nC D w\n")
+            s.end("report 2 1 0 1 1 1")
+            s.list(0, b"C D w\n")
+            s.list(1, 13)
+    for text, reason in ((line[:599] + b"\x00", 2), (blanks[:599] + b"\x00", 2), (b"A B" + b" " * 595 + b"r\x00", 4), (b"\x00" + blanks[:599], 2)):
+        s.line(text, reason)
+        s.piece(text[:599])
+        s.piece(text[599:])
+        s.end("report 1 0 0 1 1 %d" % reason)
+    s.say("Each byte as the 601st behind 600 kept ones; a newline there ends the line.")
+    for kept, newline in ((line, "report 1 1 0 0 0 0"), (blanks, "report 1 0 1 0 0 0")):
+        s.fresh()
+        s.poke("line", 0, kept)
+        for b in range(256):
+            s.poke("loader", 0, 600)
+            s.piece(bytes([b]))
+            s.end(newline if b == 10 else "report 1 0 0 1 1 1")
+    s.say("The same in a write.")
+    s.fresh()
+    s.line(b"A B -", None)
+    s.dump("before", True)
+    for b in (0, 9, 10, 13, 32, 45, 65, 127, 128, 255):
+        one = bytes([b])
+        s.change((b"A B r -" + blanks)[:600] + one, "refused 1")
+        s.change(blanks[:593] + b"A B r -" + one, "refused 1")
+        s.override((b"A" + blanks)[:600] + one, "refused 1")
+        s.override(b"-" + blanks[:599] + one, "refused 1")
+        s.mapping((b"A 9" + blanks)[:600] + one, "refused 1")
+        s.mapping(b"A 9" + b" 1" * 298 + b" " + one, "refused 1")
+        s.revoke(b"A" * 600 + one, "refused 1")
+        s.revoke(b"A" + b"\x00" * 599 + one, "refused 1")
+    s.dump("before", True)
+    s.say("A piece of over 65536 bytes.")
+    s.fresh()
+    s.piece(b"\n" * 65536 + b"A B r\n")
+    s.end("report 65537 1 65536 0 0 0")
+    s.piece(b"x" * 65541 + b"\nC D w\n")
+    s.end("report 2 1 0 1 1 1")
+    s.list(0, b"A B r\n")
+    s.list(1, b"C D w\n")
+    s.call("piece =" + "x" * 65536, "done")
+    s.end("report 1 0 0 1 1 1")
+    s.call("piece =" + "x" * 70000, "done")
+    s.piece(b"\n")
+    s.end("report 1 0 0 1 1 1")
+    s.say("A buffer of over 65536 bytes: what is listed goes to its front, the rest stays.")
+    s.call("list 0 =" + "x" * 65539, "length 6 " + h(b"A B r\n" + b"x" * 65533))
+    s.say("A request of over 5000 bytes, and of over 65536: each letter counts, and a bad byte at the end is seen.")
+    for n in (5000, 65536):
+        s.ask(b"Q", b"Q", b"r" * n, "granted 5")
+        s.ask(b"A", b"B", b"r" * n, "granted 6")
+        s.ask(b"A", b"_", b"r" * n + b"w", "denied 7")
+        s.ask(b"A", b"B", b"r" * n + b"x", "denied 7")
+        s.ask(b"A", b"B", b"r" * n + b"q", "refused 8")
+    s.ask(b"A", b"B", b"r" * 5001, "granted 6")
+    s.ask(b"A", b"B", b"r" * 5000 + b"\x00", "refused 8")
+    s.ask(b"A", b"B", b"R" * 5000 + b"-", "refused 8")
+    s.ask(b"^", b"A", b"rx" * 2600, "granted 2")
+    s.ask(b"^", b"A", b"rx" * 2600 + b"a", "denied 7")
+    s.store()
+
+
+def near_loader():
+    s = Script("counters_first", "01: the end call answers the report and leaves the loader fresh. The first refused line is told by a refused count of 0.", True)
+    s.fresh()
+    s.dump("fresh")
+    s.say("No line is refused, and yet a number or a reason stands there: reported as it is, and gone afterwards.")
+    for first, reason in ((9, 0), (0, 3), (9, 3), (1, 0), (MOST, 255)):
+        def held():
+            s.poke("loader", 5, first)
+            s.poke("loader", 6, reason)
+        s.say("first %d, reason %d" % (first, reason))
+        s.fresh()
+        held()
+        s.end("report 0 0 0 0 %d %d" % (first, reason))
+        s.dump("fresh")
+        s.end("report 0 0 0 0 0 0")
+        s.dump("fresh")
+        held()
+        s.piece(b"")
+        s.end("report 0 0 0 0 %d %d" % (first, reason))
+        s.dump("fresh")
+        s.say("An accepted and a skipped line leave them; a refused one is the first, whatever stands there.")
+        for text, report in ((b"A B r\n", "1 1 0 0 %d %d" % (first, reason)), (b"A B r", "1 1 0 0 %d %d" % (first, reason)), (b"\n \n", "2 0 2 0 %d %d" % (first, reason)),
+                             (b" ", "1 0 1 0 %d %d" % (first, reason)), (b"A A r\n", "1 0 0 1 1 5"), (b"A A r", "1 0 0 1 1 5"), (b"A B\n", "1 0 0 1 1 2"), (b"A/ B r", "1 0 0 1 1 3"),
+                             (b"A B q\n", "1 0 0 1 1 4"), (b" " * 601, "1 0 0 1 1 1"), (b" " * 601 + b"\n", "1 0 0 1 1 1"), (b"\nA B r\nA B q\nA\n", "4 1 1 2 3 4"),
+                             (b"A A r\nA B q\nA", "3 0 0 3 1 5")):
+            held()
+            s.piece(text)
+            s.end("report " + report)
+            s.end("report 0 0 0 0 0 0")
+    s.say("Lines are refused, and no number stands there: it stays so.")
+    for refused in (1, 7, MOST):
+        for text, lines in ((b"", 0), (b"A A r\n", 1), (b"A A r", 1), (b"\nA B q\n", 2)):
+            s.fresh()
+            s.poke("loader", 4, refused)
+            s.piece(text)
+            s.end("report %d 0 %d %d 0 0" % (lines, lines == 2, min(refused + (lines > 0), MOST)))
+            s.end("report 0 0 0 0 0 0")
+    s.say("Whatever the seven numbers are, the end call leaves a fresh loader.")
+    for index in range(7):
+        s.fresh()
+        s.poke("loader", index, 1)
+        s.end("report " + ("1 0 0 1 1 2" if index == 0 else " ".join("1" if k == index else "0" for k in range(1, 7))))
+        s.dump("fresh")
+    s.store()
+
+
+def near_twice():
+    s = Script("twice_modes", "01: where a lent state holds a pair twice, the first counts: its letters and its b.", True)
+    for one, other in ((b"rb", b"r"), (b"r", b"rb"), (b"rwb", b"rwxa"), (b"rw", b"rwxatb"), (b"b", b"r"), (b"-", b"rb"), (b"rb", b"-"), (b"r", b"b")):
+        s.say("%s, then %s" % (one.decode(), other.decode()))
+        s.fresh()
+        s.piece(b"A B " + one + b"\nC D " + other + b"\nA C x\nB A " + other + b"\n")
+        s.end("report 4 4 0 0 0 0")
+        s.poke("entries", 1, b"\x05")
+        s.poke("entries", 257, b"\x06")
+        s.list(0, b"A B " + listed_modes(one) + b"\n")
+        s.list(1, b"A B " + listed_modes(other) + b"\n")
+        for request in (b"r", b"w", b"rw", b"rwxa"):
+            for capable in (0, 1):
+                granted = "granted 6 b" if b"b" in one else "granted 6"
+                s.ask(b"A", b"B", request, granted if set(request) <= set(one) else "override 7" if capable else "denied 7", capable)
+        s.ask(b"B", b"A", b"r", ("granted 6 b" if b"b" in other else "granted 6") if b"r" in other else "denied 7")
+        s.change(b"A B r -")
+        s.ask(b"A", b"B", b"r", "granted 6 b" if b"b" in one else "granted 6")
+        s.line(b"A B x" + (b"" if b"b" in one else b"b"), None)
+        s.ask(b"A", b"B", b"x", "granted 6" if b"b" in one else "granted 6 b")
+        s.list(1, b"A B " + listed_modes(other) + b"\n")
+    s.say("256 rules: the pair at two places, near and far; with b at one of them alone.")
+    full(s, 64, 256, 0)
+    for first, second in ((0, 1), (0, 31), (0, 32), (0, 255), (30, 33), (31, 32), (127, 128), (63, 200), (254, 255)):
+        old = pairs()
+        for place in (first, second):
+            s.poke("entries", place, b"\x1e")
+            s.poke("entries", 256 + place, b"\x1f")
+        for modes, answer in ((b"\x21\x20", "granted 6 b"), (b"\x20\x21", "granted 6"), (b"\x20\x3f", "granted 6"), (b"\x21\x00", "granted 6 b"), (b"\x00\x21", "denied 7"), (b"\x01\x20", "denied 7")):
+            s.poke("entries", 512 + first, modes[:1])
+            s.poke("entries", 512 + second, modes[1:])
+            s.ask(b"L30", b"L31", b"r", answer)
+        for place in (first, second):
+            s.poke("entries", place, bytes([int(old[place][0][1:])]))
+            s.poke("entries", 256 + place, bytes([int(old[place][1][1:])]))
+            s.poke("entries", 512 + place, b"\x20")
+    s.store()
+
+
+def near_override():
+    s = Script("questions_override", "01, Questions: override after a denial by rule 1 answers rule 1; the list is empty, or holds *, at each place of one to eight.", True)
+
+    def asked(word):
+        for object_ in (b"*", b"_", b"^", b"A", b"Unseen"):
+            for request in (b"r", b"w", b"rwxa"):
+                s.ask(b"*", object_, request, word + " 1", 1)
+                s.ask(b"*", object_, request, "denied 1")
+    s.say("The list is empty; it is cleared; a rule of * does not count before rule 1.")
+    s.fresh()
+    asked("override")
+    s.override(b"*")
+    asked("override")
+    s.override(b"A")
+    asked("denied")
+    s.override(b"-")
+    asked("override")
+    s.line(b"* A rwxatb", None)
+    s.line(b"* _ r", None)
+    asked("override")
+    s.say("The list holds * at each place, alone and among others.")
+    others = [b"P%d" % k for k in range(8)]
+    for n in (1, 2, 7, 8):
+        for at in range(n):
+            s.override(b" ".join(others[:at] + [b"*"] + others[at:n - 1]))
+            for object_ in (b"*", b"_", b"A"):
+                s.ask(b"*", object_, b"r", "override 1", 1)
+                s.ask(b"*", object_, b"r", "denied 1")
+            s.ask(b"P7", b"A", b"r", "denied 7", 1)
+            if n > 1:
+                s.ask(b"P0", b"A", b"r", "override 7", 1)
+                s.ask(b"P0", b"*", b"r", "granted 4", 1)
+    s.say("Full lists without *: denied, by rule 1.")
+    for n in range(1, 9):
+        s.override(b" ".join(others[:n]))
+        s.ask(b"*", b"_", b"r", "denied 1", 1)
+        s.ask(b"*", b"*", b"w", "denied 1", 1)
+        s.ask(b"P0", b"A", b"r", "override 7", 1)
+    s.override(b"_ ^ ? @ ** P1 P2 P3")
+    asked("denied")
+    s.override(b"_ ^ ? @ ** P1 P2 *")
+    asked("override")
+    s.say("* is stored twice: it means its first number. * is not stored: it is on no list, and passes where the list is empty.")
+    s.fresh()
+    s.override(b"A B")
+    s.poke("labels", 6 * 256, place(b"*"))
+    asked("denied")
+    s.poke("entries", 832, b"\x02")
+    asked("override")
+    s.poke("entries", 832, b"\x05\x06")
+    asked("denied")
+    s.poke("labels", 2 * 256, place(b"X"))
+    asked("override")
+    s.poke("labels", 6 * 256, place(b"Y"))
+    asked("denied")
+    s.override(b"-")
+    asked("override")
+    s.store()
+
+
+def near_places():
+    s = Script("odd_places", "01, Questions: _ ^ * are known by their bytes, never by the numbers 0 to 2. Lent states with other labels there.", True)
+
+    def by_bytes(state, a, b, c):
+        """The labels a, b, c stand at 0 to 2 and are ordinary ones."""
+        s.say(state)
+        s.label(0, a)
+        s.label(1, b)
+        s.label(2, c)
+        for one in (a, b, c):
+            for request in (b"r", b"x", b"rx", b"w", b"rwxa"):
+                s.ask(one, b"Other", request, "denied 7")
+                s.ask(b"Other", one, request, "denied 7")
+                s.ask(one, one, request, "granted 5")
+                s.ask(one, b"Other", request, "override 7", 1)
+                s.ask(b"*", one, request, "denied 1")
+                s.ask(one, b"*", request, "granted 4")
+                s.ask(b"^", one, request, "granted 2" if set(request) <= set(b"rx") else "denied 7")
+                s.ask(one, b"_", request, "granted 3" if set(request) <= set(b"rx") else "denied 7")
+        for one, other in ((a, b), (b, a), (a, c), (c, a), (b, c), (c, b)):
+            s.ask(one, other, b"r", "denied 7")
+        s.ask(b"*", b"_", b"r", "denied 1")
+        s.ask(b"*", b"*", b"r", "denied 1")
+        s.ask(b"*", b"_", b"r", "override 1", 1)
+        s.ask(b"^", b"_", b"rx", "granted 2")
+        s.ask(b"^", b"*", b"w", "granted 4")
+        s.ask(b"^", b"^", b"w", "granted 5")
+        s.ask(b"_", b"_", b"r", "granted 3")
+        s.ask(b"_", b"_", b"w", "granted 5")
+        s.ask(b"_", b"^", b"r", "denied 7")
+        s.ask(b"^", b"_", b"w", "denied 7")
+    for a, b, c in ((b"A", b"B", b"C"), (b"__", b"^^", b"**"), (b"?", b"@", b"!")):
+        s.fresh()
+        for k, label in enumerate((a, b, c)):
+            s.poke("labels", 256 * k, place(label))
+        by_bytes("_ ^ * are not stored", a, b, c)
+        s.override(b"^ _ *")
+        s.override(b"-")
+        for k, label in enumerate((b"^", b"_", b"*")):
+            s.label(5 + k, label)
+        by_bytes("^ stands at number 5, _ at 6, * at 7", a, b, c)
+        s.say("and with rules: what rules 1 to 4 decide they decide all the same")
+        s.piece(b"%s Other rwb\nOther %s x\n* Other rwxa\nOther * -\n^ Other w\nOther _ wb\n%s Other r\n" % (a, b, c))
+        s.end("report 7 7 0 0 0 0")
+        for one, other, request, answer in ((a, b"Other", b"rw", "granted 6 b"), (b"Other", b, b"x", "granted 6"), (b"Other", b, b"r", "denied 7"), (b"*", b"Other", b"r", "denied 1"),
+                                            (b"Other", b"*", b"w", "granted 4"), (b"^", b"Other", b"w", "granted 6"), (b"^", b"Other", b"rx", "granted 2"), (b"^", b"Other", b"rw", "denied 7"),
+                                            (b"Other", b"_", b"w", "granted 6 b"), (b"Other", b"_", b"r", "granted 3"), (c, b"Other", b"r", "granted 6"), (c, b"Other", b"w", "denied 7")):
+            s.ask(one, other, request, answer)
+        for k, listed in ((0, a + b" Other rwb\n"), (2, b"* Other rwxa\n"), (4, b"^ Other w\n")):
+            s.list(k, listed, b"\xee" * 20)
+    s.say("^ at number 5 beside the one at number 1: it means its first number, and is ^ all the same.")
+    s.fresh()
+    s.line(b"A B w", None)
+    s.poke("labels", 5 * 256, place(b"^"))
+    s.list(0, b"^ B w\n")
+    s.ask(b"^", b"B", b"rx", "granted 2")
+    s.ask(b"^", b"B", b"w", "denied 7")
+    s.poke("entries", 0, b"\x01")
+    s.ask(b"^", b"B", b"w", "granted 6")
+    s.poke("labels", 256, place(b"A"))
+    s.ask(b"^", b"B", b"w", "denied 7")
+    s.ask(b"^", b"B", b"rx", "granted 2")
+    s.ask(b"A", b"B", b"w", "granted 6")
+    s.ask(b"A", b"B", b"rx", "denied 7")
+    s.store()
+
+
+def near_damage():
+    s = Script("damage_line", "01, refusal 0: a line part not of its full size, under a loader that keeps no byte. Nothing changes.", True)
+    number = 0
+    for size in (0, 1, 2, 599, 601, 602, 1200):
+        for report in (False, True):
+            number += 1
+            s.say("a line of %d bytes%s" % (size, ", lines counted" if report else ""))
+            s.fresh()
+            if report:
+                s.piece(b"A B r\n\nA A r\n")
+            s.call("resize line %d" % size, "done")
+            s.dump("line %d" % number)
+            for text in (b"", b"\n", b"x", b" ", b"C D w\n", b"C D w"):
+                s.piece(text, "refused 0")
+                s.end("refused 0")
+            s.dump("line %d" % number)
+            s.label(5, b"A" if report else 13)
+            s.label(7, 13)
+            s.say("full size again, the loader goes on as it was")
+            s.call("resize line 600", "done")
+            s.end("report 3 1 1 1 3 5" if report else "report 0 0 0 0 0 0")
+    s.store()
+
+    s = Script("damage_wide", "01, refusal 0: a count over its limit that is within it in its low 8, 16 or 32 bits. Each call under each, on a fresh table and on a small one.")
+    for build, counts in ((Script.fresh, (5, 0, 0, 0)), (small_state, (9, 3, 2, 2))):
+        build(s)
+        s.dump("sound %d" % counts[0])
+        for index, limit in enumerate((64, 256, 32, 8)):
+            low = sorted({0, counts[index], limit})
+            values = [(1 << bit) + k for bit in (16, 32, 33, 48, 63) for k in low] + [(1 << 32) - (1 << 16) + counts[index], HUGE - (1 << 32) + 1 + counts[index]]
+            values += [256 + k for k in low if 256 + k > limit] + [512 + k for k in low]
+            for value in values:
+                s.say("count %d is %d" % (index, value))
+                s.poke("words", index, value)
+                refused_by_all(s)
+            s.dump("wide %d %d" % (counts[0], index))
+            s.poke("words", index, counts[index])
+            s.dump("sound %d" % counts[0])
+        s.say("A fresh table is made all the same.")
+        for index in range(4):
+            s.poke("words", index, (1 << 32) + counts[index])
+            s.label(0, 0)
+            s.call("freshen", "done")
+            s.label(4, b"@")
+            s.label(5, 13)
+            s.list(0, 13)
+    s.store()
+
+
+def near_programs():
+    line = b"A B r" + b" " * 595
+    program("program_601st_byte", line + b"\n" + line + b"\x00\n" + b" " * 600 + b"\x00\n?\n" + line[:599] + b"\x00\nA B r\n" + line + b"\x00\nA B r\n" + line + b"\x00",
+            ["3 1 0 2 2 1", "refused 2", "granted 6", "refused 1", "granted 6", "refused 1"])
+
+
+def near():
+    near_runs()
+    near_full()
+    near_lengths()
+    near_loader()
+    near_twice()
+    near_override()
+    near_places()
+    near_damage()
+    near_programs()
+
+
+# ---------------------------------------------------------------------------------------------------------------------------------------------
 # Recordings of a running kernel, where 01 does not decide otherwise
 # ---------------------------------------------------------------------------------------------------------------------------------------------
 
@@ -2186,6 +2692,7 @@ def main():
     thousands()
     programs()
     ranges()
+    near()
     folder = os.environ.get("KERNEL_VECTORS")
     if folder:
         kernel(folder)
