@@ -7,7 +7,7 @@ use mathlib.Core.List.{List}
 use lib.ListN.{length, take, drop}
 use contract.Lifetimes.{Lfts}
 use contract.Monad.{fact}
-use denote.Ref.{RefT, now}
+use denote.Ref.{now}
 use denote.Triple.Entry.{Args, Res}
 use denote.Triple.Clauses.{Ended, Lasts, AtExit, atExit}
 use borrow.Fn.Claims.{AllOf}
@@ -46,9 +46,9 @@ use Rattle.host.proofs.bq_label as label
 use Rattle.host.proofs.bq_label.Reads as label-reads
 use Rattle.listing.proofs.label_by_number as label-part
 use Rattle.listing.proofs.label_by_number.Reads as label-part-reads
-use Rattle.store.specs.Layout.{Store, store, freshAnswer, freshStore}
+use Rattle.store.specs.Layout.{store, freshAnswer, freshStore}
 use Rattle.writes.specs.Writes.{changeAnswer, changeStore}
-use Rattle.revoke.specs.Revoke.{revokeAnswer, revokeEntries}
+use Rattle.revoke.specs.Revoke.{revokeAnswer, revokeStore}
 use Rattle.onlycap.specs.Onlycap.{onlycapAnswer, onlycapStore}
 use Rattle.cipso.specs.Cipso.{mapAnswer, mapStored}
 use Rattle.lookups.specs.Lookups.{byLabelOf, byLevelOf}
@@ -56,8 +56,8 @@ use Rattle.run.specs.Run.{runOf, recordsOf}
 use Rattle.access.specs.Access.{questionOf, shown}
 use Rattle.listing.specs.Listing.{listAnswer, listOut, labelGiven, labelAnswer}
 use Rattle.reports.specs.Report.{freshLoader}
-use Rattle.load.specs.Loader.{Load, load, pieceAnswer, pieceAfter, endAnswer, endAfter}
-use Rattle.reports.specs.declared.Loader.{Loader}
+use Rattle.load.specs.Loader.{pieceAnswer, pieceAfter, endAnswer, endAfter}
+use Rattle.lists.specs.Called.{first, second, third, fourth, fifth, sixth, seventh, lent, left, loading, loaded}
 use Rattle.answers.specs.Answers.{writeShown, revokeShown, pieceShown, endShown, listShown, lookupShown, searchShown, partShown}
 
 -- The promise of a function. Its caller has nothing to show, whatever the arguments a. And of every call, with the answer r and with what the
@@ -74,43 +74,6 @@ pub record Promise (T : Ended)
 
 -- What is lent by `&` has no last value, and stands as `tt` among the last values: it is as it was. Each promise says of which parameters that is so,
 -- and would have no type if one of them were lent by `&mut`.
-
--- ---- the arguments and the last values by their places
-
-abbrev pub first : {A B : Type 0} → A × B → A
-first a = a .0
-
-abbrev pub second : {A B C : Type 0} → A × (B × C) → B
-second a = a .1 .0
-
-abbrev pub third : {A B C D : Type 0} → A × (B × (C × D)) → C
-third a = a .1 .1 .0
-
-abbrev pub fourth : {A B C D E : Type 0} → A × (B × (C × (D × E))) → D
-fourth a = a .1 .1 .1 .0
-
-abbrev pub fifth : {A B C D E F : Type 0} → A × (B × (C × (D × (E × F)))) → E
-fifth a = a .1 .1 .1 .1 .0
-
-abbrev pub sixth : {A B C D E F G : Type 0} → A × (B × (C × (D × (E × (F × G))))) → F
-sixth a = a .1 .1 .1 .1 .1 .0
-
-abbrev pub seventh : {A B C D E F G H : Type 0} → A × (B × (C × (D × (E × (F × (G × H)))))) → G
-seventh a = a .1 .1 .1 .1 .1 .1 .0
-
--- the tables, which are the first three arguments, and after the call where all three are lent by `&mut`
-abbrev pub lent : {A : Type 0} → RefT (List ℕ) × (RefT (List ℕ) × (RefT (List ℕ) × A)) → Store
-lent a = store (now (a .0)) (now (a .1 .0)) (now (a .1 .1 .0))
-
-abbrev pub left : {A : Type 0} → List ℕ × (List ℕ × (List ℕ × A)) → Store
-left l = store (l .0) (l .1 .0) (l .1 .1 .0)
-
--- and with the line and the loader of a text, which are the next two
-abbrev pub loading : {A : Type 0} → RefT (List ℕ) × (RefT (List ℕ) × (RefT (List ℕ) × (RefT (List ℕ) × (Loader × A)))) → Load
-loading a = load (lent a) (now (a .1 .1 .1 .0)) (a .1 .1 .1 .1 .0)
-
-abbrev pub loaded : {A : Type 0} → List ℕ × (List ℕ × (List ℕ × (List ℕ × A))) → Loader → Load
-loaded l loader = load (left l) (l .1 .1 .1 .0) loader
 
 -- ---- the run of records is a slice of structs, for which Rattle makes no `Asked` and `Learnt`; so they are made here, of the function's own clauses
 -- and as for the others: what has to be shown for its `requires`, and what is learnt from its `ensures`
@@ -155,7 +118,7 @@ pub record ExportedCalls : Type 0 where
       (λ κs a r l. (r ≡ writeShown (changeAnswer (lent a) (now (fourth a)))) × (left l ≡ changeStore (lent a) (now (fourth a))) × (fourth l ≡ tt))
   -- revoke-subject: the entries alone are lent by `&mut`
   pub revoke : Promise revoke.ended revoke-reads.Asked revoke-reads.Learnt
-      (λ κs a r l. (r ≡ revokeShown (revokeAnswer (lent a) (now (fourth a)))) × (second l ≡ revokeEntries (lent a) (now (fourth a))) × (first l ≡ tt) × (third l ≡ tt) × (fourth l ≡ tt))
+      (λ κs a r l. (r ≡ revokeShown (revokeAnswer (lent a) (now (fourth a)))) × (store (now (first a)) (second l) (now (third a)) ≡ revokeStore (lent a) (now (fourth a))) × (first l ≡ tt) × (third l ≡ tt) × (fourth l ≡ tt))
   -- the override list
   pub onlycap : Promise onlycap.ended onlycap-reads.Asked onlycap-reads.Learnt
       (λ κs a r l. (r ≡ writeShown (onlycapAnswer (lent a) (now (fourth a)))) × (left l ≡ onlycapStore (lent a) (now (fourth a))) × (fourth l ≡ tt))

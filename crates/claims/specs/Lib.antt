@@ -3,5 +3,4 @@ pub mod Exported
 pub mod Listed
 pub mod Program
 pub mod Refusals
-pub mod Tables
 pub mod Runs

@@ -8,7 +8,7 @@ use denote.Ref.{now}
 use Rattle.store.specs.Layout.{Store, Sizes}
 use Rattle.program.specs.Program.{output}
 use Rattle.program.proofs.Whole.{Called-begin, begin-to, Runs, joined}
-use Rattle.claims.specs.Exported.{first, second, third, lent}
+use Rattle.lists.specs.Called.{first, second, third, lent}
 
 pub record ProgramOutput : Type 0 where
   -- from memory of full size, in whatever pieces the input comes, what is written is what 01 has written for the whole input

@@ -11,15 +11,15 @@ ghost use Rattle.modes.specs.Modes.{letters, soundLetters};
 ghost use Rattle.store.specs.Layout.{tableOf, undamagedOf};
 ghost use Rattle.load.specs.Loader.{Load};
 ghost use Rattle.lists.specs.Reader.{Call, Reply, events, reports};
-ghost use Rattle.lists.proofs.Trace.{Fresh, Runs};
-ghost use Rattle.lists.proofs.Undivided.{PlainReaders, refusal-of};
+ghost use Rattle.calls.specs.Calls.{Fresh, Runs};
+ghost use Rattle.calls.specs.PlainReaders.{PlainReaders, refusal-of};
+ghost use Rattle.lists.specs.Tables.{TablesFollow};
 ghost use Rattle.claims.specs.Cases.{right, cases};
 ghost use Rattle.claims.specs.Exported.{ExportedCalls};
 ghost use Rattle.claims.specs.Listed.{FromTheList};
 ghost use Rattle.claims.specs.Program.{ProgramOutput};
 ghost use Rattle.claims.specs.Refusals.{NothingChanges};
 ghost use Rattle.claims.specs.Runs.{SearchesTheRun};
-ghost use Rattle.claims.specs.Tables.{TablesFollow};
 
 // Demand 1, that every input is met with an answer: of every exported function of the crate host, out of its own contract, it asks nothing of its
 // caller, and its answer and what it leaves in each lent slice are what the definitions say.
@@ -43,24 +43,15 @@ pub fn tables_follow()
     ensures { λ _. ⌜ TablesFollow ⌝ }
 {}
 
-// Demand 3: every list of pieces, end calls and questions, from any undamaged table and a fresh loader, is the plain reader's.
+// Demand 3, undivided, of every list of calls of the exported functions: pieces, end calls and questions, and any other calls of the library between them.
+// From any undamaged table and a fresh loader, the list is the plain reader's.
+// Two lists with the same bytes, end calls and single writes in the same order, whatever their cuts and questions, get the same reports and leave the same table.
+// Of a damaged table every call of a list is refused with 0, and nothing changes.
+// And every list can be made from every state, so that none of this speaks of nothing.
 pub fn demand_3()
     ensures { λ _. ⌜ ((s s′ : Load) (cs : List Call) (rs : List Reply) → Fresh s → Runs s cs rs s′ → PlainReaders s cs rs s′) ⌝ }
-{}
-
-// Demand 3, of two lists: with the same bytes and end calls in the same order, whatever their cuts and questions, they get the same reports
-// and leave the same table.
-pub fn demand_3_of_two_lists()
     ensures { λ _. ⌜ ((s z s′ z′ : Load) (cs ds : List Call) (rs qs : List Reply) → Fresh s → Fresh z → tableOf (s .store) ≡ tableOf (z .store) → events cs ≡ events ds → Runs s cs rs s′ → Runs z ds qs z′ → (tableOf (s′ .store) ≡ tableOf (z′ .store)) × (reports rs ≡ reports qs)) ⌝ }
-{}
-
-// Of a damaged table: every call of a list is refused with 0, and nothing changes.
-pub fn damaged_table_refused()
     ensures { λ _. ⌜ ((s s′ : Load) (cs : List Call) (rs : List Reply) → undamagedOf (s .store) ≡ false → Runs s cs rs s′ → (s′ ≡ s) × (rs ≡ map refusal-of cs)) ⌝ }
-{}
-
-// Every list of calls can be made from every state, so that the three above do not speak of nothing.
-pub fn every_list_has_a_run()
     ensures { λ _. ⌜ ((s : Load) (cs : List Call) → (rs : List Reply) × (s′ : Load) × Runs s cs rs s′) ⌝ }
 {}
 

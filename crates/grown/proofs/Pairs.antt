@@ -12,14 +12,15 @@ use Rattle.search.specs.Search.{first, put, placeOf, countOf}
 use Rattle.search.specs.Bytes.{sameBytes}
 use Rattle.search.specs.declared.Found.{Found}
 use Rattle.search.specs.declared.Found.the-variants.{At, Nothing}
-use Rattle.search.proofs.Laws.{no, and-both, same-refl, same-equal, first-place, first-put, first-put-other, found-put-other, put-at, not-so, Front, front-first, front-beyond}
+use Rattle.search.proofs.Laws.{no, and-both, same-refl, same-equal, first-place, first-put, entries-length, first-put-other, found-put-other, put-at, not-so, Front, front-first, front-beyond}
 use Rattle.alphabet.specs.Alphabet.{wellFormed, fields}
 use Rattle.modes.specs.Modes.{readModes, ruleLetters, requestLetters}
 use Rattle.modes.specs.declared.Access.{Access}
 use Rattle.modes.specs.declared.Access.the-variants.{Modes, Bad}
 use Rattle.store.specs.declared.Rule.{Rule}
 use Rattle.store.specs.Table.{Table, labelIn, isPair, pairIn, soundTable}
-use Rattle.store.proofs.Laws.{sound-more}
+use Rattle.store.specs.Layout.{Store, labelAt, tableOf, undamagedOf}
+use Rattle.store.proofs.Laws.{sound-more, undamaged-is}
 use Rattle.rules.specs.declared.Place.the-variants as p
 use Rattle.rules.specs.Rules.{placing, noPlace, labelsAfter, modesOfRule}
 use Rattle.lines.specs.Lines.{Said, refused, rule, change, ruleOf, changeOf, ruleWith, ruleBy, ruleFields}
@@ -30,9 +31,12 @@ use Rattle.access.specs.Access.{effective, answered, decide, byRequest, answer}
 use Rattle.access.specs.declared.Denial.the-variants.{NoRule}
 use Rattle.access.specs.declared.Verdict.the-variants.{Grants, Denies}
 use Rattle.access.proofs.Laws.{not-listed, not-subject, not-object}
-use Rattle.grown.specs.Sane.{Sane}
-use Rattle.grown.specs.Pairs.{Triple, PairModes, has-modes, no-rule, modesFound, modesBetween, modesSoFar, newLabels, hasRule, hasRoom, isAccepted, SetsPair}
+use Rattle.grown.specs.Pairs.{SoundTable, Triple, PairModes, has-modes, no-rule, modesFound, modesBetween, modesSoFar, newLabels, hasRule, hasRoom, isAccepted, SetsPair}
 use Rattle.grown.proofs.Sane.{subjectAt, objectAt, pairLabels, paired, subject-number, object-number, pair-front, one-label, Paired, rule-paired, change-paired}
+
+-- the table of an undamaged state is sound
+pub undamaged-sound : (st : Store) → undamagedOf st ≡ true → SoundTable (tableOf st)
+undamaged-sound st u = subst (λ (n : ℕ). soundTable n (tableOf st) ≡ true) (sym (entries-length (labelAt (st .labels)) (getD (st .words) 0 0))) (undamaged-is st u .sound)
 
 -- ---- an answer goes by the pair's modes and the subject's override, and by nothing else of the tables
 
@@ -187,11 +191,11 @@ module _ (t : Table) (s o : List ℕ) (m : ℕ) (taken : Taken s o) (sound : sou
         override = override-same;
       }
 
-pub paired-sets : {t t′ : Table} {s o : List ℕ} {m : ℕ} → Sane t → Paired t t′ s o m → SetsPair t t′ s o m
-paired-sets {t} {s = s} {o = o} {m = m} h q = subst (λ (z : Table). SetsPair t z s o m) (sym (q .is)) (pair-sets t s o m (q .taken) (h .sound))
+pub paired-sets : {t t′ : Table} {s o : List ℕ} {m : ℕ} → SoundTable t → Paired t t′ s o m → SetsPair t t′ s o m
+paired-sets {t} {s = s} {o = o} {m = m} h q = subst (λ (z : Table). SetsPair t z s o m) (sym (q .is)) (pair-sets t s o m (q .taken) h)
 
 -- ANY ACCEPTED LINE
-pub line-sets : (t t′ : Table) (text s o : List ℕ) (m : ℕ) → Sane t → ruleOf text ≡ rule s o m → judged t (ruleOf text) ≡ is-accepted t′ → SetsPair t t′ s o m
+pub line-sets : (t t′ : Table) (text s o : List ℕ) (m : ℕ) → SoundTable t → ruleOf text ≡ rule s o m → judged t (ruleOf text) ≡ is-accepted t′ → SetsPair t t′ s o m
 line-sets t t′ text s o m h e q = paired-sets h (rule-paired t t′ s o m (subst Sound e (rule-sound text)) (ap (judged t) (sym e) ∙ q))
 
 -- ---- with room for it
@@ -342,10 +346,10 @@ accepted-as t (is-refused n) e = absurd (no e)
 accepted-as t (is-accepted z) e = refl
 
 -- A WELL-FORMED TRIPLE WITH ROOM FOR IT
-pub triple-sets : (t : Table) (text s o : List ℕ) (m : ℕ) → Sane t → Triple text s o m → hasRoom t s o ≡ true → SetsPair t (tableAfter t (judged t (ruleOf text))) s o m
+pub triple-sets : (t : Table) (text s o : List ℕ) (m : ℕ) → SoundTable t → Triple text s o m → hasRoom t s o ≡ true → SetsPair t (tableAfter t (judged t (ruleOf text))) s o m
 triple-sets t text s o m h w room =
     line-sets t (tableAfter t (judged t (ruleOf text))) text s o m h (triple-rule w)
-    (accepted-as t (judged t (ruleOf text)) (ap (λ (x : Said). isAccepted (judged t x)) (triple-rule w) ∙ rule-accepted t s o m (h .sound) ∙ room))
+    (accepted-as t (judged t (ruleOf text)) (ap (λ (x : Said). isAccepted (judged t x)) (triple-rule w) ∙ rule-accepted t s o m h ∙ room))
 
 -- ANY ACCEPTED CHANGE
 modes-so-far : (rules : List Rule) (f : Found) → modesOfRule f rules ≡ modesSoFar (modesFound rules f)
@@ -354,10 +358,10 @@ modes-so-far rules Nothing = refl
 
 pub change-sets :
     (t t′ : Table) (text s o : List ℕ) (a d : ℕ) →
-    Sane t →
+    SoundTable t →
     changeOf text ≡ change s o a d →
     judged t (changeOf text) ≡ is-accepted t′ →
     SetsPair t t′ s o (changed (modesSoFar (modesBetween t s o)) a d)
 change-sets t t′ text s o a d h e q =
-    subst (λ (m : ℕ). SetsPair t t′ s o (changed m a d)) (modes-so-far (t .rules) (pairIn t (subjectAt t s o) (objectAt t s o)) ∙ ap modesSoFar (pair-read t s o (h .sound)))
-    (paired-sets h (change-paired t t′ s o a d (length (t .labels)) (h .sound) (subst Sound e (change-sound text)) (ap (judged t) (sym e) ∙ q)))
+    subst (λ (m : ℕ). SetsPair t t′ s o (changed m a d)) (modes-so-far (t .rules) (pairIn t (subjectAt t s o) (objectAt t s o)) ∙ ap modesSoFar (pair-read t s o h))
+    (paired-sets h (change-paired t t′ s o a d (length (t .labels)) h (subst Sound e (change-sound text)) (ap (judged t) (sym e) ∙ q)))

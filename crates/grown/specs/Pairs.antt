@@ -12,12 +12,17 @@ use Rattle.alphabet.specs.Alphabet.{wellFormed, lineLimit, fields}
 use Rattle.modes.specs.Modes.{readModes, ruleLetters}
 use Rattle.modes.specs.declared.Access.the-variants.{Modes}
 use Rattle.store.specs.declared.Rule.{Rule}
-use Rattle.store.specs.Table.{Table, labelIn, labelLimit, ruleLimit}
+use Rattle.store.specs.Table.{Table, labelIn, labelLimit, ruleLimit, soundTable}
 use Rattle.writes.specs.Writes.{Judged, is-skipped, is-refused, is-accepted}
 use Rattle.access.specs.Rules.{Line, line, ruleBetween, modesAt, holds, bringUp, labelRules, sevenRules}
 use Rattle.access.specs.Access.{effective, answer}
 use Rattle.access.specs.declared.Denial.the-variants.{NoRule}
 use Rattle.access.specs.declared.Verdict.the-variants.{Grants, Denies}
+
+-- what a table has to be for this: every number in it names one of its labels, and no mode or category bit is unknown. Every grown table is so, and so is the
+-- table of every undamaged state
+abbrev pub SoundTable : Table → Type 0
+SoundTable t = soundTable (length (t .labels)) t ≡ true
 
 -- a well-formed triple of two different labels, within the line length: subject, object and the modes that its access field says
 pub record Triple (text s o : List ℕ) (m : ℕ) : Type 0 where

@@ -1,4 +1,4 @@
-// What the demands say of tables grown from a fresh one, as contracts: these functions do nothing, and what each ensures is a theorem on the
+// Demand 2, and what holds of tables grown from a fresh one, as contracts: these functions do nothing, and what each ensures is a theorem on the
 // definitions. So the check names each of them, and a reader finds each by its name.
 ghost use mathlib.Core.Path.{_≡_};
 ghost use mathlib.Core.Bool.{Bool, true, false};
@@ -6,20 +6,26 @@ ghost use mathlib.Core.List.{List};
 ghost use mathlib.Core.Logic.{_↔_};
 ghost use Prim.Native.Nat.{ℕ};
 ghost use Rattle.store.specs.Table.{Table, labelIn};
-ghost use Rattle.store.specs.Layout.{Store, undamagedOf};
+ghost use Rattle.store.specs.Layout.{Store, tableOf, undamagedOf};
 ghost use Rattle.lines.specs.Lines.{rule, change, ruleOf, changeOf};
 ghost use Rattle.writes.specs.Writes.{judged, is-accepted, tableAfter, changed};
 ghost use Rattle.access.specs.Access.{effective};
 ghost use Rattle.listing.specs.Listing.{listing};
 ghost use Rattle.grown.specs.Grown.{Grown};
 ghost use Rattle.grown.specs.Sane.{Sane};
-ghost use Rattle.grown.specs.Pairs.{Triple, hasRoom, isAccepted, modesBetween, modesSoFar, SetsPair};
+ghost use Rattle.grown.specs.Pairs.{SoundTable, Triple, hasRoom, isAccepted, modesBetween, modesSoFar, SetsPair};
 ghost use Rattle.grown.specs.Order.{Asks, ByFirst};
 ghost use Rattle.grown.specs.Relisted.{LoadsBack, ListedByNumber};
 
 // What holds of every grown table.
 pub fn grown_is_sane()
     ensures { λ _. ⌜ ((t : Table) → Grown t → Sane t) ⌝ }
+{}
+
+// The claims on pairs are of every sound table: a grown one, and that of any undamaged state.
+pub fn grown_and_undamaged_are_sound()
+    ensures { λ _. ⌜ ((t : Table) → Grown t → SoundTable t) ⌝ }
+    ensures { λ _. ⌜ ((st : Store) → undamagedOf st ≡ true → SoundTable (tableOf st)) ⌝ }
 {}
 
 // Demand 2, first half: without an effective override, the first of the seven rules that applies decides.
@@ -30,7 +36,7 @@ pub fn demand_2_first_rule_decides()
 // Demand 2, second half: a well-formed triple of two different labels, within the line length and with room for it, sets its pair's modes
 // and changes no other pair's answer.
 pub fn demand_2_triple_sets_its_pair()
-    ensures { λ _. ⌜ ((t : Table) (line s o : List ℕ) (m : ℕ) → Grown t → Triple line s o m → hasRoom t s o ≡ true → SetsPair t (tableAfter t (judged t (ruleOf line))) s o m) ⌝ }
+    ensures { λ _. ⌜ ((t : Table) (line s o : List ℕ) (m : ℕ) → SoundTable t → Triple line s o m → hasRoom t s o ≡ true → SetsPair t (tableAfter t (judged t (ruleOf line))) s o m) ⌝ }
 {}
 
 // Such a triple is exactly what a line has to be to say a rule.
@@ -40,17 +46,17 @@ pub fn triple_is_a_rule_line()
 
 // It is accepted exactly where there is room.
 pub fn triple_accepted_with_room()
-    ensures { λ _. ⌜ ((t : Table) (line s o : List ℕ) (m : ℕ) → Grown t → Triple line s o m → isAccepted (judged t (ruleOf line)) ≡ hasRoom t s o) ⌝ }
+    ensures { λ _. ⌜ ((t : Table) (line s o : List ℕ) (m : ℕ) → SoundTable t → Triple line s o m → isAccepted (judged t (ruleOf line)) ≡ hasRoom t s o) ⌝ }
 {}
 
 // Any line that is accepted as a rule sets its pair's modes and changes no other pair's answer.
 pub fn accepted_line_sets_its_pair()
-    ensures { λ _. ⌜ ((t t′ : Table) (line s o : List ℕ) (m : ℕ) → Grown t → ruleOf line ≡ rule s o m → judged t (ruleOf line) ≡ is-accepted t′ → SetsPair t t′ s o m) ⌝ }
+    ensures { λ _. ⌜ ((t t′ : Table) (line s o : List ℕ) (m : ℕ) → SoundTable t → ruleOf line ≡ rule s o m → judged t (ruleOf line) ≡ is-accepted t′ → SetsPair t t′ s o m) ⌝ }
 {}
 
 // An accepted change leaves its pair with (old modes or allow) without deny, and changes no other pair's answer either.
 pub fn accepted_change_sets_its_pair()
-    ensures { λ _. ⌜ ((t t′ : Table) (text s o : List ℕ) (allow deny : ℕ) → Grown t → changeOf text ≡ change s o allow deny → judged t (changeOf text) ≡ is-accepted t′ → SetsPair t t′ s o (changed (modesSoFar (modesBetween t s o)) allow deny)) ⌝ }
+    ensures { λ _. ⌜ ((t t′ : Table) (text s o : List ℕ) (allow deny : ℕ) → SoundTable t → changeOf text ≡ change s o allow deny → judged t (changeOf text) ≡ is-accepted t′ → SetsPair t t′ s o (changed (modesSoFar (modesBetween t s o)) allow deny)) ⌝ }
 {}
 
 // Demand 2, last sentence: a listing of the rules, loaded into a fresh table, gives the same rules in the same order.

@@ -1,4 +1,4 @@
 pub mod Follows
-pub mod Trace
-pub mod Undivided
-pub mod Bridge
+pub mod Tables
+pub mod Steps
+pub mod Others

@@ -1,1 +1,3 @@
+pub mod Called
 pub mod Reader
+pub mod Tables

@@ -1,17 +1,31 @@
 -- 01, Rule text: the plain reader, 01's own term for the reference model of the loader. It holds the tables, a kept line of any length and
 -- the report's true numbers. It is fed only each call's kind and arguments. Nothing here names a lent slice or a limit of storage, but
--- for those of 01's tables and lines. Assumes nothing.
+-- for those of 01's tables and lines. Demand 3 speaks of pieces, end calls and questions; here are the other calls too, a single write of which acts at
+-- once. Assumes nothing.
 use Prim.Native.Nat.{ℕ, _+_, min}
-use mathlib.Core.Bool.{Bool, true, false, cond}
+use mathlib.Core.Bool.{Bool, true, cond}
 use mathlib.Core.List.{List, [], _∷_, _++_, foldl, map}
 use lib.ListN.{length}
 use lib.Dec.{ltb, eqb}
 use Rattle.reports.specs.Report.{countLimit}
-use Rattle.store.specs.Table.{Table}
-use Rattle.lines.specs.Lines.{ruleOf}
-use Rattle.writes.specs.Writes.{Judged, is-skipped, is-refused, is-accepted, judged, tableAfter}
-use Rattle.access.specs.Access.{answer}
-use Rattle.access.specs.declared.Answer.{Answer}
+use Rattle.store.specs.Table.{Table, labelNumbered}
+use Rattle.store.specs.declared.Done.{Done}
+use Rattle.store.specs.declared.Done.the-variants as d
+use Rattle.lines.specs.Lines.{ruleOf, changeOf}
+use Rattle.writes.specs.Writes.{Judged, is-skipped, is-refused, is-accepted, judged, tableAfter, doneOf}
+use Rattle.revoke.specs.Revoke.{revokeOf, revokeTable}
+use Rattle.revoke.specs.declared.Revoked.{Revoked}
+use Rattle.revoke.specs.declared.Revoked.the-variants as v
+use Rattle.onlycap.specs.Onlycap.{onlycapOf, onlycapTable}
+use Rattle.cipso.specs.Cipso.{answerBy, mappingOf, mappedTable}
+use Rattle.lookups.specs.Lookups.{labelLookup, levelLookup}
+use Rattle.listing.specs.Listing.{listRule, listRuleOut}
+use Rattle.access.specs.Access.{answer, shown}
+use Rattle.access.specs.declared.Shown.{Shown}
+use Rattle.answers.specs.Answers.{lookupShown, searchShown, listShown}
+use Rattle.answers.specs.declared.Mapped.{Mapped}
+use Rattle.answers.specs.declared.Lowest.{Lowest}
+use Rattle.answers.specs.declared.Length.{Length}
 
 -- the report's numbers, as they are; `first` and `reason` are the number (from 1) and reason of the first refused line, 0 where there is none
 pub record Totals : Type 0 where
@@ -83,28 +97,88 @@ limitedTotals c =
       reason = c .reason;
     }
 
--- ---- the three kinds of call, and what is answered
+-- ---- the calls, and what is answered
+
+-- 01, Single writes: each acts at once, also while a line is under way
+pub data Write : Type 0 where
+  change : List ℕ → Write
+  revoke : List ℕ → Write
+  onlycap : List ℕ → Write
+  mapping : List ℕ → Write
+
+-- the calls that write no table: a question (subject, object, request, and whether the asker has the capability), a mapping by label, by level and set,
+-- a rule by its number with the lent buffer, a label by its number, and the call beside it
+pub data Ask : Type 0 where
+  question : List ℕ → List ℕ → List ℕ → Bool → Ask
+  by-label : List ℕ → Ask
+  by-level : ℕ → ℕ → Ask
+  list-rule : ℕ → List ℕ → Ask
+  label : ℕ → Ask
+  label-check : ℕ → Ask
 
 pub data Call : Type 0 where
   piece : List ℕ → Call
   end-call : Call
-  question : List ℕ → List ℕ → List ℕ → Bool → Call
+  ask : Ask → Call
+  write : Write → Call
 
+-- what a host reads of an answer; where a call has no other form for it, a refusal is its number
 pub data Reply : Type 0 where
   done : Reply
-  report : Totals → Reply
-  answered : Answer → Reply
   refusal : ℕ → Reply
+  report : Totals → Reply
+  count : ℕ → Reply
+  answered : Shown → Reply
+  mapped : Mapped → Reply
+  lowest : Lowest → Reply
+  listed : Length → List ℕ → Reply
+  label-is : List ℕ → Reply
+
+abbrev pub doneReply : Done → Reply
+doneReply d.Done = done
+doneReply (d.Refused n) = refusal n
+
+abbrev pub countReply : Revoked → Reply
+countReply (v.Count k) = count k
+countReply (v.Refused n) = refusal n
+
+-- a single write: the tables after it, and its answer
+abbrev pub written : Table → Write → Table
+written t (change text) = tableAfter t (judged t (changeOf text))
+written t (revoke l) = revokeTable t l
+written t (onlycap text) = onlycapTable t text
+written t (mapping text) = mappedTable t text
+
+abbrev pub writeSays : Table → Write → Reply
+writeSays t (change text) = doneReply (doneOf (judged t (changeOf text)))
+writeSays t (revoke l) = countReply (revokeOf t l)
+writeSays t (onlycap text) = doneReply (onlycapOf t text)
+writeSays t (mapping text) = doneReply (answerBy t (mappingOf text))
+
+-- a call that writes no table
+abbrev pub askSays : Table → Ask → Reply
+askSays t (question s o r capable) = answered (shown (answer t s o r capable))
+askSays t (by-label l) = mapped (lookupShown (labelLookup t l))
+askSays t (by-level level set) = lowest (searchShown (levelLookup t level set))
+askSays t (list-rule k out) = listed (listShown (listRule t k out)) (listRuleOut t k out)
+askSays t (label k) = cond (ltb k (length (t .labels))) (label-is (labelNumbered t k)) (refusal 13)
+askSays t (label-check k) = cond (ltb k (length (t .labels))) done (refusal 13)
+
+-- a line under way stays under way: it is judged at its end, against the table as it then is
+abbrev pub writeOn : Reader → Write → Reader
+writeOn p w = record { table = written (p .table) w; kept = p .kept; totals = p .totals }
 
 abbrev pub after : Reader → Call → Reader
 after p (piece text) = takePiece p text
 after p end-call = startOn (finish p .table)
-after p (question s o r capable) = p
+after p (ask q) = p
+after p (write w) = writeOn p w
 
 abbrev pub says : Reader → Call → Reply
 says p (piece text) = done
 says p end-call = report (limitedTotals (finish p .totals))
-says p (question s o r capable) = answered (answer (p .table) s o r capable)
+says p (ask q) = askSays (p .table) q
+says p (write w) = writeSays (p .table) w
 
 abbrev pub afterAll : Reader → List Call → Reader
 afterAll p cs = foldl after p cs
@@ -113,38 +187,29 @@ abbrev pub saysAll : Reader → List Call → List Reply
 saysAll p [] = []
 saysAll p (c ∷ cs) = says p c ∷ saysAll (after p c) cs
 
--- ---- a list of calls with the cuts and the questions forgotten: its bytes and end calls, in order
+-- ---- a list of calls with the cuts and the questions forgotten: its bytes, end calls and single writes, in order
 
 pub data Event : Type 0 where
   byte : ℕ → Event
   stop : Event
+  wrote : Write → Event
 
 abbrev pub events : List Call → List Event
 events [] = []
 events (piece text ∷ cs) = map byte text ++ events cs
 events (end-call ∷ cs) = stop ∷ events cs
-events (question s o r capable ∷ cs) = events cs
+events (ask q ∷ cs) = events cs
+events (write w ∷ cs) = wrote w ∷ events cs
 
 -- the reports among the replies
 abbrev pub reports : List Reply → List Reply
 reports [] = []
 reports (done ∷ rs) = reports rs
-reports (report c ∷ rs) = report c ∷ reports rs
-reports (answered a ∷ rs) = reports rs
 reports (refusal n ∷ rs) = reports rs
-
--- the plain reader over these
-abbrev pub on : Reader → Event → Reader
-on p (byte b) = takeByte p b
-on p stop = startOn (finish p .table)
-
--- the events up to the last newline or end call
-abbrev pub keepLast : Bool → ℕ → List Event → List Event
-keepLast true b rest = byte b ∷ rest
-keepLast false b [] = []
-keepLast false b (e ∷ rest) = byte b ∷ e ∷ rest
-
-abbrev pub settled : List Event → List Event
-settled [] = []
-settled (stop ∷ es) = stop ∷ settled es
-settled (byte b ∷ es) = keepLast (eqb b 10) b (settled es)
+reports (report c ∷ rs) = report c ∷ reports rs
+reports (count k ∷ rs) = reports rs
+reports (answered a ∷ rs) = reports rs
+reports (mapped m ∷ rs) = reports rs
+reports (lowest l ∷ rs) = reports rs
+reports (listed n out ∷ rs) = reports rs
+reports (label-is l ∷ rs) = reports rs

@@ -1,3 +1,2 @@
-// Lists of calls (demand 3). This crate has no code: specs/Reader is 01's plain reader; proofs/Trace makes a list's steps of the contracts of the
-// very functions `load::piece`, `load::end` and `access::question`; proofs/Undivided holds every list to the plain reader. The claims are
-// named in the crate claims.
+// The plain reader (demand 3). This crate has no code: specs/Reader is 01's plain reader; specs/Called is one call of any function, as its caller knows it;
+// proofs/Follows holds the exact step of the lent loader to the plain reader. The lists of calls stand in the crate calls.

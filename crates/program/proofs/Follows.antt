@@ -22,10 +22,10 @@ use Rattle.access.specs.declared.Answer.the-variants.{Refused}
 use Rattle.load.specs.declared.Ended.{Ended}
 use Rattle.load.specs.declared.Ended.the-variants as e
 use Rattle.load.specs.Loader.{Load, load, pieceAnswer, pieceAfter, endAnswer, endAfter}
+use Rattle.lists.specs.Reader as reader
 use Rattle.lists.specs.Reader.{Totals, Reader, startOn, endLine, takeByte, takePiece, finish, limitedTotals, Reply, done, report, answered, refusal, says}
 use Rattle.lists.proofs.Follows.{Holds}
-use Rattle.lists.proofs.Trace.{end-reply}
-use Rattle.lists.proofs.Undivided.{piece-law, end-law, question-law}
+use Rattle.lists.proofs.Steps.{end-reply, piece-law, end-law, question-law}
 use Rattle.replies.specs.Replies.{asked, answerTo, answerLine}
 use Rattle.program_line.specs.Line.{isMark}
 use Rattle.program.specs.Program.{reportLine}
@@ -174,6 +174,11 @@ replyText done = []
 replyText (report c) = reportLine c
 replyText (answered a) = []
 replyText (refusal n) = []
+replyText (reader.count k) = []
+replyText (reader.mapped m) = []
+replyText (reader.lowest l) = []
+replyText (reader.listed n out) = []
+replyText (reader.label-is l) = []
 
 ended-text : (r : Ended) → endedText r ≡ replyText (end-reply r)
 unfolding replyText reportLine

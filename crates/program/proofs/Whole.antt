@@ -21,8 +21,8 @@ use Rattle.load.specs.Loader.{load, ready, endAnswer, endAfter}
 use Rattle.lists.specs.Reader.{Reader, startOn, takeByte, takePiece, finish, limitedTotals}
 use Rattle.load.proofs.Laws.{is-ready}
 use Rattle.lists.proofs.Follows.{Holds, fresh-holds}
-use Rattle.lists.proofs.Undivided.{end-law}
-use Rattle.lists.proofs.Trace.{Called}
+use Rattle.lists.proofs.Steps.{end-law}
+use Rattle.lists.specs.Called.{Called}
 use Rattle.program.proofs.begin.Kinds as begin-kinds
 use Rattle.program.proofs.begin.Reads as begin-reads
 use Rattle.program.proofs.feed.Kinds as feed-kinds

@@ -1,5 +1,5 @@
 -- Each call's table law. Assumes nothing.
-use Rattle.claims.proofs.Tables.{tables-follow}
+use Rattle.lists.proofs.Tables.{tables-follow}
 use Rattle.claims.proofs.tables_follow.Statement.{statement}
 use Rattle.claims.proofs.tables_follow.Tie as tie
 

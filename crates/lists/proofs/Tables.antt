@@ -14,12 +14,12 @@ use Rattle.store.specs.Layout.{Store, tableOf, undamagedOf, fullSizes, freshAns
 use Rattle.store.proofs.Laws.{undamaged-is, is-undamaged, fresh-is, fresh-undamaged}
 use Rattle.lines.specs.Lines.{changeOf}
 use Rattle.lines.proofs.Laws.{change-sound}
-use Rattle.writes.specs.Writes.{saidStored, changeStore}
+use Rattle.writes.specs.Writes.{judged, stored, changeStore}
 use Rattle.writes.proofs.Laws.{said-table, said-undamaged, line-table, line-undamaged}
-use Rattle.revoke.proofs.Laws.{revoke-table, revoke-undamaged}
-use Rattle.onlycap.proofs.Laws.{onlycap-table, onlycap-undamaged}
+use Rattle.revoke.proofs.Laid.{revoke-table, revoke-undamaged}
+use Rattle.onlycap.proofs.Laid.{onlycap-table, onlycap-undamaged}
 use Rattle.cipso.proofs.Laws.{map-table, map-undamaged}
-use Rattle.claims.specs.Tables.{Leaves, TablesFollow}
+use Rattle.lists.specs.Tables.{Leaves, TablesFollow}
 
 full : (st : Store) → freshAnswer st ≡ d.Done → Sizes (st .labels) (st .entries) (st .words)
 unfolding freshAnswer
@@ -32,7 +32,7 @@ full st q = by-test (fullSizes st) refl q
         record { labels = eqb-true _ _ (a .0); entries = eqb-true _ _ (b .0); words = eqb-true _ _ (b .1) }
     by-test false e q = let z : _≡_ {A = ℕ} 0 1 = cc in absurd (omega arith)
 
-change-is : (st : Store) (text : List ℕ) → undamagedOf st ≡ true → changeStore st text ≡ saidStored st (changeOf text)
+change-is : (st : Store) (text : List ℕ) → undamagedOf st ≡ true → changeStore st text ≡ stored st (judged (tableOf st) (changeOf text))
 unfolding changeStore
 change-is st text u = rw u
 
@@ -49,10 +49,10 @@ tables-follow =
           };
       revoke =
           λ st label u.
-          record { table = revoke-table st label (undamaged-is st u); undamaged = is-undamaged _ (revoke-undamaged st label (undamaged-is st u)) };
+          record { table = revoke-table st (undamaged-is st u) label; undamaged = revoke-undamaged st (undamaged-is st u) label };
       onlycap =
           λ st text u.
-          record { table = onlycap-table st text (undamaged-is st u); undamaged = is-undamaged _ (onlycap-undamaged st text (undamaged-is st u)) };
+          record { table = onlycap-table st text (undamaged-is st u); undamaged = onlycap-undamaged st text (undamaged-is st u) };
       mapping =
           λ st text u.
           record { table = map-table st (undamaged-is st u) text; undamaged = is-undamaged _ (map-undamaged st (undamaged-is st u) text) };

@@ -1,0 +1,358 @@
+-- Two things that the list of calls rests on. The compiled routine of each exported function is known to its callers at the very `Asked` and `Learnt` that
+-- specs/Calls is made of. And from every state every list of calls has a run, so that demand 3 does not speak of nothing. Assumes nothing.
+use Prim.Native.Nat.{ℕ, _*_, _+_, _<_}
+use native.Mathlib.Omega.{arith}
+use mathlib.Core.Path.{_≡_, refl, sym, ap, _∙_}
+use mathlib.Core.Bool.{Bool, true, false, cond}
+use mathlib.Core.List.{List, [], _∷_}
+use lib.ListN.{length, take, drop}
+use denote.Ref.{RefT}
+use prog.Routine.{Env, Name, Routine}
+use contract.Running.{givenOf}
+use borrow.Fn.Kinds.{PK, RK, In, Out}
+use borrow.Fn.Run.{Over}
+use borrow.Fn.Plain.{Known}
+use borrow.Fn.World.{World}
+use Rattle.host.proofs.bq_piece.Kinds as piece-kinds
+use Rattle.host.proofs.bq_piece.Reads as piece-reads
+use Rattle.host.proofs.bq_piece.Symbol as piece-symbol
+use Rattle.host.proofs.bq_piece.Met as piece-met
+use Rattle.host.proofs.bq_end.Kinds as end-kinds
+use Rattle.host.proofs.bq_end.Reads as end-reads
+use Rattle.host.proofs.bq_end.Symbol as end-symbol
+use Rattle.host.proofs.bq_end.Met as end-met
+use Rattle.host.proofs.bq_question.Kinds as question-kinds
+use Rattle.host.proofs.bq_question.Reads as question-reads
+use Rattle.host.proofs.bq_question.Symbol as question-symbol
+use Rattle.host.proofs.bq_question.Met as question-met
+use Rattle.host.proofs.bq_change.Kinds as change-kinds
+use Rattle.host.proofs.bq_change.Reads as change-reads
+use Rattle.host.proofs.bq_change.Symbol as change-symbol
+use Rattle.host.proofs.bq_change.Met as change-met
+use Rattle.host.proofs.bq_revoke.Kinds as revoke-kinds
+use Rattle.host.proofs.bq_revoke.Reads as revoke-reads
+use Rattle.host.proofs.bq_revoke.Symbol as revoke-symbol
+use Rattle.host.proofs.bq_revoke.Met as revoke-met
+use Rattle.host.proofs.bq_onlycap.Kinds as onlycap-kinds
+use Rattle.host.proofs.bq_onlycap.Reads as onlycap-reads
+use Rattle.host.proofs.bq_onlycap.Symbol as onlycap-symbol
+use Rattle.host.proofs.bq_onlycap.Met as onlycap-met
+use Rattle.host.proofs.bq_mapping.Kinds as mapping-kinds
+use Rattle.host.proofs.bq_mapping.Reads as mapping-reads
+use Rattle.host.proofs.bq_mapping.Symbol as mapping-symbol
+use Rattle.host.proofs.bq_mapping.Met as mapping-met
+use Rattle.host.proofs.bq_by_label.Kinds as by-label-kinds
+use Rattle.host.proofs.bq_by_label.Reads as by-label-reads
+use Rattle.host.proofs.bq_by_label.Symbol as by-label-symbol
+use Rattle.host.proofs.bq_by_label.Met as by-label-met
+use Rattle.host.proofs.bq_by_level.Kinds as by-level-kinds
+use Rattle.host.proofs.bq_by_level.Reads as by-level-reads
+use Rattle.host.proofs.bq_by_level.Symbol as by-level-symbol
+use Rattle.host.proofs.bq_by_level.Met as by-level-met
+use Rattle.host.proofs.bq_list_rule.Kinds as list-rule-kinds
+use Rattle.host.proofs.bq_list_rule.Reads as list-rule-reads
+use Rattle.host.proofs.bq_list_rule.Symbol as list-rule-symbol
+use Rattle.host.proofs.bq_list_rule.Met as list-rule-met
+use Rattle.host.proofs.bq_label_check.Kinds as label-check-kinds
+use Rattle.host.proofs.bq_label_check.Reads as label-check-reads
+use Rattle.host.proofs.bq_label_check.Symbol as label-check-symbol
+use Rattle.host.proofs.bq_label_check.Met as label-check-met
+use Rattle.host.proofs.bq_label.Kinds as label-kinds
+use Rattle.host.proofs.bq_label.Reads as label-reads
+use Rattle.host.proofs.bq_label.Symbol as label-symbol
+use Rattle.host.proofs.bq_label.Met as label-met
+use Rattle.store.specs.declared.Done.{Done}
+use Rattle.store.specs.declared.Done.the-variants as d
+use Rattle.store.specs.Layout.{Store, store}
+use Rattle.writes.specs.Writes.{changeAnswer, changeStore}
+use Rattle.revoke.specs.Revoke.{revokeAnswer, revokeEntries}
+use Rattle.onlycap.specs.Onlycap.{onlycapAnswer, onlycapStore}
+use Rattle.cipso.specs.Cipso.{mapAnswer, mapStored}
+use Rattle.lookups.specs.Lookups.{byLabelOf, byLevelOf}
+use Rattle.listing.specs.Listing.{listAnswer, listOut, labelGiven, labelAnswer}
+use Rattle.access.specs.Access.{questionOf, shown}
+use Rattle.reports.specs.declared.Loader.{Loader}
+use Rattle.reports.specs.Report.{freshLoader, reportOf}
+use Rattle.load.specs.declared.Fed.the-variants as f
+use Rattle.load.specs.declared.Ended.the-variants as e
+use Rattle.load.specs.Loader.{Load, load, ready, stepPiece, stepEnd, pieceAnswer, pieceAfter, endAnswer, endAfter}
+use Rattle.answers.specs.Answers.{writeShown, revokeShown, pieceShown, endShown, listShown, lookupShown, searchShown, partShown}
+use Rattle.listing.proofs.Laws.{label-done, label-is, label-refused}
+use Rattle.host.proofs.Laws.{label-stands}
+use Rattle.lists.specs.Reader as r
+use Rattle.lists.specs.Reader.{Call, Reply}
+use Rattle.calls.specs.Calls as c
+use Rattle.calls.specs.Calls.{Runs, none, a-piece, an-end, a-question, a-change, a-revoke, an-onlycap, a-mapping, a-look-up, a-search, a-listing, a-label, a-check, taken-reply, finished-reply, written-reply, counted-reply, part-reply}
+
+-- ---- the routines
+
+-- the routine ρ, under any name in any environment, is known at P and Q
+abbrev pub Real : (n : ℕ) (ps : List (PK n)) (r : RK n) → In n ps → Out n ps r → Routine → Type 2
+Real n ps r P Q ρ =
+    (w : World) (γ : Env) (k : Name) →
+    γ k ≡ ρ →
+    Known (w .𝓤) (w .H) (w .𝓖 .A) (givenOf (w .𝓤) (w .H) (w .𝓜) (w .𝓖)) (Over (w .𝓤) (w .H) (w .𝓜) (w .𝓖) (w .𝓡) γ) n ps r P Q k
+
+pub real-piece : Real 5 piece-kinds.ps piece-kinds.r piece-reads.Asked piece-reads.Learnt piece-symbol.routine
+real-piece w γ k e = piece-reads.known w γ k piece-symbol.routine e (piece-met.met (w .𝓤) (w .H) (w .𝓜) (w .𝓖) (w .𝓡))
+
+pub real-end : Real 4 end-kinds.ps end-kinds.r end-reads.Asked end-reads.Learnt end-symbol.routine
+real-end w γ k e = end-reads.known w γ k end-symbol.routine e (end-met.met (w .𝓤) (w .H) (w .𝓜) (w .𝓖) (w .𝓡))
+
+pub real-question : Real 6 question-kinds.ps question-kinds.r question-reads.Asked question-reads.Learnt question-symbol.routine
+real-question w γ k e = question-reads.known w γ k question-symbol.routine e (question-met.met (w .𝓤) (w .H) (w .𝓜) (w .𝓖) (w .𝓡))
+
+pub real-change : Real 4 change-kinds.ps change-kinds.r change-reads.Asked change-reads.Learnt change-symbol.routine
+real-change w γ k e = change-reads.known w γ k change-symbol.routine e (change-met.met (w .𝓤) (w .H) (w .𝓜) (w .𝓖) (w .𝓡))
+
+pub real-revoke : Real 4 revoke-kinds.ps revoke-kinds.r revoke-reads.Asked revoke-reads.Learnt revoke-symbol.routine
+real-revoke w γ k e = revoke-reads.known w γ k revoke-symbol.routine e (revoke-met.met (w .𝓤) (w .H) (w .𝓜) (w .𝓖) (w .𝓡))
+
+pub real-onlycap : Real 4 onlycap-kinds.ps onlycap-kinds.r onlycap-reads.Asked onlycap-reads.Learnt onlycap-symbol.routine
+real-onlycap w γ k e = onlycap-reads.known w γ k onlycap-symbol.routine e (onlycap-met.met (w .𝓤) (w .H) (w .𝓜) (w .𝓖) (w .𝓡))
+
+pub real-mapping : Real 4 mapping-kinds.ps mapping-kinds.r mapping-reads.Asked mapping-reads.Learnt mapping-symbol.routine
+real-mapping w γ k e = mapping-reads.known w γ k mapping-symbol.routine e (mapping-met.met (w .𝓤) (w .H) (w .𝓜) (w .𝓖) (w .𝓡))
+
+pub real-by-label : Real 4 by-label-kinds.ps by-label-kinds.r by-label-reads.Asked by-label-reads.Learnt by-label-symbol.routine
+real-by-label w γ k e = by-label-reads.known w γ k by-label-symbol.routine e (by-label-met.met (w .𝓤) (w .H) (w .𝓜) (w .𝓖) (w .𝓡))
+
+pub real-by-level : Real 3 by-level-kinds.ps by-level-kinds.r by-level-reads.Asked by-level-reads.Learnt by-level-symbol.routine
+real-by-level w γ k e = by-level-reads.known w γ k by-level-symbol.routine e (by-level-met.met (w .𝓤) (w .H) (w .𝓜) (w .𝓖) (w .𝓡))
+
+pub real-list-rule : Real 4 list-rule-kinds.ps list-rule-kinds.r list-rule-reads.Asked list-rule-reads.Learnt list-rule-symbol.routine
+real-list-rule w γ k e = list-rule-reads.known w γ k list-rule-symbol.routine e (list-rule-met.met (w .𝓤) (w .H) (w .𝓜) (w .𝓖) (w .𝓡))
+
+pub real-label-check : Real 3 label-check-kinds.ps label-check-kinds.r label-check-reads.Asked label-check-reads.Learnt label-check-symbol.routine
+real-label-check w γ k e = label-check-reads.known w γ k label-check-symbol.routine e (label-check-met.met (w .𝓤) (w .H) (w .𝓜) (w .𝓖) (w .𝓡))
+
+pub real-label : Real 3 label-kinds.ps label-kinds.r label-reads.Asked label-reads.Learnt label-symbol.routine
+real-label w γ k e = label-reads.known w γ k label-symbol.routine e (label-met.met (w .𝓤) (w .H) (w .𝓜) (w .𝓖) (w .𝓡))
+
+-- ---- a run of every list
+
+-- the loader that a caller goes on with is the state's
+piece-loader : (s : Load) (text : List ℕ) → pieceShown (s .loader) (pieceAnswer s text) .loader ≡ pieceAfter s text .loader
+unfolding pieceAnswer pieceAfter
+piece-loader s text = by-test (ready s)
+  where
+    by-test : (b : Bool) → pieceShown (s .loader) (cond b (f.Done (stepPiece s text .loader)) (f.Refused 0)) .loader ≡ cond b (stepPiece s text) s .loader
+    by-test true = refl
+    by-test false = refl
+
+end-loader : (s : Load) → endShown (s .loader) (endAnswer s) .loader ≡ endAfter s .loader
+unfolding endAnswer endAfter
+end-loader s = by-test (ready s)
+  where
+    by-test :
+        (b : Bool) →
+        endShown (s .loader) (cond b (e.Report (reportOf (stepEnd s .loader)) freshLoader) (e.Refused 0)) .loader
+        ≡ cond b (load (stepEnd s .store) (stepEnd s .line) freshLoader) s .loader
+    by-test true = refl
+    by-test false = refl
+
+with-loader : (s : Load) {l : Loader} → l ≡ s .loader → load (s .store) (s .line) l ≡ s
+with-loader s e = rw e
+
+-- what stands where a label's part is said to stand is the label
+label-given : (st : Store) (k : ℕ) → take (partShown k (length (labelGiven st k)) (labelAnswer st k) .length) (drop (partShown k (length (labelGiven st k)) (labelAnswer st k) .start) (st .labels)) ≡ labelGiven st k
+label-given st k = by-answer (labelAnswer st k) refl
+  where
+    by-answer :
+        (x : Done) →
+        labelAnswer st k ≡ x →
+        take (partShown k (length (labelGiven st k)) x .length) (drop (partShown k (length (labelGiven st k)) x .start) (st .labels)) ≡ labelGiven st k
+    by-answer d.Done e =
+        let h = label-done st k e in
+        let few : k < 64 = omega (arith, h .1, h .0 .counts .labels) in
+        ap (λ (x : List ℕ). take (length x) (drop (k * 256 + 1) (st .labels))) (sym (label-is st k (h .0) (h .1)))
+        ∙ label-stands (st .labels) k (h .0 .sizes .labels) few
+        ∙ label-is st k (h .0) (h .1)
+    by-answer (d.Refused j) e = label-refused st k j e
+
+-- calls within the contracts, from any state
+abbrev ref : {X : Type 0} → X → RefT X
+ref x = record { ptr = (0, 0); name = 0; now = x }
+
+abbrev piece-call : (s : Load) (text : List ℕ) → c.Called-piece
+piece-call s text =
+    record {
+      lifetimes = ([], ([], ([], ([], ([], tt)))));
+      args = (ref (s .store .labels), (ref (s .store .entries), (ref (s .store .words), (ref (s .line), (s .loader, (ref text, tt))))));
+      asked = tt;
+      result = pieceShown (s .loader) (pieceAnswer s text);
+      last = (pieceAfter s text .store .labels, (pieceAfter s text .store .entries, (pieceAfter s text .store .words, (pieceAfter s text .line, (tt, (tt, tt))))));
+      ensures = (refl, with-loader (pieceAfter s text) (piece-loader s text));
+    }
+
+abbrev end-call : (s : Load) → c.Called-end
+end-call s =
+    record {
+      lifetimes = ([], ([], ([], ([], tt))));
+      args = (ref (s .store .labels), (ref (s .store .entries), (ref (s .store .words), (ref (s .line), (s .loader, tt)))));
+      asked = tt;
+      result = endShown (s .loader) (endAnswer s);
+      last = (endAfter s .store .labels, (endAfter s .store .entries, (endAfter s .store .words, (endAfter s .line, (tt, tt)))));
+      ensures = (refl, with-loader (endAfter s) (end-loader s));
+    }
+
+abbrev question-call : (st : Store) (x o request : List ℕ) (capable : Bool) → c.Called-question
+question-call st x o request capable =
+    record {
+      lifetimes = ([], ([], ([], ([], ([], ([], tt))))));
+      args = (ref (st .labels), (ref (st .entries), (ref (st .words), (ref x, (ref o, (ref request, (capable, tt)))))));
+      asked = tt;
+      result = shown (questionOf st x o request capable);
+      last = (tt, (tt, (tt, (tt, (tt, (tt, (tt, tt)))))));
+      ensures = refl;
+    }
+
+abbrev change-call : (st : Store) (text : List ℕ) → c.Called-change
+change-call st text =
+    record {
+      lifetimes = ([], ([], ([], ([], tt))));
+      args = (ref (st .labels), (ref (st .entries), (ref (st .words), (ref text, tt))));
+      asked = tt;
+      result = writeShown (changeAnswer st text);
+      last = (changeStore st text .labels, (changeStore st text .entries, (changeStore st text .words, (tt, tt))));
+      ensures = (refl, refl);
+    }
+
+abbrev onlycap-call : (st : Store) (text : List ℕ) → c.Called-onlycap
+onlycap-call st text =
+    record {
+      lifetimes = ([], ([], ([], ([], tt))));
+      args = (ref (st .labels), (ref (st .entries), (ref (st .words), (ref text, tt))));
+      asked = tt;
+      result = writeShown (onlycapAnswer st text);
+      last = (onlycapStore st text .labels, (onlycapStore st text .entries, (onlycapStore st text .words, (tt, tt))));
+      ensures = (refl, refl);
+    }
+
+abbrev mapping-call : (st : Store) (text : List ℕ) → c.Called-mapping
+mapping-call st text =
+    record {
+      lifetimes = ([], ([], ([], ([], tt))));
+      args = (ref (st .labels), (ref (st .entries), (ref (st .words), (ref text, tt))));
+      asked = tt;
+      result = writeShown (mapAnswer st text);
+      last = (mapStored st text .labels, (mapStored st text .entries, (mapStored st text .words, (tt, tt))));
+      ensures = (refl, refl);
+    }
+
+abbrev revoke-call : (st : Store) (l : List ℕ) → c.Called-revoke
+revoke-call st l =
+    record {
+      lifetimes = ([], ([], ([], ([], tt))));
+      args = (ref (st .labels), (ref (st .entries), (ref (st .words), (ref l, tt))));
+      asked = tt;
+      result = revokeShown (revokeAnswer st l);
+      last = (tt, (revokeEntries st l, (tt, (tt, tt))));
+      ensures = (refl, refl);
+    }
+
+abbrev by-label-call : (st : Store) (l : List ℕ) → c.Called-by-label
+by-label-call st l =
+    record {
+      lifetimes = ([], ([], ([], ([], tt))));
+      args = (ref (st .labels), (ref (st .entries), (ref (st .words), (ref l, tt))));
+      asked = tt;
+      result = lookupShown (byLabelOf st l);
+      last = (tt, (tt, (tt, (tt, tt))));
+      ensures = refl;
+    }
+
+abbrev by-level-call : (st : Store) (level set : ℕ) → c.Called-by-level
+by-level-call st level set =
+    record {
+      lifetimes = ([], ([], ([], tt)));
+      args = (ref (st .labels), (ref (st .entries), (ref (st .words), (level, (set, tt)))));
+      asked = tt;
+      result = searchShown (byLevelOf st level set);
+      last = (tt, (tt, (tt, (tt, (tt, tt)))));
+      ensures = refl;
+    }
+
+abbrev list-rule-call : (st : Store) (k : ℕ) (out : List ℕ) → c.Called-list-rule
+list-rule-call st k out =
+    record {
+      lifetimes = ([], ([], ([], ([], tt))));
+      args = (ref (st .labels), (ref (st .entries), (ref (st .words), (k, (ref out, tt)))));
+      asked = tt;
+      result = listShown (listAnswer st k out);
+      last = (tt, (tt, (tt, (tt, (listOut st k out, tt)))));
+      ensures = (refl, refl);
+    }
+
+abbrev label-check-call : (st : Store) (k : ℕ) → c.Called-label-check
+label-check-call st k =
+    record {
+      lifetimes = ([], ([], ([], tt)));
+      args = (ref (st .labels), (ref (st .entries), (ref (st .words), (k, tt))));
+      asked = tt;
+      result = writeShown (labelAnswer st k);
+      last = (tt, (tt, (tt, (tt, tt))));
+      ensures = refl;
+    }
+
+abbrev label-call : (st : Store) (k : ℕ) → c.Called-label
+label-call st k =
+    record {
+      lifetimes = ([], ([], ([], tt)));
+      args = (ref (st .labels), (ref (st .entries), (ref (st .words), (k, tt))));
+      asked = tt;
+      result = partShown k (length (labelGiven st k)) (labelAnswer st k);
+      last = (tt, (tt, (tt, (tt, tt))));
+      ensures = (refl, label-given st k);
+    }
+
+pub runs : (l e w line : List ℕ) (loader : Loader) (cs : List Call) → (rs : List Reply) × (s′ : Load) × Runs (load (store l e w) line loader) cs rs s′
+runs l e w line loader [] = ([], load (store l e w) line loader, none)
+runs l e w line loader (r.piece text ∷ cs) =
+    let k = piece-call (load (store l e w) line loader) text in
+    let rest = runs (k .last .0) (k .last .1 .0) (k .last .1 .1 .0) (k .last .1 .1 .1 .0) (k .result .loader) cs in
+    (taken-reply (k .result) ∷ rest .0, rest .1, a-piece k (rest .2))
+runs l e w line loader (r.end-call ∷ cs) =
+    let k = end-call (load (store l e w) line loader) in
+    let rest = runs (k .last .0) (k .last .1 .0) (k .last .1 .1 .0) (k .last .1 .1 .1 .0) (k .result .loader) cs in
+    (finished-reply (k .result) ∷ rest .0, rest .1, an-end k (rest .2))
+runs l e w line loader (r.ask (r.question x o request capable) ∷ cs) =
+    let k = question-call (store l e w) x o request capable in
+    let rest = runs l e w line loader cs in
+    (r.answered (k .result) ∷ rest .0, rest .1, a-question k {line = line} {loader = loader} (rest .2))
+runs l e w line loader (r.ask (r.by-label x) ∷ cs) =
+    let k = by-label-call (store l e w) x in
+    let rest = runs l e w line loader cs in
+    (r.mapped (k .result) ∷ rest .0, rest .1, a-look-up k {line = line} {loader = loader} (rest .2))
+runs l e w line loader (r.ask (r.by-level level set) ∷ cs) =
+    let k = by-level-call (store l e w) level set in
+    let rest = runs l e w line loader cs in
+    (r.lowest (k .result) ∷ rest .0, rest .1, a-search k {line = line} {loader = loader} (rest .2))
+runs l e w line loader (r.ask (r.list-rule n out) ∷ cs) =
+    let k = list-rule-call (store l e w) n out in
+    let rest = runs l e w line loader cs in
+    (r.listed (k .result) (k .last .1 .1 .1 .1 .0) ∷ rest .0, rest .1, a-listing k {line = line} {loader = loader} (rest .2))
+runs l e w line loader (r.ask (r.label n) ∷ cs) =
+    let k = label-call (store l e w) n in
+    let rest = runs l e w line loader cs in
+    (part-reply (k .result) l ∷ rest .0, rest .1, a-label k {line = line} {loader = loader} (rest .2))
+runs l e w line loader (r.ask (r.label-check n) ∷ cs) =
+    let k = label-check-call (store l e w) n in
+    let rest = runs l e w line loader cs in
+    (written-reply (k .result) ∷ rest .0, rest .1, a-check k {line = line} {loader = loader} (rest .2))
+runs l e w line loader (r.write (r.change text) ∷ cs) =
+    let k = change-call (store l e w) text in
+    let rest = runs (k .last .0) (k .last .1 .0) (k .last .1 .1 .0) line loader cs in
+    (written-reply (k .result) ∷ rest .0, rest .1, a-change k {line = line} {loader = loader} (rest .2))
+runs l e w line loader (r.write (r.revoke x) ∷ cs) =
+    let k = revoke-call (store l e w) x in
+    let rest = runs l (k .last .1 .0) w line loader cs in
+    (counted-reply (k .result) ∷ rest .0, rest .1, a-revoke k {line = line} {loader = loader} (rest .2))
+runs l e w line loader (r.write (r.onlycap text) ∷ cs) =
+    let k = onlycap-call (store l e w) text in
+    let rest = runs (k .last .0) (k .last .1 .0) (k .last .1 .1 .0) line loader cs in
+    (written-reply (k .result) ∷ rest .0, rest .1, an-onlycap k {line = line} {loader = loader} (rest .2))
+runs l e w line loader (r.write (r.mapping text) ∷ cs) =
+    let k = mapping-call (store l e w) text in
+    let rest = runs (k .last .0) (k .last .1 .0) (k .last .1 .1 .0) line loader cs in
+    (written-reply (k .result) ∷ rest .0, rest .1, a-mapping k {line = line} {loader = loader} (rest .2))

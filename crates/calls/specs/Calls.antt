@@ -1,0 +1,165 @@
+-- A list of calls of the functions that crates/host exports, which are what a C or Rust program links, as their caller knows it. Nothing here says what a
+-- function does: that comes from each function's own `Reads`, which Rattle makes of its `requires` and `ensures`. Assumes nothing.
+use Prim.Native.Nat.{ℕ}
+use mathlib.Core.Path.{_≡_}
+use mathlib.Core.Bool.{true, cond}
+use mathlib.Core.List.{List, [], _∷_}
+use lib.ListN.{length, take, drop}
+use denote.Ref.{now}
+use Rattle.host.proofs.bq_piece.Kinds as piece-kinds
+use Rattle.host.proofs.bq_piece.Reads as piece-reads
+use Rattle.host.proofs.bq_end.Kinds as end-kinds
+use Rattle.host.proofs.bq_end.Reads as end-reads
+use Rattle.host.proofs.bq_question.Kinds as question-kinds
+use Rattle.host.proofs.bq_question.Reads as question-reads
+use Rattle.host.proofs.bq_change.Kinds as change-kinds
+use Rattle.host.proofs.bq_change.Reads as change-reads
+use Rattle.host.proofs.bq_revoke.Kinds as revoke-kinds
+use Rattle.host.proofs.bq_revoke.Reads as revoke-reads
+use Rattle.host.proofs.bq_onlycap.Kinds as onlycap-kinds
+use Rattle.host.proofs.bq_onlycap.Reads as onlycap-reads
+use Rattle.host.proofs.bq_mapping.Kinds as mapping-kinds
+use Rattle.host.proofs.bq_mapping.Reads as mapping-reads
+use Rattle.host.proofs.bq_by_label.Kinds as by-label-kinds
+use Rattle.host.proofs.bq_by_label.Reads as by-label-reads
+use Rattle.host.proofs.bq_by_level.Kinds as by-level-kinds
+use Rattle.host.proofs.bq_by_level.Reads as by-level-reads
+use Rattle.host.proofs.bq_list_rule.Kinds as list-rule-kinds
+use Rattle.host.proofs.bq_list_rule.Reads as list-rule-reads
+use Rattle.host.proofs.bq_label_check.Kinds as label-check-kinds
+use Rattle.host.proofs.bq_label_check.Reads as label-check-reads
+use Rattle.host.proofs.bq_label.Kinds as label-kinds
+use Rattle.host.proofs.bq_label.Reads as label-reads
+use Rattle.alphabet.specs.Alphabet.{lineLimit}
+use Rattle.store.specs.Layout.{store, undamagedOf}
+use Rattle.reports.specs.declared.Loader.{Loader}
+use Rattle.reports.specs.declared.Report.{Report}
+use Rattle.reports.specs.Report.{freshLoader}
+use Rattle.load.specs.Loader.{Load, load}
+use Rattle.answers.specs.declared.Written.{Written}
+use Rattle.answers.specs.declared.Counted.{Counted}
+use Rattle.answers.specs.declared.Taken.{Taken}
+use Rattle.answers.specs.declared.Finished.{Finished}
+use Rattle.answers.specs.declared.Part.{Part}
+use Rattle.lists.specs.Called.{Called, first, second, third, fourth, fifth, sixth, seventh, lent, left, loading, loaded}
+use Rattle.lists.specs.Reader as r
+use Rattle.lists.specs.Reader.{Totals, Call, Reply}
+
+abbrev pub Called-piece : Type 0
+Called-piece = Called piece-kinds.ps piece-kinds.r piece-reads.Asked piece-reads.Learnt
+
+abbrev pub Called-end : Type 0
+Called-end = Called end-kinds.ps end-kinds.r end-reads.Asked end-reads.Learnt
+
+abbrev pub Called-question : Type 0
+Called-question = Called question-kinds.ps question-kinds.r question-reads.Asked question-reads.Learnt
+
+abbrev pub Called-change : Type 0
+Called-change = Called change-kinds.ps change-kinds.r change-reads.Asked change-reads.Learnt
+
+abbrev pub Called-revoke : Type 0
+Called-revoke = Called revoke-kinds.ps revoke-kinds.r revoke-reads.Asked revoke-reads.Learnt
+
+abbrev pub Called-onlycap : Type 0
+Called-onlycap = Called onlycap-kinds.ps onlycap-kinds.r onlycap-reads.Asked onlycap-reads.Learnt
+
+abbrev pub Called-mapping : Type 0
+Called-mapping = Called mapping-kinds.ps mapping-kinds.r mapping-reads.Asked mapping-reads.Learnt
+
+abbrev pub Called-by-label : Type 0
+Called-by-label = Called by-label-kinds.ps by-label-kinds.r by-label-reads.Asked by-label-reads.Learnt
+
+abbrev pub Called-by-level : Type 0
+Called-by-level = Called by-level-kinds.ps by-level-kinds.r by-level-reads.Asked by-level-reads.Learnt
+
+abbrev pub Called-list-rule : Type 0
+Called-list-rule = Called list-rule-kinds.ps list-rule-kinds.r list-rule-reads.Asked list-rule-reads.Learnt
+
+abbrev pub Called-label-check : Type 0
+Called-label-check = Called label-check-kinds.ps label-check-kinds.r label-check-reads.Asked label-check-reads.Learnt
+
+abbrev pub Called-label : Type 0
+Called-label = Called label-kinds.ps label-kinds.r label-reads.Asked label-reads.Learnt
+
+-- ---- what a list begins with: a table that is undamaged, a line of full size, and a fresh loader. The state between two calls is a `Load`: the three slices of the
+-- tables, that of the line, and the loader
+
+pub record Fresh (s : Load) : Type 0 where
+  pub undamaged : undamagedOf (s .store) ≡ true
+  pub line : length (s .line) ≡ lineLimit
+  pub loader : s .loader ≡ freshLoader
+
+-- ---- what a host reads of an answer: where it is refused the number, and otherwise the values
+
+abbrev pub taken-reply : Taken → Reply
+taken-reply a = cond (a .refused) (r.refusal (a .number)) r.done
+
+abbrev pub totals-of : Report → Totals
+totals-of a = record { lines = a .lines; accepted = a .accepted; skipped = a .skipped; refused = a .refused; first = a .first; reason = a .reason }
+
+abbrev pub finished-reply : Finished → Reply
+finished-reply a = cond (a .refused) (r.refusal (a .number)) (r.report (totals-of (a .report)))
+
+abbrev pub written-reply : Written → Reply
+written-reply a = cond (a .refused) (r.refusal (a .number)) r.done
+
+abbrev pub counted-reply : Counted → Reply
+counted-reply a = cond (a .refused) (r.refusal (a .number)) (r.count (a .count))
+
+-- a label by its number is what stands there in the lent labels
+abbrev pub part-reply : Part → List ℕ → Reply
+part-reply a labels = cond (a .refused) (r.refusal (a .number)) (r.label-is (take (a .length) (drop (a .start) labels)))
+
+-- ---- every list of calls, each made from the state that the one before it left. A call that takes no loader is made beside a line under way, whose bytes and loader
+-- stay as they are; and what is lent by `&` has no last value, and is as it was
+
+pub data Runs : Load → List Call → List Reply → Load → Type 0 where
+  none : {s : Load} → Runs s [] [] s
+  a-piece :
+      (k : Called-piece) {s : Load} {cs : List Call} {rs : List Reply} →
+      Runs (loaded (k .last) (k .result .loader)) cs rs s →
+      Runs (loading (k .args)) (r.piece (now (sixth (k .args))) ∷ cs) (taken-reply (k .result) ∷ rs) s
+  an-end :
+      (k : Called-end) {s : Load} {cs : List Call} {rs : List Reply} →
+      Runs (loaded (k .last) (k .result .loader)) cs rs s →
+      Runs (loading (k .args)) (r.end-call ∷ cs) (finished-reply (k .result) ∷ rs) s
+  a-question :
+      (k : Called-question) {line : List ℕ} {loader : Loader} {s : Load} {cs : List Call} {rs : List Reply} →
+      Runs (load (lent (k .args)) line loader) cs rs s →
+      Runs (load (lent (k .args)) line loader) (r.ask (r.question (now (fourth (k .args))) (now (fifth (k .args))) (now (sixth (k .args))) (seventh (k .args))) ∷ cs) (r.answered (k .result) ∷ rs) s
+  a-change :
+      (k : Called-change) {line : List ℕ} {loader : Loader} {s : Load} {cs : List Call} {rs : List Reply} →
+      Runs (load (left (k .last)) line loader) cs rs s →
+      Runs (load (lent (k .args)) line loader) (r.write (r.change (now (fourth (k .args)))) ∷ cs) (written-reply (k .result) ∷ rs) s
+  a-revoke :
+      (k : Called-revoke) {line : List ℕ} {loader : Loader} {s : Load} {cs : List Call} {rs : List Reply} →
+      Runs (load (store (now (first (k .args))) (second (k .last)) (now (third (k .args)))) line loader) cs rs s →
+      Runs (load (lent (k .args)) line loader) (r.write (r.revoke (now (fourth (k .args)))) ∷ cs) (counted-reply (k .result) ∷ rs) s
+  an-onlycap :
+      (k : Called-onlycap) {line : List ℕ} {loader : Loader} {s : Load} {cs : List Call} {rs : List Reply} →
+      Runs (load (left (k .last)) line loader) cs rs s →
+      Runs (load (lent (k .args)) line loader) (r.write (r.onlycap (now (fourth (k .args)))) ∷ cs) (written-reply (k .result) ∷ rs) s
+  a-mapping :
+      (k : Called-mapping) {line : List ℕ} {loader : Loader} {s : Load} {cs : List Call} {rs : List Reply} →
+      Runs (load (left (k .last)) line loader) cs rs s →
+      Runs (load (lent (k .args)) line loader) (r.write (r.mapping (now (fourth (k .args)))) ∷ cs) (written-reply (k .result) ∷ rs) s
+  a-look-up :
+      (k : Called-by-label) {line : List ℕ} {loader : Loader} {s : Load} {cs : List Call} {rs : List Reply} →
+      Runs (load (lent (k .args)) line loader) cs rs s →
+      Runs (load (lent (k .args)) line loader) (r.ask (r.by-label (now (fourth (k .args)))) ∷ cs) (r.mapped (k .result) ∷ rs) s
+  a-search :
+      (k : Called-by-level) {line : List ℕ} {loader : Loader} {s : Load} {cs : List Call} {rs : List Reply} →
+      Runs (load (lent (k .args)) line loader) cs rs s →
+      Runs (load (lent (k .args)) line loader) (r.ask (r.by-level (fourth (k .args)) (fifth (k .args))) ∷ cs) (r.lowest (k .result) ∷ rs) s
+  a-listing :
+      (k : Called-list-rule) {line : List ℕ} {loader : Loader} {s : Load} {cs : List Call} {rs : List Reply} →
+      Runs (load (lent (k .args)) line loader) cs rs s →
+      Runs (load (lent (k .args)) line loader) (r.ask (r.list-rule (fourth (k .args)) (now (fifth (k .args)))) ∷ cs) (r.listed (k .result) (fifth (k .last)) ∷ rs) s
+  a-label :
+      (k : Called-label) {line : List ℕ} {loader : Loader} {s : Load} {cs : List Call} {rs : List Reply} →
+      Runs (load (lent (k .args)) line loader) cs rs s →
+      Runs (load (lent (k .args)) line loader) (r.ask (r.label (fourth (k .args))) ∷ cs) (part-reply (k .result) (now (first (k .args))) ∷ rs) s
+  a-check :
+      (k : Called-label-check) {line : List ℕ} {loader : Loader} {s : Load} {cs : List Call} {rs : List Reply} →
+      Runs (load (lent (k .args)) line loader) cs rs s →
+      Runs (load (lent (k .args)) line loader) (r.ask (r.label-check (fourth (k .args))) ∷ cs) (written-reply (k .result) ∷ rs) s

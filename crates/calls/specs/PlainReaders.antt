@@ -1,0 +1,82 @@
+-- Demand 3: what holds after every list of calls. Assumes nothing.
+use Prim.Native.Nat.{ℕ}
+use mathlib.Core.Path.{_≡_}
+use mathlib.Core.Bool.{true, cond}
+use mathlib.Core.List.{List, [], _∷_, _++_}
+use lib.Dec.{eqb}
+use Rattle.store.specs.Table.{Table}
+use Rattle.store.specs.Layout.{tableOf}
+use Rattle.lines.specs.Lines.{ruleOf}
+use Rattle.writes.specs.Writes.{judged, is-skipped, is-refused, is-accepted}
+use Rattle.access.specs.Access.{shown}
+use Rattle.access.specs.declared.Answer.the-variants as answer
+use Rattle.lookups.specs.declared.Lookup.the-variants as lookup
+use Rattle.lookups.specs.declared.Label.the-variants as label
+use Rattle.listing.specs.declared.Listed.the-variants as listed
+use Rattle.answers.specs.Answers.{lookupShown, searchShown, listShown}
+use Rattle.load.specs.Loader.{Load}
+use Rattle.lists.specs.Reader as r
+use Rattle.lists.specs.Reader.{startOn, Write, Call, Reply, written, afterAll, saysAll, Event, byte, stop, wrote, events}
+use Rattle.grown.specs.Grown.{Grown}
+use Rattle.grown.specs.Pairs.{Triple, hasRoom, SetsPair}
+
+-- ---- what acts on the tables: each line that a newline or an end call ends, whole, and each single write, in order. The bytes after the last
+-- newline or end call are no line
+
+pub data Act : Type 0 where
+  line : List ℕ → Act
+  single : Write → Act
+
+abbrev pub endedAt : List ℕ → List Act → List Act
+endedAt [] rest = rest
+endedAt (b ∷ bs) rest = line (b ∷ bs) ∷ rest
+
+abbrev pub actsFrom : List ℕ → List Event → List Act
+actsFrom kept [] = []
+actsFrom kept (byte b ∷ es) = cond (eqb b 10) (line kept ∷ actsFrom [] es) (actsFrom (kept ++ (b ∷ [])) es)
+actsFrom kept (stop ∷ es) = endedAt kept (actsFrom [] es)
+actsFrom kept (wrote w ∷ es) = single w ∷ actsFrom kept es
+
+abbrev pub acts : List Call → List Act
+acts cs = actsFrom [] (events cs)
+
+-- From table t to table t′ by these acts, one after the other. A line is judged whole, by its bytes and the table that the acts before it left: skipped or refused it changes
+-- nothing; accepted it is a well-formed triple with room for it, sets its pair's modes and changes no other pair's answer (demand 2). A single write does what 01 says it does
+pub data Made : Table → List Act → Table → Type 0 where
+  none : {t : Table} → Made t [] t
+  skipped : {t t′ : Table} {bytes : List ℕ} {rest : List Act} → judged t (ruleOf bytes) ≡ is-skipped → Made t rest t′ → Made t (line bytes ∷ rest) t′
+  refused : {t t′ : Table} {bytes : List ℕ} {rest : List Act} (n : ℕ) → judged t (ruleOf bytes) ≡ is-refused n → Made t rest t′ → Made t (line bytes ∷ rest) t′
+  accepted :
+      {t t₁ t′ : Table} {bytes : List ℕ} {rest : List Act} (s o : List ℕ) (m : ℕ) →
+      judged t (ruleOf bytes) ≡ is-accepted t₁ →
+      Triple bytes s o m →
+      hasRoom t s o ≡ true →
+      SetsPair t t₁ s o m →
+      Made t₁ rest t′ →
+      Made t (line bytes ∷ rest) t′
+  by-write : {t t′ : Table} {rest : List Act} (w : Write) → Made (written t w) rest t′ → Made t (single w ∷ rest) t′
+
+-- what holds after a list of calls that began at s, was answered rs and ended at s′
+pub record PlainReaders (s : Load) (cs : List Call) (rs : List Reply) (s′ : Load) : Type 0 where
+  -- the table is exactly the plain reader's
+  pub table : tableOf (s′ .store) ≡ afterAll (startOn (tableOf (s .store))) cs .table
+  -- every answer is the plain reader's: each piece's, the whole report of each end call, each question's, and those of the other calls
+  pub replies : rs ≡ saysAll (startOn (tableOf (s .store))) cs
+  -- each line ended by a newline or an end call has been judged whole, an accepted one as demand 2 says; and nothing else has acted, but for the single writes: no byte
+  -- after the last newline or end call is among the acts
+  pub made : Made (tableOf (s .store)) (acts cs) (tableOf (s′ .store))
+  -- a table grown from a fresh one stays one
+  pub grown : Grown (tableOf (s .store)) → Grown (tableOf (s′ .store))
+
+-- ---- of a damaged table every call is refused with 0, and a lent buffer is as it was
+
+abbrev pub refusal-of : Call → Reply
+refusal-of (r.piece text) = r.refusal 0
+refusal-of r.end-call = r.refusal 0
+refusal-of (r.write w) = r.refusal 0
+refusal-of (r.ask (r.question s o request capable)) = r.answered (shown (answer.Refused 0))
+refusal-of (r.ask (r.by-label l)) = r.mapped (lookupShown (lookup.Refused 0))
+refusal-of (r.ask (r.by-level level set)) = r.lowest (searchShown (label.Refused 0))
+refusal-of (r.ask (r.list-rule k out)) = r.listed (listShown (listed.Refused 0)) out
+refusal-of (r.ask (r.label k)) = r.refusal 0
+refusal-of (r.ask (r.label-check k)) = r.refusal 0
