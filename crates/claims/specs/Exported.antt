@@ -118,7 +118,7 @@ pub record ExportedCalls : Type 0 where
       (λ κs a r l. (r ≡ writeShown (changeAnswer (lent a) (now (fourth a)))) × (left l ≡ changeStore (lent a) (now (fourth a))) × (fourth l ≡ tt))
   -- revoke-subject: the entries alone are lent by `&mut`
   pub revoke : Promise revoke.ended revoke-reads.Asked revoke-reads.Learnt
-      (λ κs a r l. (r ≡ revokeShown (revokeAnswer (lent a) (now (fourth a)))) × (store (now (first a)) (second l) (now (third a)) ≡ revokeStore (lent a) (now (fourth a))) × (first l ≡ tt) × (third l ≡ tt) × (fourth l ≡ tt))
+      (λ κs a r l. (r ≡ revokeShown (revokeAnswer (lent a) (now (fourth a)))) × (second l ≡ revokeStore (lent a) (now (fourth a)) .entries) × (first l ≡ tt) × (third l ≡ tt) × (fourth l ≡ tt))
   -- the override list
   pub onlycap : Promise onlycap.ended onlycap-reads.Asked onlycap-reads.Learnt
       (λ κs a r l. (r ≡ writeShown (onlycapAnswer (lent a) (now (fourth a)))) × (left l ≡ onlycapStore (lent a) (now (fourth a))) × (fourth l ≡ tt))

@@ -10,6 +10,8 @@ use mathlib.Core.Path.{_≡_}
 use mathlib.Core.List.{List, [], _∷_, _++_}
 use lib.ListN.{length, take, drop, getD, set}
 use lib.Dec.{eqb, ltb, leb}
+use denote.Ref.{RefT, now}
+use denote.Triple.Both.{Both}
 use Rattle.search.specs.Search.{entries}
 use Rattle.search.specs.Bytes.{written}
 use Rattle.store.specs.declared.Rule.{Rule}
@@ -26,6 +28,13 @@ pub record Store : Type 0 where
 
 abbrev pub store : List ℕ → List ℕ → List ℕ → Store
 store l e w = record { labels = l; entries = e; words = w }
+
+-- the slices that a call is lent, as they are when it begins; and as it leaves them, where all three are lent by `&mut`
+abbrev pub lent : {A B C : Type 0} → Both (RefT (List ℕ)) A → Both (RefT (List ℕ)) B → Both (RefT (List ℕ)) C → Store
+lent l e w = store (now (l .entry)) (now (e .entry)) (now (w .entry))
+
+abbrev pub left : {A B C : Type 0} → Both A (RefT (List ℕ)) → Both B (RefT (List ℕ)) → Both C (RefT (List ℕ)) → Store
+left l e w = store (now (l .exit)) (now (e .exit)) (now (w .exit))
 
 -- the full size of each slice, and where each run of entries, and the sets, begin
 abbrev pub labelsSize : ℕ

@@ -1,9 +1,51 @@
 // The tables in lent memory: the label store, the rules, the CIPSO mappings and the onlycap list (01: the override list). Three lent
 // slices hold them: `labels`, `entries` and `words`, laid out as specs/Layout.antt says.
 ghost use mathlib.Core.Path.{_≡_};
-ghost use Prim.Native.Nat.{_<_, _≤_};
+ghost use Prim.Native.Nat.{_+_, _<_, _≤_};
 ghost use lib.ListN.{length};
-ghost use Rattle.store.specs.Layout.{store, withLabel, withRule, freshAnswer, freshStore};
+ghost use Rattle.store.specs.Table.{labelLimit, ruleLimit};
+ghost use Rattle.store.specs.Layout.{store, lent, labelsSize, modesFrom, withLabel, withRule, freshAnswer, freshStore};
+
+// The full size of each lent slice, as specs/Layout.antt has them.
+pub const LABELS_SIZE: usize = 16384;
+
+pub const ENTRIES_SIZE: usize = 840;
+
+pub const WORDS_SIZE: usize = 36;
+
+// The most labels, rules, mappings and onlycap labels.
+pub const LABEL_LIMIT: usize = 64;
+
+pub const RULE_LIMIT: usize = 256;
+
+pub const MAPPING_LIMIT: usize = 32;
+
+pub const ONLYCAP_LIMIT: usize = 8;
+
+// How many bytes a label's place has: its length, and the longest label.
+pub const LABEL_PLACE: usize = 256;
+
+// Where the runs of entries begin: the rules' subjects stand from 0.
+pub const OBJECTS_FROM: usize = 256;
+
+pub const MODES_FROM: usize = 512;
+
+pub const MAPPED_FROM: usize = 768;
+
+pub const LEVELS_FROM: usize = 800;
+
+pub const ONLYCAP_FROM: usize = 832;
+
+// Where each count stands among the words, and where the mappings' category sets begin.
+pub const LABEL_COUNT: usize = 0;
+
+pub const RULE_COUNT: usize = 1;
+
+pub const MAPPING_COUNT: usize = 2;
+
+pub const ONLYCAP_COUNT: usize = 3;
+
+pub const SETS_FROM: usize = 4;
 
 // A rule: the numbers of its subject and its object, and its modes.
 pub struct Rule {
@@ -27,52 +69,52 @@ pub struct Mapping {
 
 // Writes a label into place k: its length and its bytes. Who calls it has tested the store and the label.
 pub fn write_label(labels: &mut [u8], k: usize, label: &[u8])
-    requires { ⌜ (length (now labels) ≡ 16384) × (k < 64) × (length (now label) ≤ 255) ⌝ }
+    requires { ⌜ (length (now labels) ≡ labelsSize) × (k < labelLimit) × (length (now label) ≤ 255) ⌝ }
     ensures { λ _. ⌜ now (labels .exit) ≡ withLabel (now (labels .entry)) k (now (label .entry)) ⌝ }
 {
-    let at = k * 256;
+    let at = k * LABEL_PLACE;
     labels[at] = label.len() as u8;
     search::copy_at(labels, at + 1, label);
 }
 
 // Writes a rule into place k. Who calls it has tested the store.
 pub fn write_rule(entries: &mut [u8], k: usize, rule: Rule)
-    requires { ⌜ (length (now entries) ≡ 840) × (k < 256) ⌝ }
+    requires { ⌜ (modesFrom + ruleLimit ≤ length (now entries)) × (k < ruleLimit) ⌝ }
     ensures { λ _. ⌜ now (entries .exit) ≡ withRule (now (entries .entry)) k rule ⌝ }
 {
     entries[k] = rule.subject;
-    entries[256 + k] = rule.object;
-    entries[512 + k] = rule.modes;
+    entries[OBJECTS_FROM + k] = rule.object;
+    entries[MODES_FROM + k] = rule.modes;
 }
 
 // Makes a fresh table of lent memory, whatever it holds: the five labels alone. Refused with 0 where a part has not its full size. What no
 // entry holds stays as it was.
 pub fn fresh_table(labels: &mut [u8], entries: &[u8], words: &mut [u64]) -> Done
-    ensures { λ r. ⌜ r ≡ freshAnswer (store (now (labels .entry)) (now (entries .entry)) (now (words .entry))) ⌝ }
-    ensures { λ _. ⌜ store (now (labels .exit)) (now (entries .entry)) (now (words .exit)) ≡ freshStore (store (now (labels .entry)) (now (entries .entry)) (now (words .entry))) ⌝ }
+    ensures { λ r. ⌜ r ≡ freshAnswer (lent labels entries words) ⌝ }
+    ensures { λ _. ⌜ store (now (labels .exit)) (now (entries .entry)) (now (words .exit)) ≡ freshStore (lent labels entries words) ⌝ }
 {
-    if labels.len() != 16384 {
-        return Done::Refused(0);
+    if labels.len() != LABELS_SIZE {
+        return Done::Refused(refusals::DAMAGED);
     }
-    if entries.len() != 840 {
-        return Done::Refused(0);
+    if entries.len() != ENTRIES_SIZE {
+        return Done::Refused(refusals::DAMAGED);
     }
-    if words.len() != 36 {
-        return Done::Refused(0);
+    if words.len() != WORDS_SIZE {
+        return Done::Refused(refusals::DAMAGED);
     }
-    let floor = [95u8];
-    let hat = [94u8];
-    let star = [42u8];
-    let huh = [63u8];
-    let web = [64u8];
+    let floor = [b'_'];
+    let hat = [b'^'];
+    let star = [b'*'];
+    let huh = [b'?'];
+    let web = [b'@'];
     write_label(labels, 0, &floor);
     write_label(labels, 1, &hat);
     write_label(labels, 2, &star);
     write_label(labels, 3, &huh);
     write_label(labels, 4, &web);
-    words[0] = 5;
-    words[1] = 0;
-    words[2] = 0;
-    words[3] = 0;
+    words[LABEL_COUNT] = 5;
+    words[RULE_COUNT] = 0;
+    words[MAPPING_COUNT] = 0;
+    words[ONLYCAP_COUNT] = 0;
     Done::Done
 }

@@ -1,0 +1,59 @@
+-- 01, The refusal numbers: each under one name, which every definition cites. Assumes nothing.
+use Prim.Native.Nat.{ℕ}
+
+-- the lent state has a part not of its full size, a count or length over its limit, a number that names no stored label, or an unknown mode
+-- or category bit; it comes before every other
+abbrev pub damaged : ℕ
+damaged = 0
+
+-- a line or write has over 600 bytes
+abbrev pub tooLong : ℕ
+tooLong = 1
+
+-- wrong number of fields: not 3 (rule), not 4 (change), under 2 (mapping), none (override list)
+abbrev pub wrongFields : ℕ
+wrongFields = 2
+
+-- a label is not well formed
+abbrev pub badLabel : ℕ
+badLabel = 3
+
+-- an access field has a byte not allowed there
+abbrev pub badAccess : ℕ
+badAccess = 4
+
+-- subject equals object (unacceptable in the source)
+abbrev pub sameLabels : ℕ
+sameLabels = 5
+
+-- more new labels than free label places
+abbrev pub noLabelPlace : ℕ
+noLabelPlace = 6
+
+-- the pair has no rule and 256 are stored
+abbrev pub noRulePlace : ℕ
+noRulePlace = 7
+
+-- the request is empty or has another byte
+abbrev pub badRequest : ℕ
+badRequest = 8
+
+-- a level or category is not as 01 says
+abbrev pub badNumber : ℕ
+badNumber = 9
+
+-- the label has no mapping and 32 are stored
+abbrev pub noMappingPlace : ℕ
+noMappingPlace = 10
+
+-- over 8 different labels in an override list
+abbrev pub tooManyLabels : ℕ
+tooManyLabels = 11
+
+-- lent output too short; otherwise only its front is written
+abbrev pub shortOutput : ℕ
+shortOutput = 12
+
+-- no rule or label of that number
+abbrev pub noSuchNumber : ℕ
+noSuchNumber = 13
