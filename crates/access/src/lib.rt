@@ -8,7 +8,8 @@ ghost use Prim.Native.Nat.{_<_};
 ghost use lib.ListN.{length};
 ghost use Rattle.search.specs.Search.{placeOf};
 ghost use Rattle.search.specs.Bytes.{sameBytes};
-ghost use Rattle.store.specs.Layout.{store, tableOf, Sizes, Counts};
+ghost use Rattle.store.specs.Layout.{store, tableOf, Sizes};
+ghost use Rattle.store.specs.Within.{Counts};
 ghost use Rattle.access.specs.Rules.{firstOf, labelRules, ruleBetween};
 ghost use Rattle.access.specs.Access as access;
 

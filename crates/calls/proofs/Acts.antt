@@ -14,7 +14,8 @@ use Rattle.modes.specs.declared.Access.{Access}
 use Rattle.modes.specs.declared.Access.the-variants.{Modes, Bad}
 use Rattle.store.specs.Table.{Table}
 use Rattle.lines.specs.Lines.{Said, skipped, refused, rule, change, ruleOf, changeOf, ruleBy, ruleWith, ruleFields}
-use Rattle.writes.specs.Writes.{Judged, is-skipped, is-refused, is-accepted, judged, tableAfter}
+use Rattle.writes.specs.Writes.{judged}
+use Rattle.store.specs.Judged.{Judged, is-skipped, is-refused, is-accepted, tableAfter}
 use Rattle.reports.specs.Report.{freshLoader}
 use Rattle.load.specs.Loader.{Load, load, stepByte, stepEnd}
 use Rattle.lists.specs.Reader as r

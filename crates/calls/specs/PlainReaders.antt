@@ -7,7 +7,8 @@ use lib.Dec.{eqb}
 use Rattle.store.specs.Table.{Table}
 use Rattle.store.specs.Layout.{tableOf}
 use Rattle.lines.specs.Lines.{ruleOf}
-use Rattle.writes.specs.Writes.{judged, is-skipped, is-refused, is-accepted}
+use Rattle.writes.specs.Writes.{judged}
+use Rattle.store.specs.Judged.{is-skipped, is-refused, is-accepted}
 use Rattle.access.specs.Access.{shown}
 use Rattle.access.specs.declared.Answer.the-variants as answer
 use Rattle.lookups.specs.declared.Lookup.the-variants as lookup

@@ -1,15 +1,25 @@
--- Facts that the functions within the crate hand to each other. No public contract cites them. Assumes nothing.
-use Prim.Native.Nat.{ℕ, _<_, _≤_}
+-- Facts that the functions within the crate hand to each other, and what they write into the lent slices. Nobody has to believe this. Assumes nothing.
+use Prim.Native.Nat.{ℕ, _+_, _<_, _≤_}
+use mathlib.Core.Bool.{cond}
 use mathlib.Core.Path.{_≡_}
 use mathlib.Core.List.{List}
-use lib.ListN.{length}
+use lib.ListN.{length, set}
+use Rattle.refusals.specs.Refusals.{noLabelPlace, noMappingPlace}
+use Rattle.search.specs.Search.{put, placeOf}
+use Rattle.search.specs.declared.Found.{Found}
 use Rattle.alphabet.specs.Alphabet.{part}
-use Rattle.store.specs.Layout.{Store, tableOf, Sizes, Counts}
+use Rattle.store.specs.declared.Mapping.{Mapping}
+use Rattle.store.specs.Table.{Table, labelIn, labelLimit, mappingLimit, withLabels, withMappings}
+use Rattle.store.specs.Layout.{Store, tableOf, Sizes, mappedFrom, levelsFrom, setsFrom}
+use Rattle.store.specs.Judged.{Judged, is-refused, is-accepted}
+use Rattle.store.specs.Within.{Counts}
+use Rattle.rules.specs.Rules.{noPlace, labelsEntered}
 use Rattle.cipso.specs.declared.Line.{Line}
 use Rattle.cipso.specs.declared.Line.the-variants as line
 use Rattle.cipso.specs.declared.Spot.{Spot}
+use Rattle.cipso.specs.declared.Place.{Place}
 use Rattle.cipso.specs.declared.Place.the-variants as place
-use Rattle.cipso.specs.Cipso.{SaidMapping, refused, mapping, placing}
+use Rattle.cipso.specs.Cipso.{SaidMapping, refused, mapping, mappingIn}
 
 -- what was read says, of the text that it was read from
 abbrev pub lineSaid : List ℕ → Line → SaidMapping
@@ -20,6 +30,39 @@ lineSaid text (line.Mapping start end level s) = mapping (part text start end) l
 abbrev pub LineInside : List ℕ → Line → Type 0
 LineInside text (line.Refused n) = Unit {0}
 LineInside text (line.Mapping start end level s) = (start < end) × (end ≤ length text) × (length (part text start end) ≤ 255)
+
+-- where a label's mapping stands or goes, or the refusal's number
+abbrev pub placeBy : Table → Found → Place
+placeBy t l =
+    cond (noPlace l (length (t .labels)) labelLimit)
+    (place.Refused noLabelPlace)
+    (cond (noPlace (mappingIn t (placeOf l (length (t .labels)))) (length (t .mappings)) mappingLimit)
+    (place.Refused noMappingPlace)
+    (place.At (record { label = l; mapping = mappingIn t (placeOf l (length (t .labels))) })))
+
+unfoldable pub placing : Table → List ℕ → Place
+placing t l = placeBy t (labelIn t l)
+
+-- the mapping that a write makes at that place, and the tables with it
+abbrev pub mappingOfSpot : Table → Spot → ℕ → ℕ → Mapping
+mappingOfSpot t spot level s = record { label = placeOf (spot .label) (length (t .labels)); level = level; set = s }
+
+unfoldable pub withMappingAt : Table → List ℕ → Spot → ℕ → ℕ → Table
+withMappingAt t l spot level s =
+    withMappings (withLabels t (labelsEntered (spot .label) (t .labels) l)) (put (spot .mapping) (t .mappings) (mappingOfSpot t spot level s))
+
+-- what becomes of it
+abbrev pub judgedAt : Table → List ℕ → ℕ → ℕ → Place → Judged
+judgedAt t l level s (place.Refused n) = is-refused n
+judgedAt t l level s (place.At spot) = is-accepted (withMappingAt t l spot level s)
+
+-- a mapping's label and level written into place k
+unfoldable pub withNumbers : List ℕ → ℕ → Mapping → List ℕ
+withNumbers e k m = set (set e (mappedFrom + k) (m .label)) (levelsFrom + k) (m .level)
+
+-- its set written into place k
+unfoldable pub withWord : List ℕ → ℕ → Mapping → List ℕ
+withWord w k m = set w (setsFrom + k) (m .set)
 
 -- what is known of a label whose mapping has a place in a tested store
 pub record Placed (st : Store) (l : List ℕ) (spot : Spot) : Type 0 where

@@ -21,14 +21,15 @@ use Rattle.numbers.specs.declared.Number.the-variants as number
 use Rattle.store.specs.declared.Done.{Done}
 use Rattle.store.specs.declared.Done.the-variants as d
 use Rattle.store.specs.Table.{Table, labelIn, labelLimit, ruleLimit, mappingLimit, onlycapLimit, ruleNumbered, knownSet}
-use Rattle.store.specs.Layout.{Store, tableOf, undamagedOf, fullSizes, freshAnswer}
+use Rattle.store.specs.Layout.{Store, tableOf, undamagedOf, fullSizes}
+use Rattle.store.specs.Judged.{freshAnswer, Judged, is-skipped, is-refused, is-accepted, doneOf}
 use Rattle.lines.specs.Lines.{Said, skipped, refused, rule, change, ruleWith, ruleBy, ruleFields, ruleOf, changeWith, changeBy, changeFields, changeOf}
 use Rattle.rules.specs.Rules.{placing, placeFor, labelsAfter, noPlace}
 use Rattle.rules.specs.Rules as rules
 use Rattle.rules.specs.declared.Spot.{Spot}
 use Rattle.rules.specs.declared.Place.{Place}
 use Rattle.rules.specs.declared.Place.the-variants as p
-use Rattle.writes.specs.Writes.{Judged, is-skipped, is-refused, is-accepted, judged, ruleJudged, changeJudged, outcomeOf, lineOutcome, doneOf, changeAnswer}
+use Rattle.writes.specs.Writes.{judged, ruleJudged, changeJudged, outcomeOf, lineOutcome, changeAnswer}
 use Rattle.writes.specs.declared.Outcome.{Outcome}
 use Rattle.writes.specs.declared.Outcome.the-variants as v
 use Rattle.revoke.specs.Revoke.{revokeOf, revokeAnswer}

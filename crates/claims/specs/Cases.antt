@@ -8,7 +8,8 @@ use Rattle.modes.specs.Modes.{modesText}
 use Rattle.store.specs.Table.{Table, fresh, floor, hat, star, labelIn}
 use Rattle.lines.specs.Lines.{ruleOf, changeOf}
 use Rattle.rules.specs.Rules.{modesOfRule}
-use Rattle.writes.specs.Writes.{judged, tableAfter}
+use Rattle.writes.specs.Writes.{judged}
+use Rattle.store.specs.Judged.{tableAfter}
 use Rattle.access.specs.Rules.{ruleBetween}
 use Rattle.access.specs.Access.{answer, shown}
 use Rattle.access.specs.declared.Shown.{Shown}

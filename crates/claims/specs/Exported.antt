@@ -46,7 +46,8 @@ use Rattle.host.proofs.bq_label as label
 use Rattle.host.proofs.bq_label.Reads as label-reads
 use Rattle.listing.proofs.label_by_number as label-part
 use Rattle.listing.proofs.label_by_number.Reads as label-part-reads
-use Rattle.store.specs.Layout.{store, freshAnswer, freshStore}
+use Rattle.store.specs.Layout.{store}
+use Rattle.store.specs.Judged.{freshAnswer, freshStore}
 use Rattle.writes.specs.Writes.{changeAnswer, changeStore}
 use Rattle.revoke.specs.Revoke.{revokeAnswer, revokeStore}
 use Rattle.onlycap.specs.Onlycap.{onlycapAnswer, onlycapStore}

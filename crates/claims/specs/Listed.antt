@@ -6,7 +6,8 @@ use mathlib.Core.Bool.{Bool, true, false, _||_}
 use mathlib.Core.List.{List, [], _∷_}
 use lib.Dec.{eqb}
 use Rattle.store.specs.declared.Done.the-variants as d
-use Rattle.store.specs.Layout.{Store, freshAnswer}
+use Rattle.store.specs.Layout.{Store}
+use Rattle.store.specs.Judged.{freshAnswer}
 use Rattle.load.specs.Loader.{Load, pieceAnswer, endAnswer}
 use Rattle.load.specs.declared.Fed.the-variants as f
 use Rattle.load.specs.declared.Ended.the-variants as e

@@ -13,7 +13,8 @@ use Rattle.search.proofs.Laws.{all-snoc}
 use Rattle.store.specs.declared.Rule.{Rule}
 use Rattle.store.specs.declared.Mapping.{Mapping}
 use Rattle.store.specs.Table.{soundRule, soundMapping, soundTable}
-use Rattle.store.specs.Layout.{store, ruleAt, mappingAt, onlycapAt, tableOf, Counts}
+use Rattle.store.specs.Layout.{store, ruleAt, mappingAt, onlycapAt, tableOf}
+use Rattle.store.specs.Within.{Counts}
 use Rattle.damage.specs.Bounds.{Within}
 
 -- two tests in one pass are the two passes

@@ -6,7 +6,8 @@ ghost use lib.Dec.{eqb};
 ghost use mathlib.Core.List.{[]};
 ghost use Rattle.search.specs.Search.{all, entries as listed};
 ghost use Rattle.store.specs.Table.{soundRule, soundTable};
-ghost use Rattle.store.specs.Layout.{store, ruleAt, tableOf, undamagedOf, Counts};
+ghost use Rattle.store.specs.Layout.{store, ruleAt, tableOf, undamagedOf};
+ghost use Rattle.store.specs.Within.{Counts};
 ghost use Rattle.damage.specs.Bounds.{Within};
 
 // Whether the first `count` words of a run are all even: no set has the bit that names no category. It reads all of them, so that the

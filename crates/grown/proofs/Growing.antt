@@ -23,7 +23,8 @@ use Rattle.rules.proofs.Laws.{place-count}
 use Rattle.lines.specs.Lines.{ruleOf, changeOf}
 use Rattle.lines.proofs.Laws.{rule-sound, change-sound}
 use Rattle.revoke.specs.Revoke.{hasSubject, revokedRule, withoutModes, revokeTable}
-use Rattle.onlycap.specs.Onlycap.{joined, different, labelsWith, numberIn, loneDash, onlycapLabels, onlycapFields, onlycapOf, tableBy, onlycapTable}
+use Rattle.onlycap.specs.Onlycap.{different, labelsWith, numberIn, loneDash, onlycapLabels, onlycapFields, onlycapOf, tableBy, onlycapTable}
+use Rattle.onlycap.specs.Within.{joined}
 use Rattle.store.specs.declared.Done.the-variants as d
 use Rattle.cipso.specs.Cipso as cipso
 use Rattle.cipso.proofs.Laws.{Maps, maps}

@@ -25,7 +25,8 @@ use Rattle.rules.specs.declared.Place.the-variants as p
 use Rattle.rules.specs.Rules.{placing, noPlace, labelsAfter, modesOfRule}
 use Rattle.lines.specs.Lines.{Said, refused, rule, change, ruleOf, changeOf, ruleWith, ruleBy, ruleFields}
 use Rattle.lines.proofs.Laws.{Taken, Sound, rule-sound, change-sound}
-use Rattle.writes.specs.Writes.{Judged, is-skipped, is-refused, is-accepted, ruleJudged, judged, tableAfter, changed}
+use Rattle.writes.specs.Writes.{ruleJudged, judged, changed}
+use Rattle.store.specs.Judged.{Judged, is-skipped, is-refused, is-accepted, tableAfter}
 use Rattle.access.specs.Rules.{Line, line, ruleBetween, ruleHas, holds, bringUp, firstOf, labelRules, sevenRules}
 use Rattle.access.specs.Access.{effective, answered, decide, byRequest, answer}
 use Rattle.access.specs.declared.Denial.the-variants.{NoRule}

@@ -21,7 +21,8 @@ use Rattle.store.specs.declared.Rule.{Rule}
 use Rattle.store.specs.Table.{Table, fresh, labelIn, isPair, pairIn, soundRule, labelNumbered, ruleNumbered}
 use Rattle.lines.specs.Lines.{rule, ruleOf}
 use Rattle.lines.proofs.Laws.{Taken}
-use Rattle.writes.specs.Writes.{is-accepted, judged, tableAfter}
+use Rattle.writes.specs.Writes.{judged}
+use Rattle.store.specs.Judged.{is-accepted, tableAfter}
 use Rattle.access.specs.Rules.{ruleBetween}
 use Rattle.access.specs.Access.{isFound}
 use Rattle.lists.specs.Reader.{Reader, Totals, endLine, takeByte, takePiece, finish, limited, limitedTotals, done, report}

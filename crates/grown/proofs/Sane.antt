@@ -26,7 +26,8 @@ use Rattle.rules.specs.Rules as rules
 use Rattle.rules.proofs.Laws.{Room, placed, place-count}
 use Rattle.lines.specs.Lines.{Said, skipped, refused, rule, change}
 use Rattle.lines.proofs.Laws.{Taken, Sound}
-use Rattle.writes.specs.Writes.{changed, is-accepted, ruleJudged, changeJudged, judged}
+use Rattle.writes.specs.Writes.{changed, ruleJudged, changeJudged, judged}
+use Rattle.store.specs.Judged.{is-accepted}
 use Rattle.writes.proofs.Laws.{changed-small}
 use Rattle.grown.specs.Sane.{twoLabels, Sane}
 

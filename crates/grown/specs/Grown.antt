@@ -5,7 +5,8 @@ use mathlib.Core.Path.{_≡_}
 use mathlib.Core.List.{List}
 use Rattle.store.specs.Table.{Table, fresh}
 use Rattle.lines.specs.Lines.{ruleOf, changeOf}
-use Rattle.writes.specs.Writes.{judged, is-accepted}
+use Rattle.writes.specs.Writes.{judged}
+use Rattle.store.specs.Judged.{is-accepted}
 use Rattle.revoke.specs.Revoke.{revokeTable}
 use Rattle.onlycap.specs.Onlycap.{onlycapTable}
 use Rattle.cipso.specs.Cipso.{mappedTable}

@@ -13,7 +13,7 @@ use Rattle.modes.specs.Modes.{readModes, ruleLetters}
 use Rattle.modes.specs.declared.Access.the-variants.{Modes}
 use Rattle.store.specs.declared.Rule.{Rule}
 use Rattle.store.specs.Table.{Table, labelIn, labelLimit, ruleLimit, soundTable}
-use Rattle.writes.specs.Writes.{Judged, is-skipped, is-refused, is-accepted}
+use Rattle.store.specs.Judged.{Judged, is-skipped, is-refused, is-accepted}
 use Rattle.access.specs.Rules.{Line, line, ruleBetween, modesAt, holds, bringUp, labelRules, sevenRules}
 use Rattle.access.specs.Access.{effective, answer}
 use Rattle.access.specs.declared.Denial.the-variants.{NoRule}

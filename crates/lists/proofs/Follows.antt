@@ -13,7 +13,8 @@ use lib.Seq.{take-all, take-suc-set, take-append-le}
 use Rattle.store.specs.Table.{Table}
 use Rattle.store.specs.Layout.{Store, store, tableOf, undamagedOf}
 use Rattle.lines.specs.Lines.{ruleOf, refused}
-use Rattle.writes.specs.Writes.{Judged, is-skipped, is-refused, is-accepted, judged, tableAfter, outcomeOf, lineOutcome, lineStored}
+use Rattle.writes.specs.Writes.{judged, outcomeOf, lineOutcome, lineStored}
+use Rattle.store.specs.Judged.{Judged, is-skipped, is-refused, is-accepted, tableAfter}
 use Rattle.writes.specs.declared.Outcome.{Outcome}
 use Rattle.writes.specs.declared.Outcome.the-variants as v
 use Rattle.writes.proofs.Laws.{line-table}

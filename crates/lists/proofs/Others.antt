@@ -8,8 +8,9 @@ use lib.ListN.{length}
 use Rattle.store.specs.declared.Done.the-variants as d
 use Rattle.store.specs.Table.{Table, labelNumbered}
 use Rattle.store.specs.Layout.{Store, store, tableOf, undamagedOf}
+use Rattle.store.specs.Judged.{onState}
 use Rattle.writes.specs.Writes.{changeAnswer, changeStore}
-use Rattle.revoke.specs.Revoke.{revokeAnswer, revokeEntries}
+use Rattle.revoke.specs.Revoke.{revokeAnswer, revokeStore}
 use Rattle.revoke.specs.declared.Revoked.the-variants as v
 use Rattle.onlycap.specs.Onlycap.{onlycapAnswer, onlycapStore}
 use Rattle.cipso.specs.Cipso.{mapAnswer, mapStored}
@@ -30,19 +31,19 @@ use Rattle.lists.proofs.Tables.{tables-follow}
 use Rattle.lists.proofs.Follows.{Holds}
 
 -- the store that a single write leaves
-abbrev pub storeAfter : Store → Write → Store
-storeAfter st (r.change text) = changeStore st text
-storeAfter st (r.revoke l) = store (st .labels) (revokeEntries st l) (st .words)
-storeAfter st (r.onlycap text) = onlycapStore st text
-storeAfter st (r.mapping text) = mapStored st text
+abbrev pub storeLeft : Store → Write → Store
+storeLeft st (r.change text) = changeStore st text
+storeLeft st (r.revoke l) = store (st .labels) (revokeStore st l .entries) (st .words)
+storeLeft st (r.onlycap text) = onlycapStore st text
+storeLeft st (r.mapping text) = mapStored st text
 
-pub store-leaves : (st : Store) (w : Write) → undamagedOf st ≡ true → Leaves (storeAfter st w) (written (tableOf st) w)
+pub store-leaves : (st : Store) (w : Write) → undamagedOf st ≡ true → Leaves (storeLeft st w) (written (tableOf st) w)
 store-leaves st (r.change text) u = tables-follow .change st text u
 store-leaves st (r.revoke l) u = tables-follow .revoke st l u
 store-leaves st (r.onlycap text) u = tables-follow .onlycap st text u
 store-leaves st (r.mapping text) u = tables-follow .mapping st text u
 
-pub write-holds : (s : Load) (p : Reader) (w : Write) → Holds s p → Holds (load (storeAfter (s .store) w) (s .line) (s .loader)) (writeOn p w)
+pub write-holds : (s : Load) (p : Reader) (w : Write) → Holds s p → Holds (load (storeLeft (s .store) w) (s .line) (s .loader)) (writeOn p w)
 write-holds s p w h =
     let g = store-leaves (s .store) w (h .ready .undamaged) in
     record {
@@ -56,19 +57,19 @@ write-holds s p w h =
 
 module _ (st : Store) (u : undamagedOf st ≡ true) where
   pub change-says : (text : List ℕ) → doneReply (changeAnswer st text) ≡ writeSays (tableOf st) (r.change text)
-  unfolding changeAnswer
+  unfolding changeAnswer onState
   change-says text = rw u
 
   pub revoke-says : (l : List ℕ) → countReply (revokeAnswer st l) ≡ writeSays (tableOf st) (r.revoke l)
-  unfolding revokeAnswer
+  unfolding revokeAnswer onState
   revoke-says l = rw u
 
   pub onlycap-says : (text : List ℕ) → doneReply (onlycapAnswer st text) ≡ writeSays (tableOf st) (r.onlycap text)
-  unfolding onlycapAnswer
+  unfolding onlycapAnswer onState
   onlycap-says text = rw u
 
   pub mapping-says : (text : List ℕ) → doneReply (mapAnswer st text) ≡ writeSays (tableOf st) (r.mapping text)
-  unfolding mapAnswer
+  unfolding mapAnswer onState
   mapping-says text = rw u
 
   pub question-says : (s o request : List ℕ) (capable : Bool) → r.answered (shown (questionOf st s o request capable)) ≡ askSays (tableOf st) (r.question s o request capable)
@@ -109,27 +110,27 @@ module _ (st : Store) (u : undamagedOf st ≡ true) where
 -- ---- and of a damaged one
 
 module _ (st : Store) (u : undamagedOf st ≡ false) where
-  pub write-refused : (w : Write) → storeAfter st w ≡ st
-  unfolding changeStore revokeEntries onlycapStore onlycapAnswer mapStored
+  pub write-refused : (w : Write) → storeLeft st w ≡ st
+  unfolding changeStore revokeStore onlycapStore mapStored onState
   write-refused (r.change text) = rw u
   write-refused (r.revoke l) = rw u
   write-refused (r.onlycap text) = rw u
   write-refused (r.mapping text) = rw u
 
   pub change-refused : (text : List ℕ) → changeAnswer st text ≡ d.Refused 0
-  unfolding changeAnswer
+  unfolding changeAnswer onState
   change-refused text = rw u
 
   pub revoke-refused : (l : List ℕ) → revokeAnswer st l ≡ v.Refused 0
-  unfolding revokeAnswer
+  unfolding revokeAnswer onState
   revoke-refused l = rw u
 
   pub onlycap-refused : (text : List ℕ) → onlycapAnswer st text ≡ d.Refused 0
-  unfolding onlycapAnswer
+  unfolding onlycapAnswer onState
   onlycap-refused text = rw u
 
   pub mapping-refused : (text : List ℕ) → mapAnswer st text ≡ d.Refused 0
-  unfolding mapAnswer
+  unfolding mapAnswer onState
   mapping-refused text = rw u
 
   pub question-refused : (x o request : List ℕ) (capable : Bool) → questionOf st x o request capable ≡ a.Refused 0

@@ -8,11 +8,11 @@ use lib.ListN.{length}
 use Rattle.store.specs.Table.{Table, labelNumbered}
 use Rattle.store.specs.declared.Done.{Done}
 use Rattle.store.specs.declared.Done.the-variants as d
-use Rattle.lines.specs.Lines.{changeOf}
-use Rattle.writes.specs.Writes.{judged, doneOf}
-use Rattle.revoke.specs.Revoke.{revokeOf}
-use Rattle.onlycap.specs.Onlycap.{onlycapOf}
-use Rattle.cipso.specs.Cipso.{answerBy, mappingOf}
+use Rattle.writes.specs.Writes.{changeWrite}
+use Rattle.store.specs.Judged.{doneOf}
+use Rattle.revoke.specs.Revoke.{revokeWrite, revokeCount, countOf}
+use Rattle.onlycap.specs.Onlycap.{onlycapWrite}
+use Rattle.cipso.specs.Cipso.{mappingWrite}
 use Rattle.revoke.specs.declared.Revoked.{Revoked}
 use Rattle.revoke.specs.declared.Revoked.the-variants as v
 use Rattle.access.specs.Access.{answer, questionOf}
@@ -124,10 +124,10 @@ count-reports (v.Count k) rs = refl
 count-reports (v.Refused n) rs = refl
 
 write-reports : (t : Table) (w : Write) (rs : List Reply) → reports (writeSays t w ∷ rs) ≡ reports rs
-write-reports t (change text) rs = done-reports (doneOf (judged t (changeOf text))) rs
-write-reports t (revoke l) rs = count-reports (revokeOf t l) rs
-write-reports t (onlycap text) rs = done-reports (onlycapOf t text) rs
-write-reports t (mapping text) rs = done-reports (answerBy t (mappingOf text)) rs
+write-reports t (change text) rs = done-reports (doneOf (changeWrite text t)) rs
+write-reports t (revoke l) rs = count-reports (countOf (revokeCount l t) (revokeWrite l t)) rs
+write-reports t (onlycap text) rs = done-reports (doneOf (onlycapWrite text t)) rs
+write-reports t (mapping text) rs = done-reports (doneOf (mappingWrite text t)) rs
 
 ask-reports : (t : Table) (q : Ask) (rs : List Reply) → reports (askSays t q ∷ rs) ≡ reports rs
 ask-reports t (question x o r capable) rs = refl

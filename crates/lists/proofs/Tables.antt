@@ -1,59 +1,47 @@
 -- Each call's table law, under one name. Assumes nothing.
-use Prim.Native.Nat.{ℕ}
-use native.Mathlib.Omega.{arith}
-use mathlib.Core.Path.{_≡_, refl, ap, _∙_}
-use mathlib.Core.Bool.{Bool, true, false, cond, _&&_}
+use mathlib.Core.Path.{_≡_, ap, _∙_}
+use mathlib.Core.Bool.{true}
 use mathlib.Core.List.{List}
-use lib.Dec.{eqb}
-use lib.ListN.{length}
-use borrow.Author.Tests.{eqb-true}
-use Rattle.search.proofs.Laws.{and-both}
-use Rattle.store.specs.declared.Done.{Done}
-use Rattle.store.specs.declared.Done.the-variants as d
-use Rattle.store.specs.Layout.{Store, tableOf, undamagedOf, fullSizes, freshAnswer, Sizes}
-use Rattle.store.proofs.Laws.{undamaged-is, is-undamaged, fresh-is, fresh-undamaged}
-use Rattle.lines.specs.Lines.{changeOf}
-use Rattle.lines.proofs.Laws.{change-sound}
-use Rattle.writes.specs.Writes.{judged, stored, changeStore}
-use Rattle.writes.proofs.Laws.{said-table, said-undamaged, line-table, line-undamaged}
+use Prim.Native.Nat.{ℕ}
+use Rattle.store.specs.Table.{Table}
+use Rattle.store.specs.Layout.{Store, tableOf, undamagedOf}
+use Rattle.store.specs.Judged.{Judged, tableAfter, storeAfter, onState}
+use Rattle.store.proofs.Laws.{undamaged-is}
+use Rattle.store.proofs.Judged.{Lays, on-undamaged, after-table, after-undamaged, fresh-full, fresh-is, fresh-undamaged}
+use Rattle.writes.specs.Writes.{changeWrite, changeStore}
+use Rattle.writes.proofs.Laws.{line-table, line-undamaged, change-lays}
 use Rattle.revoke.proofs.Laid.{revoke-table, revoke-undamaged}
-use Rattle.onlycap.proofs.Laid.{onlycap-table, onlycap-undamaged}
-use Rattle.cipso.proofs.Laws.{map-table, map-undamaged}
+use Rattle.onlycap.specs.Onlycap.{onlycapWrite, onlycapStore}
+use Rattle.onlycap.proofs.Laid.{onlycap-lays}
+use Rattle.cipso.specs.Cipso.{mappingWrite, mapStored}
+use Rattle.cipso.proofs.Laws.{mapping-write-lays}
 use Rattle.lists.specs.Tables.{Leaves, TablesFollow}
 
-full : (st : Store) → freshAnswer st ≡ d.Done → Sizes (st .labels) (st .entries) (st .words)
-unfolding freshAnswer
-full st q = by-test (fullSizes st) refl q
-  where
-    by-test : (b : Bool) → fullSizes st ≡ b → cond b d.Done (d.Refused 0) ≡ d.Done → Sizes (st .labels) (st .entries) (st .words)
-    by-test true e q =
-        let a = and-both (eqb (length (st .labels)) 16384) (eqb (length (st .entries)) 840 && eqb (length (st .words)) 36) e in
-        let b = and-both (eqb (length (st .entries)) 840) (eqb (length (st .words)) 36) (a .1) in
-        record { labels = eqb-true _ _ (a .0); entries = eqb-true _ _ (b .0); words = eqb-true _ _ (b .1) }
-    by-test false e q = let z : _≡_ {A = ℕ} 0 1 = cc in absurd (omega arith)
+-- what a write leaves of a tested state, from what it lays
+leaves : (st : Store) (write : Table → Judged) (u : undamagedOf st ≡ true) → Lays (write (tableOf st)) → Leaves (storeAfter st (onState st write)) (tableAfter (tableOf st) (write (tableOf st)))
+leaves st write u f =
+    rw (on-undamaged st write u)
+    (record { table = after-table st (undamaged-is st u) (write (tableOf st)) f; undamaged = after-undamaged st (undamaged-is st u) (write (tableOf st)) f })
 
-change-is : (st : Store) (text : List ℕ) → undamagedOf st ≡ true → changeStore st text ≡ stored st (judged (tableOf st) (changeOf text))
+change-leaves : (st : Store) (text : List ℕ) → undamagedOf st ≡ true → Leaves (changeStore st text) (tableAfter (tableOf st) (changeWrite text (tableOf st)))
 unfolding changeStore
-change-is st text u = rw u
+change-leaves st text u = leaves st (changeWrite text) u (change-lays st text u)
+
+onlycap-leaves : (st : Store) (text : List ℕ) → undamagedOf st ≡ true → Leaves (onlycapStore st text) (tableAfter (tableOf st) (onlycapWrite text (tableOf st)))
+unfolding onlycapStore
+onlycap-leaves st text u = leaves st (onlycapWrite text) u (onlycap-lays st text (undamaged-is st u))
+
+mapping-leaves : (st : Store) (text : List ℕ) → undamagedOf st ≡ true → Leaves (mapStored st text) (tableAfter (tableOf st) (mappingWrite text (tableOf st)))
+unfolding mapStored
+mapping-leaves st text u = leaves st (mappingWrite text) u (mapping-write-lays st text (undamaged-is st u))
 
 pub tables-follow : TablesFollow
 tables-follow =
     record {
-      fresh-table = λ st q. record { table = fresh-is st (full st q); undamaged = fresh-undamaged st (full st q) };
+      fresh-table = λ st q. record { table = fresh-is st (fresh-full st q); undamaged = fresh-undamaged st (fresh-full st q) };
       line = λ st text u. record { table = line-table st text u; undamaged = line-undamaged st text u };
-      change =
-          λ st text u.
-          record {
-            table = ap tableOf (change-is st text u) ∙ said-table st (changeOf text) u (change-sound text);
-            undamaged = ap undamagedOf (change-is st text u) ∙ said-undamaged st (changeOf text) u (change-sound text);
-          };
-      revoke =
-          λ st label u.
-          record { table = revoke-table st (undamaged-is st u) label; undamaged = revoke-undamaged st (undamaged-is st u) label };
-      onlycap =
-          λ st text u.
-          record { table = onlycap-table st text (undamaged-is st u); undamaged = onlycap-undamaged st text (undamaged-is st u) };
-      mapping =
-          λ st text u.
-          record { table = map-table st (undamaged-is st u) text; undamaged = is-undamaged _ (map-undamaged st (undamaged-is st u) text) };
+      change = change-leaves;
+      revoke = λ st label u. record { table = revoke-table st (undamaged-is st u) label; undamaged = revoke-undamaged st (undamaged-is st u) label };
+      onlycap = onlycap-leaves;
+      mapping = mapping-leaves;
     }

@@ -11,13 +11,14 @@ use Rattle.reports.specs.Report.{countLimit}
 use Rattle.store.specs.Table.{Table, labelNumbered}
 use Rattle.store.specs.declared.Done.{Done}
 use Rattle.store.specs.declared.Done.the-variants as d
-use Rattle.lines.specs.Lines.{ruleOf, changeOf}
-use Rattle.writes.specs.Writes.{Judged, is-skipped, is-refused, is-accepted, judged, tableAfter, doneOf}
-use Rattle.revoke.specs.Revoke.{revokeOf, revokeTable}
+use Rattle.lines.specs.Lines.{ruleOf}
+use Rattle.writes.specs.Writes.{judged, changeWrite}
+use Rattle.store.specs.Judged.{Judged, is-skipped, is-refused, is-accepted, tableAfter, doneOf}
+use Rattle.revoke.specs.Revoke.{revokeWrite, revokeCount, countOf}
 use Rattle.revoke.specs.declared.Revoked.{Revoked}
 use Rattle.revoke.specs.declared.Revoked.the-variants as v
-use Rattle.onlycap.specs.Onlycap.{onlycapOf, onlycapTable}
-use Rattle.cipso.specs.Cipso.{answerBy, mappingOf, mappedTable}
+use Rattle.onlycap.specs.Onlycap.{onlycapWrite}
+use Rattle.cipso.specs.Cipso.{mappingWrite}
 use Rattle.lookups.specs.Lookups.{labelLookup, levelLookup}
 use Rattle.listing.specs.Listing.{listRule, listRuleOut}
 use Rattle.access.specs.Access.{answer, shown}
@@ -142,18 +143,22 @@ abbrev pub countReply : Revoked → Reply
 countReply (v.Count k) = count k
 countReply (v.Refused n) = refusal n
 
--- a single write: the tables after it, and its answer
+-- what becomes of a single write
+abbrev pub judgeWrite : Write → Table → Judged
+judgeWrite (change text) = changeWrite text
+judgeWrite (revoke l) = revokeWrite l
+judgeWrite (onlycap text) = onlycapWrite text
+judgeWrite (mapping text) = mappingWrite text
+
+-- the tables after it, and its answer
 abbrev pub written : Table → Write → Table
-written t (change text) = tableAfter t (judged t (changeOf text))
-written t (revoke l) = revokeTable t l
-written t (onlycap text) = onlycapTable t text
-written t (mapping text) = mappedTable t text
+written t w = tableAfter t (judgeWrite w t)
 
 abbrev pub writeSays : Table → Write → Reply
-writeSays t (change text) = doneReply (doneOf (judged t (changeOf text)))
-writeSays t (revoke l) = countReply (revokeOf t l)
-writeSays t (onlycap text) = doneReply (onlycapOf t text)
-writeSays t (mapping text) = doneReply (answerBy t (mappingOf text))
+writeSays t (change text) = doneReply (doneOf (changeWrite text t))
+writeSays t (revoke l) = countReply (countOf (revokeCount l t) (revokeWrite l t))
+writeSays t (onlycap text) = doneReply (doneOf (onlycapWrite text t))
+writeSays t (mapping text) = doneReply (doneOf (mappingWrite text t))
 
 -- a call that writes no table
 abbrev pub askSays : Table → Ask → Reply

@@ -7,7 +7,7 @@ ghost use mathlib.Core.Path.{_≡_};
 ghost use mathlib.Core.Bool.{true};
 ghost use Prim.Native.Nat.{_+_};
 ghost use lib.ListN.{length, drop};
-ghost use Rattle.store.specs.Layout.{Store, store};
+ghost use Rattle.store.specs.Layout.{Store, store, lent, left};
 ghost use Rattle.load.specs.Loader.{endKept, beforeNewline, stepPiece, ready, load, fedLoader, pieceAfter, pieceAnswer, endedLoader, endAfter, endAnswer};
 
 // What a piece answers: done, with the loader for the next call, or refused.
@@ -31,7 +31,7 @@ fn end_line(
     l: Loader,
 ) -> Loader
     requires { ⌜ ready (load (store (now labels) (now entries) (now words)) (now line) l) ≡ true ⌝ }
-    ensures { λ r. ⌜ load (store (now (labels .exit)) (now (entries .exit)) (now (words .exit))) (now (line .entry)) r ≡ endKept (load (store (now (labels .entry)) (now (entries .entry)) (now (words .entry))) (now (line .entry)) l) ⌝ }
+    ensures { λ r. ⌜ load (left labels entries words) (now (line .entry)) r ≡ endKept (load (lent labels entries words) (now (line .entry)) l) ⌝ }
 {
     let kept = l.kept;
     if 600 < kept {
@@ -79,7 +79,7 @@ fn take_run(line: &mut [u8], l: Loader, run: &[u8]) -> Loader
 
 // Whether the lent state is undamaged, the loader too: refusal 0 otherwise.
 fn is_ready(labels: &[u8], entries: &[u8], words: &[u64], line: &[u8], l: Loader) -> bool
-    ensures { λ r. ⌜ r ≡ ready (load (store (now (labels .entry)) (now (entries .entry)) (now (words .entry))) (now (line .entry)) l) ⌝ }
+    ensures { λ r. ⌜ r ≡ ready (load (lent labels entries words) (now (line .entry)) l) ⌝ }
 {
     if !damage::undamaged(labels, entries, words) {
         return false;
@@ -99,8 +99,8 @@ pub fn piece(
     l: Loader,
     text: &[u8],
 ) -> Fed
-    ensures { λ r. ⌜ r ≡ pieceAnswer (load (store (now (labels .entry)) (now (entries .entry)) (now (words .entry))) (now (line .entry)) l) (now (text .entry)) ⌝ }
-    ensures { λ r. ⌜ load (store (now (labels .exit)) (now (entries .exit)) (now (words .exit))) (now (line .exit)) (fedLoader l r) ≡ pieceAfter (load (store (now (labels .entry)) (now (entries .entry)) (now (words .entry))) (now (line .entry)) l) (now (text .entry)) ⌝ }
+    ensures { λ r. ⌜ r ≡ pieceAnswer (load (lent labels entries words) (now (line .entry)) l) (now (text .entry)) ⌝ }
+    ensures { λ r. ⌜ load (left labels entries words) (now (line .exit)) (fedLoader l r) ≡ pieceAfter (load (lent labels entries words) (now (line .entry)) l) (now (text .entry)) ⌝ }
 {
     if !is_ready(labels, entries, words, line, l) {
         return Fed::Refused(0);
@@ -126,8 +126,8 @@ pub fn end(
     line: &mut [u8],
     l: Loader,
 ) -> Ended
-    ensures { λ r. ⌜ r ≡ endAnswer (load (store (now (labels .entry)) (now (entries .entry)) (now (words .entry))) (now (line .entry)) l) ⌝ }
-    ensures { λ r. ⌜ load (store (now (labels .exit)) (now (entries .exit)) (now (words .exit))) (now (line .exit)) (endedLoader l r) ≡ endAfter (load (store (now (labels .entry)) (now (entries .entry)) (now (words .entry))) (now (line .entry)) l) ⌝ }
+    ensures { λ r. ⌜ r ≡ endAnswer (load (lent labels entries words) (now (line .entry)) l) ⌝ }
+    ensures { λ r. ⌜ load (left labels entries words) (now (line .exit)) (endedLoader l r) ≡ endAfter (load (lent labels entries words) (now (line .entry)) l) ⌝ }
 {
     if !is_ready(labels, entries, words, line, l) {
         return Ended::Refused(0);

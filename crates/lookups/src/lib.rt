@@ -4,7 +4,8 @@ use search::Found;
 ghost use mathlib.Core.Path.{_≡_};
 ghost use Prim.Native.Nat.{_<_};
 ghost use lib.ListN.{getD};
-ghost use Rattle.store.specs.Layout.{store, tableOf, Sizes, Counts};
+ghost use Rattle.store.specs.Layout.{store, tableOf, Sizes};
+ghost use Rattle.store.specs.Within.{Counts};
 ghost use Rattle.lookups.specs.Lookups.{byLabelOf, byLevelOf, hasBoth, lowerOf};
 
 // What a look-up by label answers: the mapping's level, its set and how many categories are in it; that the label is unmapped; or a

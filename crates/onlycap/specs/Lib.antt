@@ -1,1 +1,2 @@
 pub mod Onlycap
+pub mod Within

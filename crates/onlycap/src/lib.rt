@@ -9,9 +9,10 @@ ghost use lib.ListN.{length, take};
 ghost use Rattle.search.specs.Search.{first, all, placeOf, countOf, entries};
 ghost use Rattle.search.specs.Bytes.{sameBytes};
 ghost use Rattle.alphabet.specs.Alphabet.{wellFormed, fields};
-ghost use Rattle.store.specs.Layout.{store, labelAt};
+ghost use Rattle.store.specs.Layout.{store, labelAt, lent, left};
 ghost use Rattle.rules.specs.Rules.{entered};
-ghost use Rattle.onlycap.specs.Onlycap.{loneDash, appearsIn, joined, countWith, listSet, Fits, onlycapAnswer, onlycapStore};
+ghost use Rattle.onlycap.specs.Onlycap.{loneDash, onlycapAnswer, onlycapStore};
+ghost use Rattle.onlycap.specs.Within.{appearsIn, joined, countWith, listSet, Fits};
 
 // The most bytes of a single write, and the most labels of the list and of the table.
 const LIMIT: usize = 600;
@@ -146,7 +147,7 @@ fn enter(labels: &mut [u8], stored: usize, label: &[u8]) -> Numbered
 // Replaces the list by the labels of a write that was judged.
 fn apply(labels: &mut [u8], entries: &mut [u8], words: &mut [u64], text: &[u8])
     requires { ⌜ Fits (store (now labels) (now entries) (now words)) (now text) ⌝ }
-    ensures { λ _. ⌜ store (now (labels .exit)) (now (entries .exit)) (now (words .exit)) ≡ listSet (store (now (labels .entry)) (now (entries .entry)) (now (words .entry))) (fields (now (text .entry))) ⌝ }
+    ensures { λ _. ⌜ left labels entries words ≡ listSet (lent labels entries words) (fields (now (text .entry))) ⌝ }
 {
     let mut stored = words[0] as usize;
     let mut listed = 0;
@@ -171,8 +172,8 @@ fn apply(labels: &mut [u8], entries: &mut [u8], words: &mut [u64], text: &[u8])
 
 // Replaces the onlycap list by the labels of a write, or clears it where the write is a lone dash.
 pub fn set_onlycap(labels: &mut [u8], entries: &mut [u8], words: &mut [u64], text: &[u8]) -> Done
-    ensures { λ r. ⌜ r ≡ onlycapAnswer (store (now (labels .entry)) (now (entries .entry)) (now (words .entry))) (now (text .entry)) ⌝ }
-    ensures { λ _. ⌜ store (now (labels .exit)) (now (entries .exit)) (now (words .exit)) ≡ onlycapStore (store (now (labels .entry)) (now (entries .entry)) (now (words .entry))) (now (text .entry)) ⌝ }
+    ensures { λ r. ⌜ r ≡ onlycapAnswer (lent labels entries words) (now (text .entry)) ⌝ }
+    ensures { λ _. ⌜ left labels entries words ≡ onlycapStore (lent labels entries words) (now (text .entry)) ⌝ }
 {
     if !damage::undamaged(labels, entries, words) {
         return Done::Refused(0);

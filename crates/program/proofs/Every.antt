@@ -10,7 +10,9 @@ use lib.ListN.{length, take, drop, replicate, length-replicate, length-append}
 use lib.Seq.{take-append-seam}
 use denote.Ref.{RefT, now}
 use Rattle.search.specs.Bytes.{written}
-use Rattle.store.specs.Layout.{Store, store, fullSizes, freshLabels, freshWords, freshStore}
+use Rattle.store.specs.Layout.{Store, store, fullSizes}
+use Rattle.store.specs.Within.{freshLabels, freshWords}
+use Rattle.store.specs.Judged.{freshStore}
 use Rattle.program_line.specs.declared.Session.{Session}
 use Rattle.program.specs.declared.Turn.the-variants.{Went, Refused}
 use Rattle.program_line.specs.Line.{State, state, sessionOf, freshSession, stepInput, sayInput, closeAfter, closeSays}

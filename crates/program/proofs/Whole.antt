@@ -13,7 +13,8 @@ use lib.Seq.{take-append-seam}
 use denote.Ref.{now}
 use Rattle.search.specs.Bytes.{written}
 use Rattle.store.specs.Table.{Table, fresh}
-use Rattle.store.specs.Layout.{Store, store, Sizes, freshStore}
+use Rattle.store.specs.Layout.{Store, store, Sizes}
+use Rattle.store.specs.Judged.{freshStore}
 use Rattle.store.proofs.Laws.{fresh-is, fresh-undamaged}
 use Rattle.access.specs.Access.{answer}
 use Rattle.reports.specs.Report.{freshLoader}
@@ -32,9 +33,8 @@ use Rattle.program.proofs.finish.Reads as finish-reads
 use Rattle.replies.specs.Replies.{answerTo, answerLine}
 use Rattle.program_line.specs.declared.Session.{Session}
 use Rattle.program.specs.declared.Turn.{Turn}
-use Rattle.program_line.specs.Line.{isMark}
+use Rattle.program_line.specs.Line.{isMark, State, state, freshSession, readyAll, lineAfter, lineSays, keepByte, stepByte, sayByte, stepInput, sayInput, closeSays}
 use Rattle.program.specs.Program.{linesFrom, lines, ruleLines, questionLines, asText, answerLines, reportLine, output}
-use Rattle.program_line.specs.Line.{State, state, freshSession, readyAll, lineAfter, lineSays, keepByte, stepByte, sayByte, stepInput, sayInput, closeSays}
 use Rattle.program.specs.Input.{lastAfter, lastSays, feedAnswer, feedAfter, feedSays, finishAnswer, finishSays, wentSession, wentCount}
 use Rattle.program.proofs.Laws.{feed-fine, finish-fine}
 use Rattle.program.proofs.Follows.{Phase, loads, asks, phaseBy, saidBy, lineTo, lineSaid, InPhase, Stands, Kept, line-follows, keep-follows, report-text, empty-line}

@@ -5,7 +5,8 @@ use program_line::Step;
 ghost use mathlib.Core.Path.{_≡_};
 ghost use lib.ListN.{length};
 ghost use Rattle.search.specs.Bytes.{written};
-ghost use Rattle.store.specs.Layout.{store, freshStore};
+ghost use Rattle.store.specs.Layout.{store};
+ghost use Rattle.store.specs.Judged.{freshStore};
 ghost use Rattle.program_line.specs.Line.{state, freshSession};
 ghost use Rattle.program.specs.Input.{feedAnswer, feedAfter, feedSays, finishAnswer, finishAfter, finishSays, wentSession, wentCount, Front};
 

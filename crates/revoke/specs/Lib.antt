@@ -1,1 +1,2 @@
 pub mod Revoke
+pub mod Within

@@ -15,7 +15,9 @@ use Rattle.search.proofs.Laws.{and-both, and-assoc, all-snoc, all-weaker, entri
 use Rattle.store.specs.declared.Rule.{Rule}
 use Rattle.store.specs.declared.Mapping.{Mapping}
 use Rattle.store.specs.Table.{Table, floor, hat, star, huh, web, fresh, soundRule, soundMapping, soundTable}
-use Rattle.store.specs.Layout.{Store, store, labelAt, ruleAt, mappingAt, onlycapAt, tableOf, undamagedOf, withLabel, withRule, held, freshLabels, freshWords, freshStore, Sizes, Counts}
+use Rattle.store.specs.Layout.{Store, store, labelAt, ruleAt, mappingAt, onlycapAt, tableOf, undamagedOf, held, Sizes}
+use Rattle.store.specs.Within.{withLabel, withRule, freshLabels, freshWords, Counts}
+use Rattle.store.specs.Judged.{freshStore}
 
 -- ---- the label store
 
@@ -116,114 +118,7 @@ module _ (n m : ℕ) (h : n ≤ m) where
         all-weaker (λ (k : ℕ). ltb k n) (λ (k : ℕ). ltb k m) below-more (t .onlycap) (a .1),
       )
 
--- ---- a fresh table
-
+-- a label that is written leaves the slice its length
 pub length-label : (t : List ℕ) (k : ℕ) (l : List ℕ) → length t ≡ 16384 → k < 64 → length l ≤ 255 → length (withLabel t k l) ≡ 16384
 unfolding withLabel
 length-label t k l full h small = length-written t (k * 256) (length l ∷ l) (omega arith) ∙ full
-
-module _ (l : List ℕ) (full : length l ≡ 16384) where
-  abbrev l₁ : List ℕ
-  l₁ = withLabel l 0 floor
-
-  abbrev l₂ : List ℕ
-  l₂ = withLabel l₁ 1 hat
-
-  abbrev l₃ : List ℕ
-  l₃ = withLabel l₂ 2 star
-
-  abbrev l₄ : List ℕ
-  l₄ = withLabel l₃ 3 huh
-
-  full₁ : length l₁ ≡ 16384
-  full₁ = length-label l 0 floor full (omega arith) (omega arith)
-
-  full₂ : length l₂ ≡ 16384
-  full₂ = length-label l₁ 1 hat full₁ (omega arith) (omega arith)
-
-  full₃ : length l₃ ≡ 16384
-  full₃ = length-label l₂ 2 star full₂ (omega arith) (omega arith)
-
-  full₄ : length l₄ ≡ 16384
-  full₄ = length-label l₃ 3 huh full₃ (omega arith) (omega arith)
-
-  pub length-fresh : length (freshLabels l) ≡ 16384
-  unfolding freshLabels
-  length-fresh = length-label l₄ 4 web full₄ (omega arith) (omega arith)
-
-  -- one label more
-  grow : (t : List ℕ) (k : ℕ) (x : List ℕ) → length t ≡ 16384 → k < 64 → length x ≤ 255 → entries (labelAt (withLabel t k x)) (suc k) ≡ entries (labelAt t) k ++ (x ∷ [])
-  grow t k x f h small =
-      last-entry (labelAt t) (labelAt (withLabel t k x)) k x
-      (λ j hj. sym (label-before t k j x (omega arith) hj))
-      (label-written t k x (omega arith) small)
-
-  pub fresh-labels : entries (labelAt (freshLabels l)) 5 ≡ fresh .labels
-  unfolding freshLabels
-  fresh-labels =
-      grow l₄ 4 web full₄ (omega arith) (omega arith)
-      ∙ ap (λ (ls : List (List ℕ)). ls ++ (web ∷ [])) (grow l₃ 3 huh full₃ (omega arith) (omega arith)
-      ∙ ap (λ (ls : List (List ℕ)). ls ++ (huh ∷ [])) (grow l₂ 2 star full₂ (omega arith) (omega arith)
-      ∙ ap (λ (ls : List (List ℕ)). ls ++ (star ∷ [])) (grow l₁ 1 hat full₁ (omega arith) (omega arith)
-      ∙ ap (λ (ls : List (List ℕ)). ls ++ (hat ∷ [])) (grow l 0 floor full (omega arith) (omega arith) ∙ ap (λ (ls : List (List ℕ)). ls ++ (floor ∷ [])) (entries-none (labelAt l))))))
-
--- the counts of a fresh table
-fresh-count : (w : List ℕ) → length w ≡ 36 → (getD (freshWords w) 0 0 ≡ 5) × (getD (freshWords w) 1 0 ≡ 0) × (getD (freshWords w) 2 0 ≡ 0) × (getD (freshWords w) 3 0 ≡ 0)
-unfolding freshWords
-fresh-count w e =
-    let w₁ = set w 0 5 in
-    let w₂ = set w₁ 1 0 in
-    let w₃ = set w₂ 2 0 in
-    let e₁ : length w₁ ≡ 36 = length-set w 0 5 ∙ e in
-    let e₂ : length w₂ ≡ 36 = length-set w₁ 1 0 ∙ e₁ in
-    let e₃ : length w₃ ≡ 36 = length-set w₂ 2 0 ∙ e₂ in (
-      getD-set-other w₃ 3 0 0 0 (λ z. absurd (omega arith)) ∙ getD-set-other w₂ 2 0 0 0 (λ z. absurd (omega arith)) ∙ getD-set-other w₁ 1 0 0 0 (λ z. absurd (omega arith)) ∙ getD-set-same w 0 5 0 (omega arith),
-      getD-set-other w₃ 3 1 0 0 (λ z. absurd (omega arith)) ∙ getD-set-other w₂ 2 1 0 0 (λ z. absurd (omega arith)) ∙ getD-set-same w₁ 1 0 0 (omega arith),
-      getD-set-other w₃ 3 2 0 0 (λ z. absurd (omega arith)) ∙ getD-set-same w₂ 2 0 0 (omega arith),
-      getD-set-same w₃ 3 0 0 (omega arith),
-    )
-
-length-words : (w : List ℕ) → length (freshWords w) ≡ length w
-unfolding freshWords
-length-words w =
-    length-set (set (set (set w 0 5) 1 0) 2 0) 3 0
-    ∙ length-set (set (set w 0 5) 1 0) 2 0
-    ∙ length-set (set w 0 5) 1 0
-    ∙ length-set w 0 5
-
-fresh-sound : soundTable 5 fresh ≡ true
-unfolding soundTable all
-fresh-sound = refl
-
-fresh-made : (st : Store) → Sizes (st .labels) (st .entries) (st .words) → tableOf (store (freshLabels (st .labels)) (st .entries) (freshWords (st .words))) ≡ fresh
-unfolding entries
-fresh-made st s =
-    let c = fresh-count (st .words) (s .words) in
-    rw (c .0, c .1, c .2, c .3) (ap (λ (ls : List (List ℕ)). record { labels = ls; rules = []; mappings = []; onlycap = [] }) (fresh-labels (st .labels) (s .labels)))
-
--- what `fresh_table` leaves is the fresh table, and undamaged
-pub fresh-is : (st : Store) → Sizes (st .labels) (st .entries) (st .words) → tableOf (freshStore st) ≡ fresh
-unfolding freshStore
-fresh-is st s = rw (eq-eqb _ _ (s .labels), eq-eqb _ _ (s .entries), eq-eqb _ _ (s .words)) (fresh-made st s)
-
-pub fresh-undamaged : (st : Store) → Sizes (st .labels) (st .entries) (st .words) → undamagedOf (freshStore st) ≡ true
-unfolding freshStore
-fresh-undamaged st s =
-    rw (eq-eqb _ _ (s .labels), eq-eqb _ _ (s .entries), eq-eqb _ _ (s .words))
-    (is-undamaged (store (freshLabels (st .labels)) (st .entries) (freshWords (st .words))) (record { sizes = sizes; counts = counts; sound = sound }))
-  where
-    made : Store
-    made = store (freshLabels (st .labels)) (st .entries) (freshWords (st .words))
-
-    sizes : Sizes (freshLabels (st .labels)) (st .entries) (freshWords (st .words))
-    sizes = record { labels = length-fresh (st .labels) (s .labels); entries = s .entries; words = length-words (st .words) ∙ s .words }
-
-    counts : Counts (freshWords (st .words))
-    counts =
-        let c = fresh-count (st .words) (s .words) in
-        record { labels = omega (arith, c .0); rules = omega (arith, c .1); mappings = omega (arith, c .2); onlycap = omega (arith, c .3) }
-
-    sound : soundTable (getD (freshWords (st .words)) 0 0) (tableOf made) ≡ true
-    sound =
-        let c = fresh-count (st .words) (s .words) in
-        ap (λ (n : ℕ). soundTable n (tableOf made)) (c .0) ∙ ap (λ (t : Table). soundTable 5 t) (fresh-made st s) ∙ fresh-sound

@@ -104,39 +104,12 @@ undamagedOf s =
     && (leb (getD (s .words) 3 0) onlycapLimit
     && soundTable (getD (s .words) 0 0) (tableOf s)))))))
 
--- a label written into place k, and a rule: nothing else changes
-unfoldable pub withLabel : List ℕ → ℕ → List ℕ → List ℕ
-withLabel labels k l = written labels (k * 256) (length l ∷ l)
-
-unfoldable pub withRule : List ℕ → ℕ → Rule → List ℕ
-withRule e k r = set (set (set e k (r .subject)) (objectsFrom + k) (r .object)) (modesFrom + k) (r .modes)
-
--- ---- a fresh table made of lent memory: the five labels are written and the counts set, and nothing else changes
-
+-- whether each part of lent memory has its full size
 abbrev pub fullSizes : Store → Bool
 fullSizes s = eqb (length (s .labels)) labelsSize && (eqb (length (s .entries)) entriesSize && eqb (length (s .words)) wordsSize)
 
-unfoldable pub freshLabels : List ℕ → List ℕ
-freshLabels l = withLabel (withLabel (withLabel (withLabel (withLabel l 0 floor) 1 hat) 2 star) 3 huh) 4 web
-
-unfoldable pub freshWords : List ℕ → List ℕ
-freshWords w = set (set (set (set w 0 5) 1 0) 2 0) 3 0
-
-unfoldable pub freshStore : Store → Store
-freshStore s = cond (fullSizes s) (store (freshLabels (s .labels)) (s .entries) (freshWords (s .words))) s
-
-unfoldable pub freshAnswer : Store → Done
-freshAnswer s = cond (fullSizes s) d.Done (d.Refused 0)
-
--- ---- the same, as facts for the functions that work on a tested store
-
+-- the same, as a fact
 pub record Sizes (l e w : List ℕ) : Type 0 where
   pub labels : length l ≡ labelsSize
   pub entries : length e ≡ entriesSize
   pub words : length w ≡ wordsSize
-
-pub record Counts (w : List ℕ) : Type 0 where
-  pub labels : getD w 0 0 ≤ labelLimit
-  pub rules : getD w 1 0 ≤ ruleLimit
-  pub mappings : getD w 2 0 ≤ mappingLimit
-  pub onlycap : getD w 3 0 ≤ onlycapLimit

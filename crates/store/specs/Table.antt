@@ -18,6 +18,19 @@ pub record Table : Type 0 where
   pub mappings : List Mapping
   pub onlycap : List ℕ
 
+-- a table with other labels, rules, mappings or onlycap list
+abbrev pub withLabels : Table → List (List ℕ) → Table
+withLabels t ls = record { labels = ls; rules = t .rules; mappings = t .mappings; onlycap = t .onlycap }
+
+abbrev pub withRules : Table → List Rule → Table
+withRules t rs = record { labels = t .labels; rules = rs; mappings = t .mappings; onlycap = t .onlycap }
+
+abbrev pub withMappings : Table → List Mapping → Table
+withMappings t ms = record { labels = t .labels; rules = t .rules; mappings = ms; onlycap = t .onlycap }
+
+abbrev pub withOnlycap : Table → List ℕ → Table
+withOnlycap t ns = record { labels = t .labels; rules = t .rules; mappings = t .mappings; onlycap = ns }
+
 -- the labels that have numbers 0 to 4 in every table grown from a fresh one: _ ^ * ? @
 abbrev pub floor : List ℕ
 floor = 95 ∷ []

@@ -4,7 +4,9 @@ ghost use mathlib.Core.Path.{_≡_};
 ghost use Prim.Native.Nat.{_+_, _<_, _≤_};
 ghost use lib.ListN.{length};
 ghost use Rattle.store.specs.Table.{labelLimit, ruleLimit};
-ghost use Rattle.store.specs.Layout.{store, lent, labelsSize, modesFrom, withLabel, withRule, freshAnswer, freshStore};
+ghost use Rattle.store.specs.Layout.{store, lent, labelsSize, modesFrom};
+ghost use Rattle.store.specs.Within.{withLabel, withRule};
+ghost use Rattle.store.specs.Judged.{freshAnswer, freshStore};
 
 // The full size of each lent slice, as specs/Layout.antt has them.
 pub const LABELS_SIZE: usize = 16384;

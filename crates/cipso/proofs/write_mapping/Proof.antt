@@ -3,7 +3,7 @@ use mathlib.Core.Path.{refl}
 use lib.ListN.{length-set}
 use native.Mathlib.Omega.{arith}
 use borrow.Author.Needs.{needs}
-use Rattle.cipso.specs.Cipso.{withNumbers, withWord}
+use Rattle.cipso.specs.Within.{withNumbers, withWord}
 use Rattle.cipso.proofs.write_mapping.Statement.{statement}
 use Rattle.cipso.proofs.write_mapping.Tie as tie
 

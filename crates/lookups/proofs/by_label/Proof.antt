@@ -81,7 +81,7 @@ returns-3 c =
     sym (label-unknown (a .labels .now) (a .entries .now) (a .words .now) (a .label .now) (tested (c .before .before .before .before .before .before .before .before)) (formed (c .before .before .before .before .before)) (sym (c .before .before .find-label .ensures) ∙ c .enum-told3 .given .1))
 
 find-mapping-requires : tie.Need-find-mapping-requires
-find-mapping-requires c κs = (whole (c .before .before .before .before .before .before .before .before .before) .sizes .entries, whole (c .before .before .before .before .before .before .before .before .before) .counts .mappings)
+find-mapping-requires c κs = (omega (arith, whole (c .before .before .before .before .before .before .before .before .before) .sizes .entries), whole (c .before .before .before .before .before .before .before .before .before) .counts .mappings)
 
 enum-known-k : tie.Need-enum-known-k
 enum-known-k c = search needs

@@ -12,7 +12,7 @@ use Rattle.search.specs.Search.{entries, placeOf, countOf}
 use Rattle.alphabet.specs.Alphabet.{fields, part}
 use Rattle.alphabet.proofs.Laws.{field-some}
 use Rattle.store.specs.Layout.{Store, store}
-use Rattle.onlycap.specs.Onlycap.{appearsIn, foundIn, takenUpTo, Taken}
+use Rattle.onlycap.specs.Within.{appearsIn, foundIn, takenUpTo, Taken}
 use Rattle.onlycap.specs.declared.Numbered.{Numbered}
 use Rattle.onlycap.proofs.Laws.{Passed, Next, passed-none, passed-more, passed-all, taken, upTo, Ready, ready-here, taken-facts, taken-more, taken-all}
 use Rattle.onlycap.proofs.apply.Statement.{statement}

@@ -8,7 +8,7 @@ use native.Mathlib.Omega.{arith}
 use lib.ListN.{take, getD}
 use Rattle.search.specs.Bytes.{sameBytes}
 use Rattle.alphabet.specs.Alphabet.{fields}
-use Rattle.onlycap.specs.Onlycap.{appearsIn}
+use Rattle.onlycap.specs.Within.{appearsIn}
 use Rattle.onlycap.proofs.Laws.{Passed, Next, passed-none, passed-more, passed-all, appears-none, appears-more, appears-found, appears-all}
 use Rattle.onlycap.proofs.seen_before.Statement.{statement}
 use Rattle.onlycap.proofs.seen_before.Tie as tie

@@ -5,7 +5,8 @@ use mathlib.Core.Logic.{⊎-elim}
 use native.Mathlib.Omega.{arith}
 use Rattle.search.specs.Search.{entries}
 use Rattle.store.specs.Layout.{ruleAt}
-use Rattle.revoke.specs.Revoke.{hasSubject, howMany, cleared}
+use Rattle.revoke.specs.Revoke.{hasSubject, howMany}
+use Rattle.revoke.specs.Within.{cleared}
 use Rattle.revoke.proofs.Laws.{Clearing, clearing-none, clearing-yes, clearing-no, clearing-as}
 use Rattle.revoke.proofs.clear.Statement.{statement}
 use Rattle.revoke.proofs.clear.Tie as tie
@@ -22,11 +23,11 @@ loop-holds c = (omega arith, clearing-none _ _)
 slice-read-if1 : tie.Need-slice-read-if1 Inv-loop μ-loop
 slice-read-if1 c = omega arith
 
-add-rules : tie.Need-add-rules Inv-loop μ-loop
-add-rules c = omega arith
+add-entries : tie.Need-add-entries Inv-loop μ-loop
+add-entries c = omega arith
 
-slice-write-rules : tie.Need-slice-write-rules Inv-loop μ-loop
-slice-write-rules c = omega arith
+slice-write-entries : tie.Need-slice-write-entries Inv-loop μ-loop
+slice-write-entries c = omega arith
 
 add-n : tie.Need-add-n Inv-loop μ-loop
 add-n c = omega arith
@@ -42,8 +43,8 @@ loop-again c =
     let l = c .before .before .before in
     let a = c .before .before .before .before .args in
     let h : l .loop .i < 512 = omega arith in
-    let yes = clearing-yes (a .rules .now) (a .subject) (l .loop .rules) (l .loop .n) (l .loop .i) (l .loop .inv .1) h in
-    let no = clearing-no (a .rules .now) (a .subject) (l .loop .rules) (l .loop .n) (l .loop .i) (l .loop .inv .1) h in
+    let yes = clearing-yes (a .entries .now) (a .subject) (l .loop .entries) (l .loop .n) (l .loop .i) (l .loop .inv .1) h in
+    let no = clearing-no (a .entries .now) (a .subject) (l .loop .entries) (l .loop .n) (l .loop .i) (l .loop .inv .1) h in
     (omega arith, ⊎-elim (λ w. clearing-as (w .1) (w .2) (yes (w .0 .taken))) (λ w. clearing-as (w .1) (w .2) (no (w .0 .left))) (c .if1 .came))
 
 same-length : tie.Need-same-length Inv-loop μ-loop
@@ -53,7 +54,7 @@ returns : tie.Need-returns Inv-loop μ-loop
 returns c =
     let l = c .before in
     let z : l .loop .i ≡ c .before .before .args .count = omega arith in
-    (l .loop .inv .1 .counted ∙ ap (λ (i : ℕ). howMany (hasSubject (c .before .before .args .subject)) (entries (ruleAt (c .before .before .args .rules .now)) i)) z, l .loop .inv .1 .same ∙ ap (cleared (c .before .before .args .rules .now) (c .before .before .args .subject)) z)
+    (l .loop .inv .1 .counted ∙ ap (λ (i : ℕ). howMany (hasSubject (c .before .before .args .subject)) (entries (ruleAt (c .before .before .args .entries .now)) i)) z, l .loop .inv .1 .same ∙ ap (cleared (c .before .before .args .entries .now) (c .before .before .args .subject)) z)
 
 pub clear-spec : {M : Type 1} → statement M
 clear-spec =
@@ -63,8 +64,8 @@ clear-spec =
     μ-loop
     loop-holds
     slice-read-if1
-    add-rules
-    slice-write-rules
+    add-entries
+    slice-write-entries
     add-n
     add-i
     loop-less

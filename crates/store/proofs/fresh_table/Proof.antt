@@ -3,10 +3,13 @@ use Prim.Native.Nat.{ℕ}
 use mathlib.Core.Path.{_≡_, refl, _∙_, ap}
 use mathlib.Core.List.{List}
 use native.Mathlib.Omega.{arith}
-use borrow.Author.Tests.{eq-eqb, ne-eqb}
+use borrow.Author.Tests.{eq-eqb, eqb-true, ne-eqb}
 use lib.ListN.{length, length-set}
 use Rattle.store.specs.Table.{floor, hat, star, huh, web}
-use Rattle.store.specs.Layout.{Store, store, withLabel, freshLabels, freshWords, freshStore, freshAnswer}
+use Rattle.store.specs.Layout.{Store, store, Sizes}
+use Rattle.store.specs.Within.{withLabel, freshLabels, freshWords}
+use Rattle.store.specs.Judged.{freshWrite, freshStore, freshAnswer}
+use Rattle.store.proofs.Laid.{laid-fresh}
 use borrow.Author.Needs.{needs}
 use Rattle.store.proofs.fresh_table.Statement.{statement}
 use Rattle.store.proofs.fresh_table.Tie as tie
@@ -15,20 +18,20 @@ same-store : {l l′ : List ℕ} (e w : List ℕ) → l ≡ l′ → store l e w
 same-store e w p = rw p
 
 returns : tie.Need-returns
-unfolding freshAnswer freshStore
+unfolding freshAnswer freshStore freshWrite
 returns c =
     let z = ne-eqb _ _ (c .if1 .taken) in
     (rw z, rw z)
 
 returns-2 : tie.Need-returns-2
-unfolding freshAnswer freshStore
+unfolding freshAnswer freshStore freshWrite
 returns-2 c =
     let y = eq-eqb _ _ (c .before .if1 .left) in
     let z = ne-eqb _ _ (c .if2 .taken) in
     (rw (y, z), rw (y, z))
 
 returns-3 : tie.Need-returns-3
-unfolding freshAnswer freshStore
+unfolding freshAnswer freshStore freshWrite
 returns-3 c =
     let x = eq-eqb _ _ (c .before .before .if1 .left) in
     let y = eq-eqb _ _ (c .before .if2 .left) in
@@ -84,7 +87,7 @@ same-length-2 : tie.Need-same-length-2
 same-length-2 c = search needs
 
 returns-4 : tie.Need-returns-4
-unfolding freshAnswer freshStore freshLabels freshWords
+unfolding freshAnswer freshStore freshWrite freshLabels freshWords
 returns-4 c =
     let x = eq-eqb _ _ (c .before .before .before .before .before .before .before .before .before .before .before .before .before .before .before .before .before .before .before .before .before .before .before .before .before .before .before .if1 .left) in
     let y = eq-eqb _ _ (c .before .before .before .before .before .before .before .before .before .before .before .before .before .before .before .before .before .before .before .before .before .before .before .before .before .before .if2 .left) in
@@ -94,7 +97,10 @@ returns-4 c =
     ∙ ap (λ (t : List ℕ). withLabel t 3 huh) (c .before .before .before .before .before .before .before .before .before .before .before .before .write-label3 .ensures
     ∙ ap (λ (t : List ℕ). withLabel t 2 star) (c .before .before .before .before .before .before .before .before .before .before .before .before .before .before .before .before .before .write-label2 .ensures
     ∙ ap (λ (t : List ℕ). withLabel t 1 hat) (c .before .before .before .before .before .before .before .before .before .before .before .before .before .before .before .before .before .before .before .before .before .before .write-label .ensures)))) in
-    (rw (x, y, z), rw (x, y, z) (same-store _ _ l))
+    let start = c .before .before .before .before .before .before .before .before .before .before .before .before .before .before .before .before .before .before .before .before .before .before .before .before .before .before .before .before .before .before .before in
+    let st = store (start .args .labels .now) (start .args .entries .now) (start .args .words .now) in
+    let s : Sizes (st .labels) (st .entries) (st .words) = record { labels = eqb-true _ _ x; entries = eqb-true _ _ y; words = eqb-true _ _ z } in
+    (rw (x, y, z), rw (x, y, z) (same-store _ _ l ∙ laid-fresh st s))
 
 pub fresh-table-spec : {M : Type 1} → statement M
 fresh-table-spec =

@@ -2,7 +2,7 @@
 use Prim.Native.Nat.{_*_, _<_}
 use mathlib.Core.Path.{_≡_, _∙_}
 use lib.ListN.{length, length-set}
-use Rattle.store.specs.Layout.{withLabel}
+use Rattle.store.specs.Within.{withLabel}
 use borrow.Author.Needs.{needs}
 use native.Mathlib.Omega.{arith}
 use Rattle.store.proofs.Laws.{written-cons}

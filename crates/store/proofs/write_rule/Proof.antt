@@ -1,7 +1,7 @@
 -- `store::write_rule` meets its contract: three numbers are stored, each in its own run. Assumes nothing.
 use mathlib.Core.Path.{refl}
 use lib.ListN.{length-set}
-use Rattle.store.specs.Layout.{withRule}
+use Rattle.store.specs.Within.{withRule}
 use borrow.Author.Needs.{needs}
 use native.Mathlib.Omega.{arith}
 use Rattle.store.proofs.write_rule.Statement.{statement}

@@ -9,6 +9,7 @@ use Rattle.lines.specs.Lines.{change, changeOf, at, changeSaid, ChangeInside}
 use Rattle.lines.specs.declared.ChangeLine.{ChangeLine}
 use Rattle.lines.specs.declared.ChangeLine.the-variants as x
 use Rattle.lines.proofs.Laws.{Taken, change-sound}
+use Rattle.store.specs.Judged.{onState}
 use Rattle.writes.specs.Writes.{changeAnswer, changeStore}
 use borrow.Author.Needs.{needs}
 use native.Mathlib.Omega.{arith}
@@ -53,7 +54,7 @@ same-length-3 : tie.Need-same-length-3
 same-length-3 c = search needs
 
 returns : tie.Need-returns
-unfolding changeAnswer changeStore
+unfolding changeAnswer changeStore onState
 returns c =
     let e = sym (c .before .undamaged .ensures) ∙ not-true _ (c .if1 .taken) in
     (rw e, rw e)
@@ -112,7 +113,7 @@ same-length-6 : tie.Need-same-length-6
 same-length-6 c = search needs
 
 returns-2 : tie.Need-returns-2
-unfolding changeAnswer changeStore
+unfolding changeAnswer changeStore onState
 returns-2 c =
     let u = tested (c .before .before .before .before) in
     let e = sym (c .before .before .before .change-line .ensures .1 .0) ∙ ap (λ (y : ChangeLine). changeSaid (c .before .before .before .before .before .before .before .before .before .before .before .before .before .args .text .now) y) (c .before .said .given .1) in
@@ -128,7 +129,7 @@ same-length-9 : tie.Need-same-length-9
 same-length-9 c = search needs
 
 returns-3 : tie.Need-returns-3
-unfolding changeAnswer changeStore
+unfolding changeAnswer changeStore onState
 returns-3 c =
     let u = tested (c .before .before .before .before .before .before .before .before .before .before .before .before .before .before .before .before) in
     let e = says (c .before .before .before .before .before .before .before .before .before .before .before .before) in

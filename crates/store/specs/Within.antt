@@ -1,0 +1,30 @@
+-- What the code writes into the lent slices, and what it knows of a tested store. Nobody has to believe this: contracts inside the library cite it.
+-- Assumes nothing.
+use Prim.Native.Nat.{ℕ, _+_, _*_, _≤_}
+use mathlib.Core.List.{List, _∷_}
+use lib.ListN.{length, getD, set}
+use Rattle.search.specs.Bytes.{written}
+use Rattle.store.specs.declared.Rule.{Rule}
+use Rattle.store.specs.Table.{floor, hat, star, huh, web, labelLimit, ruleLimit, mappingLimit, onlycapLimit}
+use Rattle.store.specs.Layout.{objectsFrom, modesFrom}
+
+-- a label written into place k, and a rule: nothing else changes
+unfoldable pub withLabel : List ℕ → ℕ → List ℕ → List ℕ
+withLabel labels k l = written labels (k * 256) (length l ∷ l)
+
+unfoldable pub withRule : List ℕ → ℕ → Rule → List ℕ
+withRule e k r = set (set (set e k (r .subject)) (objectsFrom + k) (r .object)) (modesFrom + k) (r .modes)
+
+-- a fresh table: the five labels are written and the counts set, and nothing else changes
+unfoldable pub freshLabels : List ℕ → List ℕ
+freshLabels l = withLabel (withLabel (withLabel (withLabel (withLabel l 0 floor) 1 hat) 2 star) 3 huh) 4 web
+
+unfoldable pub freshWords : List ℕ → List ℕ
+freshWords w = set (set (set (set w 0 5) 1 0) 2 0) 3 0
+
+-- no count is over its limit
+pub record Counts (w : List ℕ) : Type 0 where
+  pub labels : getD w 0 0 ≤ labelLimit
+  pub rules : getD w 1 0 ≤ ruleLimit
+  pub mappings : getD w 2 0 ≤ mappingLimit
+  pub onlycap : getD w 3 0 ≤ onlycapLimit
