@@ -9,23 +9,30 @@ use lib.ListN.{length}
 use borrow.Author.Tests.{lt-ltb}
 use Rattle.search.specs.Bytes.{sameBytes}
 use Rattle.alphabet.specs.Alphabet.{wellFormed, fields}
-use Rattle.modes.specs.Modes.{readModes, ruleLetters}
+use Rattle.modes.specs.Modes.{readModes, ruleLetters, changeLetters}
 use Rattle.modes.specs.declared.Access.{Access}
 use Rattle.modes.specs.declared.Access.the-variants.{Modes, Bad}
-use Rattle.store.specs.Table.{Table}
-use Rattle.lines.specs.Lines.{Said, skipped, refused, rule, change, ruleOf, changeOf, ruleBy, ruleWith, ruleFields}
-use Rattle.writes.specs.Writes.{judged}
+use Rattle.store.specs.Table.{Table, labelIn}
+use Rattle.lines.specs.Lines.{Said, skipped, refused, rule, change, ruleOf, changeOf, ruleBy, ruleWith, ruleFields, changeBy, changeWith, changeFields}
+use Rattle.writes.specs.Writes.{judged, changeJudged}
 use Rattle.store.specs.Judged.{Judged, is-skipped, is-refused, is-accepted, tableAfter}
+use Rattle.rules.specs.Rules.{noPlace, placing}
+use Rattle.rules.specs.declared.Place.{Place}
+use Rattle.rules.specs.declared.Place.the-variants as p
+use Rattle.revoke.specs.Revoke.{revokeWrite, withoutModes}
+use Rattle.onlycap.proofs.Laws.{by-case}
+use Rattle.cipso.specs.Cipso as cipso
+use Rattle.cipso.specs.Cipso.{mappingWrite}
 use Rattle.reports.specs.Report.{freshLoader}
 use Rattle.load.specs.Loader.{Load, load, stepByte, stepEnd}
 use Rattle.lists.specs.Reader as r
-use Rattle.lists.specs.Reader.{Totals, counted, Reader, startOn, endLine, takeByte, finish, Write, written, Event, byte, stop, wrote}
+use Rattle.lists.specs.Reader.{Totals, counted, Reader, startOn, endLine, takeByte, finish, Write, judgeWrite, written, Event, byte, stop, wrote}
 use Rattle.lists.proofs.Follows.{Holds, step-follows, finish-follows, fresh-holds}
 use Rattle.lists.proofs.Steps.{on}
-use Rattle.lists.proofs.Others.{storeAfter, write-holds}
-use Rattle.grown.specs.Grown.{Grown, by-rule, by-change, by-revoke, by-onlycap, by-mapping}
+use Rattle.lists.proofs.Others.{storeLeft, write-holds}
+use Rattle.grown.specs.Grown.{Grown, by-line, by-write}
 use Rattle.grown.specs.Pairs.{SoundTable, isAccepted}
-use Rattle.grown.proofs.Pairs.{undamaged-sound, line-sets, rule-triple, rule-accepted}
+use Rattle.grown.proofs.Pairs.{undamaged-sound, line-sets, change-sets, rule-triple, rule-accepted}
 use Rattle.calls.specs.PlainReaders as m
 use Rattle.calls.specs.PlainReaders.{Act, actsFrom, Made}
 
@@ -104,6 +111,93 @@ line-made t bytes {t′} {rest} whole more = by-judged (judged t (ruleOf bytes))
     by-judged (is-refused n) e more = m.refused n e more
     by-judged (is-accepted t₁) e more = by-said t₁ e more (ruleOf bytes) refl (no-change bytes)
 
+-- ---- a single write acts at once; it is never skipped
+
+abbrev OnlyChange : Said → Type 0
+OnlyChange skipped = ⊥
+OnlyChange (refused n) = Unit {0}
+OnlyChange (rule s o m) = ⊥
+OnlyChange (change s o a d) = Unit {0}
+
+only-change : (text : List ℕ) → OnlyChange (changeOf text)
+unfolding changeOf changeBy
+only-change text = by-length (ltb 600 (length text))
+  where
+    by-access : (s o : List ℕ) (x y : Access) → OnlyChange (changeWith s o x y)
+    by-access s o Bad y = tt
+    by-access s o (Modes a) Bad = tt
+    by-access s o (Modes a) (Modes d) = by-same (sameBytes s o)
+      where
+        by-same : (c : Bool) → OnlyChange (cond c (refused 5) (change s o a d))
+        by-same true = tt
+        by-same false = tt
+
+    by-formed : (s o : List ℕ) (x y : Access) (b : Bool) → OnlyChange (cond b (changeWith s o x y) (refused 3))
+    by-formed s o x y true = by-access s o x y
+    by-formed s o x y false = tt
+
+    by-fields : (fs : List (List ℕ)) → OnlyChange (changeFields fs)
+    by-fields [] = tt
+    by-fields (s ∷ []) = tt
+    by-fields (s ∷ o ∷ []) = tt
+    by-fields (s ∷ o ∷ a ∷ []) = tt
+    by-fields (s ∷ o ∷ a ∷ d ∷ []) = by-formed s o (readModes changeLetters true a) (readModes changeLetters true d) (wellFormed s && wellFormed o)
+    by-fields (s ∷ o ∷ a ∷ d ∷ x ∷ more) = tt
+
+    by-length : (b : Bool) → OnlyChange (cond b (refused 1) (changeFields (fields text)))
+    by-length true = tt
+    by-length false = by-fields (fields text)
+
+abbrev NotSkipped : Judged → Type 0
+NotSkipped is-skipped = ⊥
+NotSkipped (is-refused n) = Unit {0}
+NotSkipped (is-accepted t) = Unit {0}
+
+not-skipped : (t : Table) (w : Write) → NotSkipped (judgeWrite w t)
+unfolding revokeWrite mappingWrite
+not-skipped t (r.change text) = by-said (changeOf text) (only-change text)
+  where
+    by-place : (s o : List ℕ) (a d : ℕ) (q : Place) → NotSkipped (changeJudged t s o a d q)
+    by-place s o a d (p.Refused n) = tt
+    by-place s o a d (p.At spot) = tt
+
+    by-said : (said : Said) → OnlyChange said → NotSkipped (judged t said)
+    by-said skipped o = o
+    by-said (refused n) o = tt
+    by-said (rule s o m) z = absurd z
+    by-said (change s o a d) z = by-place s o a d (placing t s o)
+not-skipped t (r.revoke l) = by-tests (ltb 600 (length l)) (wellFormed l)
+  where
+    by-tests : (a b : Bool) → NotSkipped (cond a (is-refused 1) (cond b (is-accepted (withoutModes t (labelIn t l))) (is-refused 3)))
+    by-tests true b = tt
+    by-tests false true = tt
+    by-tests false false = tt
+not-skipped t (r.onlycap text) = by-case NotSkipped t text (λ n. tt) tt (λ a b c d. tt)
+not-skipped t (r.mapping text) = by-said (cipso.mappingOf text)
+  where
+    by-tests : (a b : Bool) (t′ : Table) → NotSkipped (cond a (is-refused 6) (cond b (is-refused 10) (is-accepted t′)))
+    by-tests true b t′ = tt
+    by-tests false true t′ = tt
+    by-tests false false t′ = tt
+
+    by-said : (said : cipso.SaidMapping) → NotSkipped (cipso.saidJudged t said)
+    by-said (cipso.refused n) = tt
+    by-said (cipso.mapping l level s) = by-tests (noPlace (labelIn t l) (length (t .labels)) 64) (noPlace (cipso.mappingFor t l) (length (t .mappings)) 32) (cipso.withMapping t l level s)
+
+sets : (t t₁ : Table) (w : Write) → SoundTable t → judgeWrite w t ≡ is-accepted t₁ → m.Sets t t₁ w
+sets t t₁ (r.change text) whole e = λ s o a d q. change-sets t t₁ text s o a d whole q e
+sets t t₁ (r.revoke l) whole e = tt
+sets t t₁ (r.onlycap text) whole e = tt
+sets t t₁ (r.mapping text) whole e = tt
+
+write-made : (t : Table) (w : Write) {t′ : Table} {rest : List Act} → SoundTable t → Made (written t w) rest t′ → Made t (m.single w ∷ rest) t′
+write-made t w {t′} {rest} whole more = by-judged (judgeWrite w t) refl (not-skipped t w) more
+  where
+    by-judged : (j : Judged) → judgeWrite w t ≡ j → NotSkipped j → Made (tableAfter t j) rest t′ → Made t (m.single w ∷ rest) t′
+    by-judged is-skipped e z more = absurd z
+    by-judged (is-refused n) e z more = m.write-refused w n e more
+    by-judged (is-accepted t₁) e z more = m.write-accepted w e (sets t t₁ w whole e) more
+
 finish-some : (t : Table) (b : ℕ) (bs : List ℕ) (c : Totals) → finish (record { table = t; kept = b ∷ bs; totals = c }) .table ≡ tableAfter t (judged t (ruleOf (b ∷ bs)))
 unfolding finish endLine
 finish-some t b bs c = rw (lt-ltb 0 (length (b ∷ bs)) (omega arith))
@@ -132,23 +226,15 @@ made t (b ∷ bs) c (stop ∷ es) h =
     subst (λ (x : Table). Held (startOn x) → Made t (m.line (b ∷ bs) ∷ actsFrom [] es) (foldl on (startOn x) es .table)) (sym (finish-some t b bs c))
     (λ g. line-made t (b ∷ bs) (held-sound (record { table = t; kept = b ∷ bs; totals = c }) h) (made (tableAfter t (judged t (ruleOf (b ∷ bs)))) [] r.zeros es g))
     (held-end (record { table = t; kept = b ∷ bs; totals = c }) h)
-made t kept c (wrote w ∷ es) (s, h) = m.by-write w (made (written t w) kept c es (load (storeAfter (s .store) w) (s .line) (s .loader), write-holds s (record { table = t; kept = kept; totals = c }) w h))
+made t kept c (wrote w ∷ es) (s, h) =
+    write-made t w (held-sound (record { table = t; kept = kept; totals = c }) (s, h))
+    (made (written t w) kept c es (load (storeLeft (s .store) w) (s .line) (s .loader), write-holds s (record { table = t; kept = kept; totals = c }) w h))
 
 -- a grown table stays grown
 pub grown-made : {t t′ : Table} {ws : List Act} → Made t ws t′ → Grown t → Grown t′
 grown-made m.none g = g
 grown-made (m.skipped e more) g = grown-made more g
 grown-made (m.refused n e more) g = grown-made more g
-grown-made (m.accepted {bytes = bytes} s o k e w room sets more) g = grown-made more (by-rule bytes g e)
-grown-made (m.by-write {t = t} w more) g = grown-made more (by-write w)
-  where
-    by-judged : (text : List ℕ) (j : Judged) → judged t (changeOf text) ≡ j → Grown (tableAfter t j)
-    by-judged text is-skipped e = g
-    by-judged text (is-refused n) e = g
-    by-judged text (is-accepted t₁) e = by-change text g e
-
-    by-write : (w : Write) → Grown (written t w)
-    by-write (r.change text) = by-judged text (judged t (changeOf text)) refl
-    by-write (r.revoke l) = by-revoke l g refl
-    by-write (r.onlycap text) = by-onlycap text g refl
-    by-write (r.mapping text) = by-mapping text g refl
+grown-made (m.accepted {bytes = bytes} s o k e w room sets more) g = grown-made more (by-line bytes g e)
+grown-made (m.write-refused w n e more) g = grown-made more g
+grown-made (m.write-accepted w e sets more) g = grown-made more (by-write w g e)

@@ -65,7 +65,7 @@ use Rattle.store.specs.declared.Done.{Done}
 use Rattle.store.specs.declared.Done.the-variants as d
 use Rattle.store.specs.Layout.{Store, store}
 use Rattle.writes.specs.Writes.{changeAnswer, changeStore}
-use Rattle.revoke.specs.Revoke.{revokeAnswer, revokeEntries}
+use Rattle.revoke.specs.Revoke.{revokeAnswer, revokeStore}
 use Rattle.onlycap.specs.Onlycap.{onlycapAnswer, onlycapStore}
 use Rattle.cipso.specs.Cipso.{mapAnswer, mapStored}
 use Rattle.lookups.specs.Lookups.{byLabelOf, byLevelOf}
@@ -247,7 +247,7 @@ revoke-call st l =
       args = (ref (st .labels), (ref (st .entries), (ref (st .words), (ref l, tt))));
       asked = tt;
       result = revokeShown (revokeAnswer st l);
-      last = (tt, (revokeEntries st l, (tt, (tt, tt))));
+      last = (tt, (revokeStore st l .entries, (tt, (tt, tt))));
       ensures = (refl, refl);
     }
 

@@ -29,7 +29,7 @@ use Rattle.lists.specs.Reader as r
 use Rattle.lists.specs.Reader.{Reader, startOn, takePiece, Call, Reply, doneReply, countReply, Write, writeSays, writeOn, askSays, after, afterAll, saysAll, Event, events, reports}
 use Rattle.lists.proofs.Follows.{Holds, fresh-holds}
 use Rattle.lists.proofs.Steps.{fed-reply, end-reply, piece-law, end-law, on, after-events, reportsOn, reports-events}
-use Rattle.lists.proofs.Others.{storeAfter, write-holds, by-label-refused, by-label-says, by-level-refused, by-level-says, change-refused, change-says, check-refused, check-says, label-refused, label-says, list-refused, list-says, mapping-refused, mapping-says, onlycap-refused, onlycap-says, question-refused, question-says, revoke-refused, revoke-says, write-refused}
+use Rattle.lists.proofs.Others.{storeLeft, write-holds, by-label-refused, by-label-says, by-level-refused, by-level-says, change-refused, change-says, check-refused, check-says, label-refused, label-says, list-refused, list-says, mapping-refused, mapping-says, onlycap-refused, onlycap-says, question-refused, question-says, revoke-refused, revoke-says, write-refused}
 use Rattle.calls.specs.Calls.{Fresh, Runs, none, a-piece, an-end, a-question, a-change, a-revoke, an-onlycap, a-mapping, a-look-up, a-search, a-listing, a-label, a-check, taken-reply, finished-reply, written-reply, counted-reply}
 use Rattle.calls.specs.PlainReaders.{acts, Made, PlainReaders, refusal-of}
 use Rattle.calls.proofs.Acts.{made, grown-made}
@@ -65,7 +65,7 @@ both-listed : {x y : Length} {out to : List ℕ} → x ≡ y → out ≡ to → 
 both-listed e f = rw (e, f)
 
 -- a single write left this store, and this was read of its answer
-after-write : (w : Write) {s : Load} {st : Store} (p : Reader) → st ≡ storeAfter (s .store) w → Holds s p → Holds (load st (s .line) (s .loader)) (writeOn p w)
+after-write : (w : Write) {s : Load} {st : Store} (p : Reader) → st ≡ storeLeft (s .store) w → Holds s p → Holds (load st (s .line) (s .loader)) (writeOn p w)
 after-write w {s} p e h = subst (λ (z : Store). Holds (load z (s .line) (s .loader)) (writeOn p w)) (sym e) (write-holds s p w h)
 
 of-reader : {s : Load} {p : Reader} (g : Table → Reply) {x : Reply} → Holds s p → x ≡ g (tableOf (s .store)) → x ≡ g (p .table)
@@ -182,7 +182,7 @@ refused-more :
     (s′ ≡ s) × ((x ∷ rs) ≡ (q ∷ qs))
 refused-more p e r = (r .0 ∙ p, cc (e, r .1))
 
-with-store : (w : Write) {st st′ : Store} (line : List ℕ) (loader : Loader) → st′ ≡ storeAfter st w → undamagedOf st ≡ false → load st′ line loader ≡ load st line loader
+with-store : (w : Write) {st st′ : Store} (line : List ℕ) (loader : Loader) → st′ ≡ storeLeft st w → undamagedOf st ≡ false → load st′ line loader ≡ load st line loader
 with-store w {st} line loader e u = ap (λ (x : Store). load x line loader) (e ∙ write-refused st u w)
 
 pub damaged : {s s′ : Load} {cs : List Call} {rs : List Reply} → undamagedOf (s .store) ≡ false → Runs s cs rs s′ → (s′ ≡ s) × (rs ≡ map refusal-of cs)

@@ -6,8 +6,8 @@ use mathlib.Core.List.{List, [], _∷_, _++_}
 use lib.Dec.{eqb}
 use Rattle.store.specs.Table.{Table}
 use Rattle.store.specs.Layout.{tableOf}
-use Rattle.lines.specs.Lines.{ruleOf}
-use Rattle.writes.specs.Writes.{judged}
+use Rattle.lines.specs.Lines.{change, ruleOf, changeOf}
+use Rattle.writes.specs.Writes.{judged, changed}
 use Rattle.store.specs.Judged.{is-skipped, is-refused, is-accepted}
 use Rattle.access.specs.Access.{shown}
 use Rattle.access.specs.declared.Answer.the-variants as answer
@@ -17,9 +17,9 @@ use Rattle.listing.specs.declared.Listed.the-variants as listed
 use Rattle.answers.specs.Answers.{lookupShown, searchShown, listShown}
 use Rattle.load.specs.Loader.{Load}
 use Rattle.lists.specs.Reader as r
-use Rattle.lists.specs.Reader.{startOn, Write, Call, Reply, written, afterAll, saysAll, Event, byte, stop, wrote, events}
+use Rattle.lists.specs.Reader.{startOn, Write, Call, Reply, judgeWrite, afterAll, saysAll, Event, byte, stop, wrote, events}
 use Rattle.grown.specs.Grown.{Grown}
-use Rattle.grown.specs.Pairs.{Triple, hasRoom, SetsPair}
+use Rattle.grown.specs.Pairs.{Triple, modesBetween, modesSoFar, hasRoom, SetsPair}
 
 -- ---- what acts on the tables: each line that a newline or an end call ends, whole, and each single write, in order. The bytes after the last
 -- newline or end call are no line
@@ -41,8 +41,20 @@ actsFrom kept (wrote w ∷ es) = single w ∷ actsFrom kept es
 abbrev pub acts : List Call → List Act
 acts cs = actsFrom [] (events cs)
 
--- From table t to table t′ by these acts, one after the other. A line is judged whole, by its bytes and the table that the acts before it left: skipped or refused it changes
--- nothing; accepted it is a well-formed triple with room for it, sets its pair's modes and changes no other pair's answer (demand 2). A single write does what 01 says it does
+-- what an accepted change does, as demand 2 says of a line: its pair is left with (old modes or allow) without deny, and no other pair's answer
+-- changes
+abbrev pub Sets : Table → Table → Write → Type 0
+Sets t t₁ (r.change text) =
+    (s o : List ℕ) (allow deny : ℕ) →
+    changeOf text ≡ change s o allow deny →
+    SetsPair t t₁ s o (changed (modesSoFar (modesBetween t s o)) allow deny)
+Sets t t₁ (r.revoke l) = Unit {0}
+Sets t t₁ (r.onlycap text) = Unit {0}
+Sets t t₁ (r.mapping text) = Unit {0}
+
+-- From table t to table t′ by these acts, one after the other. A line is judged whole, by its bytes and the table that the acts before it
+-- left: skipped or refused it changes nothing; accepted it is a well-formed triple with room for it, sets its pair's modes and changes no other
+-- pair's answer (demand 2). A single write acts at once: refused it changes nothing
 pub data Made : Table → List Act → Table → Type 0 where
   none : {t : Table} → Made t [] t
   skipped : {t t′ : Table} {bytes : List ℕ} {rest : List Act} → judged t (ruleOf bytes) ≡ is-skipped → Made t rest t′ → Made t (line bytes ∷ rest) t′
@@ -55,7 +67,8 @@ pub data Made : Table → List Act → Table → Type 0 where
       SetsPair t t₁ s o m →
       Made t₁ rest t′ →
       Made t (line bytes ∷ rest) t′
-  by-write : {t t′ : Table} {rest : List Act} (w : Write) → Made (written t w) rest t′ → Made t (single w ∷ rest) t′
+  write-refused : {t t′ : Table} {rest : List Act} (w : Write) (n : ℕ) → judgeWrite w t ≡ is-refused n → Made t rest t′ → Made t (single w ∷ rest) t′
+  write-accepted : {t t₁ t′ : Table} {rest : List Act} (w : Write) → judgeWrite w t ≡ is-accepted t₁ → Sets t t₁ w → Made t₁ rest t′ → Made t (single w ∷ rest) t′
 
 -- what holds after a list of calls that began at s, was answered rs and ended at s′
 pub record PlainReaders (s : Load) (cs : List Call) (rs : List Reply) (s′ : Load) : Type 0 where

@@ -22,13 +22,15 @@ use Rattle.rules.specs.Rules.{noPlace}
 use Rattle.rules.proofs.Laws.{place-count}
 use Rattle.lines.specs.Lines.{ruleOf, changeOf}
 use Rattle.lines.proofs.Laws.{rule-sound, change-sound}
-use Rattle.revoke.specs.Revoke.{hasSubject, revokedRule, withoutModes, revokeTable}
-use Rattle.onlycap.specs.Onlycap.{different, labelsWith, numberIn, loneDash, onlycapLabels, onlycapFields, onlycapOf, tableBy, onlycapTable}
-use Rattle.onlycap.specs.Within.{joined}
-use Rattle.store.specs.declared.Done.the-variants as d
+use Rattle.revoke.specs.Revoke.{hasSubject, revokedRule, withoutModes, revokeWrite}
+use Rattle.onlycap.specs.Onlycap.{numberIn, onlycapWrite}
+use Rattle.onlycap.specs.Within.{joined, differentJoined, labelsJoined}
+use Rattle.onlycap.proofs.Laws.{by-case}
+use Rattle.store.specs.Judged.{Judged, is-refused, is-accepted, tableAfter}
+use Rattle.lists.specs.Reader.{Write, change, revoke, onlycap, mapping, judgeWrite}
 use Rattle.cipso.specs.Cipso as cipso
 use Rattle.cipso.proofs.Laws.{Maps, maps}
-use Rattle.grown.specs.Grown.{Grown, from-fresh, by-rule, by-change, by-revoke, by-onlycap, by-mapping}
+use Rattle.grown.specs.Grown.{Grown, from-fresh, by-line, by-write}
 use Rattle.grown.specs.Sane.{twoLabels, Sane}
 use Rattle.grown.proofs.Sane.{samePair, sound-parts, sound-whole, enter, enter-front, enter-length, enter-number, enter-once, enter-all, five-front, front-five, fresh-sane, said-sane}
 
@@ -85,11 +87,11 @@ module _ (n : ℕ) where
         onlycap = h .onlycap;
       }
 
-pub revoke-sane : (t : Table) (label : List ℕ) → Sane t → Sane (revokeTable t label)
-unfolding revokeTable
+revoke-sane : (t : Table) (label : List ℕ) → Sane t → Sane (tableAfter t (revokeWrite label t))
+unfolding revokeWrite
 revoke-sane t label h = by-tests (ltb 600 (length label)) (wellFormed label) (labelIn t label)
   where
-    by-tests : (a b : Bool) (f : Found) → Sane (cond a t (cond b (withoutModes t f) t))
+    by-tests : (a b : Bool) (f : Found) → Sane (tableAfter t (cond a (is-refused 1) (cond b (is-accepted (withoutModes t f)) (is-refused 3))))
     by-tests true b f = h
     by-tests false true (At n) = cleared-sane n t h
     by-tests false true Nothing = h
@@ -174,51 +176,23 @@ module _ (t : Table) (h : Sane t) where
   listed-sane :
       (fs : List (List ℕ)) →
       all wellFormed fs ≡ true →
-      length (different fs) ≤ 8 →
-      length (labelsWith t fs) ≤ 64 →
-      Sane (record { labels = labelsWith t fs; rules = t .rules; mappings = t .mappings; onlycap = map (numberIn (labelsWith t fs)) (different fs) })
+      length (differentJoined fs) ≤ 8 →
+      length (labelsJoined t fs) ≤ 64 →
+      Sane (record { labels = labelsJoined t fs; rules = t .rules; mappings = t .mappings; onlycap = map (numberIn (labelsJoined t fs)) (differentJoined fs) })
   listed-sane fs formed few room =
       let front = joined-front (t .labels) fs (length fs) in
-      entered-sane t (labelsWith t fs) (t .mappings) (map (numberIn (labelsWith t fs)) (different fs)) h front
+      entered-sane t (labelsJoined t fs) (t .mappings) (map (numberIn (labelsJoined t fs)) (differentJoined fs)) h front
       (joined-all (t .labels) fs wellFormed (h .formed) formed (length fs) (omega arith))
       (joined-once (t .labels) fs (h .label-once) (length fs))
       room
-      (mappings-more t (labelsWith t fs) h front)
+      (mappings-more t (labelsJoined t fs) h front)
       (h .mapping-once)
       (h .mappings)
-      (all-made (λ (k : ℕ). ltb k (length (labelsWith t fs))) (numberIn (labelsWith t fs)) (λ l. lt-ltb _ _ (number-below (labelsWith t fs) l (at-least-five t (labelsWith t fs) h front))) (different fs))
+      (all-made (λ (k : ℕ). ltb k (length (labelsJoined t fs))) (numberIn (labelsJoined t fs)) (λ l. lt-ltb _ _ (number-below (labelsJoined t fs) l (at-least-five t (labelsJoined t fs) h front))) (differentJoined fs))
       (rw length-map few)
 
-  pub onlycap-sane : (text : List ℕ) → Sane (onlycapTable t text)
-  unfolding onlycapTable onlycapOf
-  onlycap-sane text = by-length (ltb 600 (length text))
-    where
-      by-labels :
-          (fs : List (List ℕ)) →
-          loneDash fs ≡ false →
-          (a : Bool) →
-          all wellFormed fs ≡ a →
-          (b : Bool) →
-          ltb 8 (length (different fs)) ≡ b →
-          (c : Bool) →
-          ltb 64 (length (labelsWith t fs)) ≡ c →
-          Sane (tableBy t fs (cond a (cond b (d.Refused 11) (cond c (d.Refused 6) d.Done)) (d.Refused 3)))
-      by-labels fs e false ea b eb c ec = h
-      by-labels fs e true ea true eb c ec = h
-      by-labels fs e true ea false eb true ec = h
-      by-labels fs e true ea false eb false ec = rw e (listed-sane fs ea (ltb-false _ _ eb) (ltb-false _ _ ec))
-
-      by-dash : (fs : List (List ℕ)) (b : Bool) → loneDash fs ≡ b → Sane (tableBy t fs (cond b d.Done (onlycapLabels t fs)))
-      by-dash fs true e = rw e emptied-sane
-      by-dash fs false e = by-labels fs e (all wellFormed fs) refl (ltb 8 (length (different fs))) refl (ltb 64 (length (labelsWith t fs))) refl
-
-      by-fields : (fs : List (List ℕ)) → Sane (tableBy t fs (onlycapFields t fs))
-      by-fields [] = h
-      by-fields (f ∷ more) = by-dash (f ∷ more) (loneDash (f ∷ more)) refl
-
-      by-length : (b : Bool) → Sane (tableBy t (fields text) (cond b (d.Refused 1) (onlycapFields t (fields text))))
-      by-length true = h
-      by-length false = by-fields (fields text)
+  onlycap-sane : (text : List ℕ) → Sane (tableAfter t (onlycapWrite text t))
+  onlycap-sane text = by-case (λ (j : Judged). Sane (tableAfter t j)) t text (λ n. h) emptied-sane (λ size formed few room. listed-sane (fields text) formed few room)
 
 -- ---- a CIPSO mapping: a label enters, and its mapping is put in its place
 
@@ -261,18 +235,22 @@ module _ (t : Table) (l : List ℕ) (level s : ℕ) (h : Sane t) (formed : wellF
       (onlycap-more t (enter (t .labels) l) h front)
       (h .onlycap)
 
-pub mapping-sane : (t : Table) (text : List ℕ) → Sane t → Sane (cipso.mappedTable t text)
+mapping-sane : (t : Table) (text : List ℕ) → Sane t → Sane (tableAfter t (cipso.mappingWrite text t))
 mapping-sane t text h = by-case (maps t text)
   where
-    by-case : (cipso.mappedTable t text ≡ t) ⊎ Maps t (cipso.mappedTable t text) → Sane (cipso.mappedTable t text)
+    by-case : (tableAfter t (cipso.mappingWrite text t) ≡ t) ⊎ Maps t (tableAfter t (cipso.mappingWrite text t)) → Sane (tableAfter t (cipso.mappingWrite text t))
     by-case (inl e) = subst Sane (sym e) h
     by-case (inr w) = subst Sane (sym (w .is)) (put-sane t (w .name) (w .level) (w .members) h (w .formed) (w .known) (w .labels) (w .mappings))
 
--- EVERY GROWN TABLE
+-- ---- every single write, and every grown table
+
+write-sane : (t t′ : Table) (w : Write) → Sane t → judgeWrite w t ≡ is-accepted t′ → Sane t′
+write-sane t t′ (change text) h e = said-sane t t′ (changeOf text) h (change-sound text) e
+write-sane t t′ (revoke l) h e = subst (λ (j : Judged). Sane (tableAfter t j)) e (revoke-sane t l h)
+write-sane t t′ (onlycap text) h e = subst (λ (j : Judged). Sane (tableAfter t j)) e (onlycap-sane t h text)
+write-sane t t′ (mapping text) h e = subst (λ (j : Judged). Sane (tableAfter t j)) e (mapping-sane t text h)
+
 pub grown-sane : {t : Table} → Grown t → Sane t
 grown-sane from-fresh = fresh-sane
-grown-sane (by-rule {t} {t′} line g e) = said-sane t t′ (ruleOf line) (grown-sane g) (rule-sound line) e
-grown-sane (by-change {t} {t′} text g e) = said-sane t t′ (changeOf text) (grown-sane g) (change-sound text) e
-grown-sane (by-revoke {t} label g e) = subst Sane e (revoke-sane t label (grown-sane g))
-grown-sane (by-onlycap {t} text g e) = subst Sane e (onlycap-sane t (grown-sane g) text)
-grown-sane (by-mapping {t} text g e) = subst Sane e (mapping-sane t text (grown-sane g))
+grown-sane (by-line {t} {t′} line g e) = said-sane t t′ (ruleOf line) (grown-sane g) (rule-sound line) e
+grown-sane (by-write {t} {t′} w g e) = write-sane t t′ w (grown-sane g) e
