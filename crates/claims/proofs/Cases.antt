@@ -10,12 +10,12 @@ use Rattle.modes.specs.Modes.{bitOf, allowedByte, modesOf, readModes, modesText
 use Rattle.numbers.specs.Numbers.{numberOf}
 use Rattle.numbers.specs.Categories.{categories, withCategory}
 use Rattle.store.specs.Table.{Table, fresh, isPair}
+use Rattle.store.specs.Judged.{tableAfter}
 use Rattle.lines.specs.Lines.{ruleBy, ruleOf, changeBy, changeOf}
 use Rattle.rules.specs.Rules.{placing, withPair}
 use Rattle.access.specs.Access.{effective, decide, answer}
-use Rattle.cipso.specs.Cipso.{SaidMapping, mapping, categoriesOf, saidBy, mappingOf, names, withMapping, mappedTable, tableBy}
+use Rattle.cipso.specs.Cipso.{SaidMapping, mapping, categoriesOf, saidBy, mappingOf, names, withMapping, mappingWrite, saidJudged}
 use Rattle.lookups.specs.Lookups.{labelLookup}
-use Rattle.cipso.specs.Cipso as cipso
 use Rattle.claims.specs.Cases.{Case, asks, changes, maps, right, sameLookup, cases, Vault7}
 
 -- `Vault7 9 1 63`
@@ -33,13 +33,13 @@ says = said ∙ ap (λ (s : ℕ). mapping Vault7 9 s) set-is
     said : mappingOf write ≡ mapping Vault7 9 (withCategory (withCategory 0 1) 63)
     said = refl
 
-after-it : sameLookup (labelLookup (tableBy fresh (mapping Vault7 9 9223372036854775810)) Vault7) 9 (1 ∷ 63 ∷ []) 2 ≡ true
-unfolding first put wellFormed all labelByte sameBytes labelLookup names withMapping categories entries cipso.placing
+after-it : sameLookup (labelLookup (tableAfter fresh (saidJudged fresh (mapping Vault7 9 9223372036854775810))) Vault7) 9 (1 ∷ 63 ∷ []) 2 ≡ true
+unfolding first put wellFormed all labelByte sameBytes labelLookup names withMapping categories entries
 after-it = refl
 
 mapped : right (maps write Vault7 9 (1 ∷ 63 ∷ []) 2) ≡ true
-unfolding right mappedTable
-mapped = ap (λ (s : SaidMapping). sameLookup (labelLookup (tableBy fresh s) Vault7) 9 (1 ∷ 63 ∷ []) 2) says ∙ after-it
+unfolding right mappingWrite
+mapped = ap (λ (s : SaidMapping). sameLookup (labelLookup (tableAfter fresh (saidJudged fresh s)) Vault7) 9 (1 ∷ 63 ∷ []) 2) says ∙ after-it
 
 pub cases-right : all right cases ≡ true
 unfolding all right first put sameBytes isBlank labelByte wellFormed fields bitOf allowedByte modesOf readModes modesText ruleBy ruleOf changeBy changeOf isPair placing withPair effective decide answer

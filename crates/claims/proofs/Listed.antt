@@ -1,12 +1,14 @@
 -- Every refusal's number is from its call's list: each answer is built by tests, and whichever way they go it is no refusal or has a number of
 -- the list. Assumes nothing.
 use Prim.Native.Nat.{ℕ}
-use mathlib.Core.Path.{_≡_, refl}
+use native.Mathlib.Omega.{arith}
+use mathlib.Core.Path.{_≡_, refl, sym, _∙_}
 use mathlib.Core.Bool.{Bool, true, false, cond, _&&_}
 use mathlib.Core.List.{List, [], _∷_, foldl}
 use lib.Dec.{eqb, ltb, leb}
 use lib.ListN.{length}
 use Rattle.search.specs.Bytes.{sameBytes}
+use Rattle.search.proofs.Laws.{no}
 use Rattle.search.specs.Search.{first, all, entries, placeOf}
 use Rattle.search.specs.declared.Found.{Found}
 use Rattle.search.specs.declared.Found.the-variants.{At, Nothing}
@@ -20,22 +22,22 @@ use Rattle.numbers.specs.declared.Number.{Number}
 use Rattle.numbers.specs.declared.Number.the-variants as number
 use Rattle.store.specs.declared.Done.{Done}
 use Rattle.store.specs.declared.Done.the-variants as d
-use Rattle.store.specs.Table.{Table, labelIn, labelLimit, ruleLimit, mappingLimit, onlycapLimit, ruleNumbered, knownSet}
+use Rattle.store.specs.Table.{Table, fresh, labelIn, labelLimit, ruleLimit, mappingLimit, onlycapLimit, ruleNumbered, knownSet}
 use Rattle.store.specs.Layout.{Store, tableOf, undamagedOf, fullSizes}
-use Rattle.store.specs.Judged.{freshAnswer, Judged, is-skipped, is-refused, is-accepted, doneOf}
+use Rattle.store.specs.Judged.{freshWrite, freshAnswer, Judged, is-skipped, is-refused, is-accepted, doneOf, onState}
 use Rattle.lines.specs.Lines.{Said, skipped, refused, rule, change, ruleWith, ruleBy, ruleFields, ruleOf, changeWith, changeBy, changeFields, changeOf}
 use Rattle.rules.specs.Rules.{placing, placeFor, labelsAfter, noPlace}
 use Rattle.rules.specs.Rules as rules
 use Rattle.rules.specs.declared.Spot.{Spot}
 use Rattle.rules.specs.declared.Place.{Place}
 use Rattle.rules.specs.declared.Place.the-variants as p
-use Rattle.writes.specs.Writes.{judged, ruleJudged, changeJudged, outcomeOf, lineOutcome, changeAnswer}
+use Rattle.writes.specs.Writes.{judged, ruleJudged, changeJudged, outcomeOf, lineOutcome, changeWrite, changeAnswer}
 use Rattle.writes.specs.declared.Outcome.{Outcome}
 use Rattle.writes.specs.declared.Outcome.the-variants as v
-use Rattle.revoke.specs.Revoke.{revokeOf, revokeAnswer}
+use Rattle.revoke.specs.Revoke.{revokeWrite, revokeCount, countOf, revokeAnswer}
 use Rattle.revoke.specs.declared.Revoked.{Revoked}
 use Rattle.revoke.specs.declared.Revoked.the-variants as r
-use Rattle.onlycap.specs.Onlycap.{loneDash, different, labelsWith, onlycapFields, onlycapOf, onlycapAnswer}
+use Rattle.onlycap.specs.Onlycap.{loneDash, different, labelsWith, onlycapFields, onlycapWrite, onlycapAnswer}
 use Rattle.cipso.specs.Cipso as cipso
 use Rattle.cipso.proofs.Laws.{categoriesFrom, categories-start}
 use Rattle.lookups.specs.Lookups.{lookupBy, lookedUp, labelLookup, hasBoth, levelLookup, numbered, byLabelOf, byLevelOf, lowestOf}
@@ -61,12 +63,26 @@ use Rattle.load.specs.declared.Fed.{Fed}
 use Rattle.load.specs.declared.Fed.the-variants as f
 use Rattle.load.specs.declared.Ended.{Ended}
 use Rattle.load.specs.declared.Ended.the-variants as e
-use Rattle.claims.specs.Listed.{isAmong, Among, FromTheList}
+use Rattle.claims.specs.Listed.{isAmong, Among, Refuses, FromTheList}
 
 -- of what is built by a test, it is enough to look at both ways that the test can go
 either : {A : Type 0} (P : A → Bool) (b : Bool) {x y : A} → P x ≡ true → P y ≡ true → P (cond b x y) ≡ true
 either P true g h = g
 either P false g h = h
+
+-- of what is built by the test of the state: 0 exactly when it fails, and otherwise what holds of the other answer
+of-state : {A : Type 0} (R : ℕ → A) (ns : List ℕ) (b : Bool) (x : A) → isAmong 0 ns ≡ false → ((n : ℕ) → x ≡ R n → Among n ns) → Refuses b (cond b x (R 0)) R ns
+of-state R ns true x z h =
+    record {
+      damaged = (λ e. let c : true ≡ false = sym (h 0 e) ∙ z in absurd (no (sym c)), λ e. absurd (no (sym e)));
+      listed = λ n u e. h n e;
+    }
+of-state R ns false x z h = record { damaged = (λ e. refl, λ e. refl); listed = λ n u e. absurd (no u) }
+
+-- the answer to a write is built so too
+done-state : (ns : List ℕ) (b : Bool) (j : Judged) → isAmong 0 ns ≡ false → ((n : ℕ) → doneOf j ≡ d.Refused n → Among n ns) → Refuses b (doneOf (cond b j (is-refused 0))) d.Refused ns
+done-state ns true j z h = of-state d.Refused ns true (doneOf j) z h
+done-state ns false j z h = of-state d.Refused ns false (doneOf j) z h
 
 -- ---- an answer that is no refusal, or is refused with one of the numbers ns
 
@@ -140,17 +156,17 @@ of-listed ns x n h q = rw q at h
 
 -- ---- a fresh table, a piece, the end call
 
-fresh-listed : (st : Store) (n : ℕ) → freshAnswer st ≡ d.Refused n → Among n (0 ∷ [])
-unfolding freshAnswer isAmong
-fresh-listed st n = of-done (0 ∷ []) _ n (either (done-or (0 ∷ [])) (fullSizes st) refl refl)
+fresh-listed : (st : Store) → Refuses (fullSizes st) (freshAnswer st) d.Refused []
+unfolding freshAnswer freshWrite isAmong
+fresh-listed st = done-state [] (fullSizes st) (is-accepted fresh) refl (λ n e. let z : _≡_ {A = ℕ} 0 1 = cc in absurd (omega arith))
 
-piece-listed : (s : Load) (text : List ℕ) (n : ℕ) → pieceAnswer s text ≡ f.Refused n → Among n (0 ∷ [])
+piece-listed : (s : Load) (text : List ℕ) → Refuses (ready s) (pieceAnswer s text) f.Refused []
 unfolding pieceAnswer isAmong
-piece-listed s text n = of-fed (0 ∷ []) _ n (either (fed-or (0 ∷ [])) (ready s) refl refl)
+piece-listed s text = of-state f.Refused [] (ready s) _ refl (λ n e. let z : _≡_ {A = ℕ} 0 1 = cc in absurd (omega arith))
 
-end-listed : (s : Load) (n : ℕ) → endAnswer s ≡ e.Refused n → Among n (0 ∷ [])
+end-listed : (s : Load) → Refuses (ready s) (endAnswer s) e.Refused []
 unfolding endAnswer isAmong
-end-listed s n = of-ended (0 ∷ []) _ n (either (ended-or (0 ∷ [])) (ready s) refl refl)
+end-listed s = of-state e.Refused [] (ready s) _ refl (λ n e. let z : _≡_ {A = ℕ} 0 1 = cc in absurd (omega arith))
 
 -- ---- a line of rule text and a change: what their bytes say is refused by 1 to 5, and a pair without a place by 6 or 7
 
@@ -169,7 +185,7 @@ abbrev ruleNumbers : List ℕ
 ruleNumbers = 1 ∷ 2 ∷ 3 ∷ 4 ∷ 5 ∷ 6 ∷ 7 ∷ []
 
 abbrev changeNumbers : List ℕ
-changeNumbers = 0 ∷ ruleNumbers
+changeNumbers = ruleNumbers
 
 rule-with : (s o : List ℕ) (m : Access) → said-or ruleNumbers (ruleWith s o m) ≡ true
 unfolding isAmong
@@ -238,45 +254,60 @@ line-listed st text n =
     of-outcome ruleNumbers _ n
     (verdict-judged ruleNumbers (judged (tableOf st) (ruleOf text)) (judged-said ruleNumbers (tableOf st) (ruleOf text) refl refl (rule-said text)))
 
-change-listed : (st : Store) (text : List ℕ) (n : ℕ) → changeAnswer st text ≡ d.Refused n → Among n changeNumbers
-unfolding changeAnswer isAmong
-change-listed st text n =
-    of-done changeNumbers _ n
-    (either (done-or changeNumbers) (undamagedOf st)
-    (done-judged changeNumbers (judged (tableOf st) (changeOf text)) (judged-said changeNumbers (tableOf st) (changeOf text) refl refl (change-said text))) refl)
+change-listed : (st : Store) (text : List ℕ) → Refuses (undamagedOf st) (changeAnswer st text) d.Refused changeNumbers
+unfolding changeAnswer onState isAmong
+change-listed st text =
+    done-state changeNumbers (undamagedOf st) (changeWrite text (tableOf st)) refl
+    (λ n. of-done changeNumbers _ n (done-judged changeNumbers (changeWrite text (tableOf st)) (judged-said changeNumbers (tableOf st) (changeOf text) refl refl (change-said text))))
 
 -- ---- the other writes
 
 abbrev revokeNumbers : List ℕ
-revokeNumbers = 0 ∷ 1 ∷ 3 ∷ []
+revokeNumbers = 1 ∷ 3 ∷ []
 
-revoke-listed : (st : Store) (label : List ℕ) (n : ℕ) → revokeAnswer st label ≡ r.Refused n → Among n revokeNumbers
-unfolding revokeAnswer revokeOf isAmong
-revoke-listed st label n =
-    of-revoked revokeNumbers _ n
-    (either (revoked-or revokeNumbers) (undamagedOf st)
-    (either (revoked-or revokeNumbers) (ltb lineLimit (length label)) refl (either (revoked-or revokeNumbers) (wellFormed label) refl refl)) refl)
+revoke-judged : (t : Table) (label : List ℕ) → judged-or revokeNumbers (revokeWrite label t) ≡ true
+unfolding revokeWrite isAmong
+revoke-judged t label = either (judged-or revokeNumbers) (ltb lineLimit (length label)) refl (either (judged-or revokeNumbers) (wellFormed label) refl refl)
+
+revoked-judged : (ns : List ℕ) (k : ℕ) (j : Judged) → judged-or ns j ≡ true → revoked-or ns (countOf k j) ≡ true
+revoked-judged ns k is-skipped h = refl
+revoked-judged ns k (is-refused n) h = h
+revoked-judged ns k (is-accepted t) h = refl
+
+revoked-state : (ns : List ℕ) (k : ℕ) (b : Bool) (j : Judged) → isAmong 0 ns ≡ false → ((n : ℕ) → countOf k j ≡ r.Refused n → Among n ns) → Refuses b (countOf k (cond b j (is-refused 0))) r.Refused ns
+revoked-state ns k true j z h = of-state r.Refused ns true (countOf k j) z h
+revoked-state ns k false j z h = of-state r.Refused ns false (countOf k j) z h
+
+revoke-listed : (st : Store) (label : List ℕ) → Refuses (undamagedOf st) (revokeAnswer st label) r.Refused revokeNumbers
+unfolding revokeAnswer onState isAmong
+revoke-listed st label =
+    revoked-state revokeNumbers (revokeCount label (tableOf st)) (undamagedOf st) (revokeWrite label (tableOf st)) refl
+    (λ n. of-revoked revokeNumbers _ n (revoked-judged revokeNumbers _ (revokeWrite label (tableOf st)) (revoke-judged (tableOf st) label)))
 
 abbrev onlycapNumbers : List ℕ
-onlycapNumbers = 0 ∷ 1 ∷ 2 ∷ 3 ∷ 11 ∷ 6 ∷ []
+onlycapNumbers = 1 ∷ 2 ∷ 3 ∷ 11 ∷ 6 ∷ []
 
-onlycap-fields : (t : Table) (fs : List (List ℕ)) → done-or onlycapNumbers (onlycapFields t fs) ≡ true
+onlycap-fields : (t : Table) (fs : List (List ℕ)) → judged-or onlycapNumbers (onlycapFields t fs) ≡ true
 unfolding isAmong
 onlycap-fields t [] = refl
 onlycap-fields t (x ∷ more) =
-    either (done-or onlycapNumbers) (loneDash (x ∷ more)) refl
-    (either (done-or onlycapNumbers) (all wellFormed (x ∷ more))
-    (either (done-or onlycapNumbers) (ltb onlycapLimit (length (different (x ∷ more)))) refl
-    (either (done-or onlycapNumbers) (ltb labelLimit (length (labelsWith t (x ∷ more)))) refl refl)) refl)
+    either (judged-or onlycapNumbers) (loneDash (x ∷ more)) refl
+    (either (judged-or onlycapNumbers) (all wellFormed (x ∷ more))
+    (either (judged-or onlycapNumbers) (ltb onlycapLimit (length (different (x ∷ more)))) refl
+    (either (judged-or onlycapNumbers) (ltb labelLimit (length (labelsWith t (x ∷ more)))) refl refl)) refl)
 
-onlycap-listed : (st : Store) (text : List ℕ) (n : ℕ) → onlycapAnswer st text ≡ d.Refused n → Among n onlycapNumbers
-unfolding onlycapAnswer onlycapOf isAmong
-onlycap-listed st text n =
-    of-done onlycapNumbers _ n
-    (either (done-or onlycapNumbers) (undamagedOf st) (either (done-or onlycapNumbers) (ltb lineLimit (length text)) refl (onlycap-fields (tableOf st) (fields text))) refl)
+onlycap-judged : (t : Table) (text : List ℕ) → judged-or onlycapNumbers (onlycapWrite text t) ≡ true
+unfolding onlycapWrite isAmong
+onlycap-judged t text = either (judged-or onlycapNumbers) (ltb lineLimit (length text)) refl (onlycap-fields t (fields text))
+
+onlycap-listed : (st : Store) (text : List ℕ) → Refuses (undamagedOf st) (onlycapAnswer st text) d.Refused onlycapNumbers
+unfolding onlycapAnswer onState isAmong
+onlycap-listed st text =
+    done-state onlycapNumbers (undamagedOf st) (onlycapWrite text (tableOf st)) refl
+    (λ n. of-done onlycapNumbers _ n (done-judged onlycapNumbers (onlycapWrite text (tableOf st)) (onlycap-judged (tableOf st) text)))
 
 abbrev mappingNumbers : List ℕ
-mappingNumbers = 0 ∷ 1 ∷ 2 ∷ 3 ∷ 9 ∷ 6 ∷ 10 ∷ []
+mappingNumbers = 1 ∷ 2 ∷ 3 ∷ 9 ∷ 6 ∷ 10 ∷ []
 
 abbrev mapping-or : cipso.SaidMapping → Bool
 mapping-or (cipso.refused n) = isAmong n mappingNumbers
@@ -313,25 +344,23 @@ mapping-said : (text : List ℕ) → mapping-or (cipso.mappingOf text) ≡ true
 unfolding isAmong cipso.mappingOf
 mapping-said text = either mapping-or (ltb lineLimit (length text)) refl (mapping-fields (fields text))
 
-mapping-answer : (t : Table) (said : cipso.SaidMapping) → mapping-or said ≡ true → done-or mappingNumbers (cipso.answerBy t said) ≡ true
-unfolding isAmong cipso.placing
-mapping-answer t (cipso.refused n) h = h
-mapping-answer t (cipso.mapping x level s) h = by-found (labelIn t x)
-  where
-    by-found : (at : Found) → done-or mappingNumbers (cipso.answerAt (cipso.placeBy t at)) ≡ true
-    by-found at =
-        either (λ k. done-or mappingNumbers (cipso.answerAt k)) (noPlace at (length (t .labels)) labelLimit) refl
-        (either (λ k. done-or mappingNumbers (cipso.answerAt k)) (noPlace (cipso.mappingIn t (placeOf at (length (t .labels)))) (length (t .mappings)) mappingLimit) refl refl)
+mapping-judged : (t : Table) (said : cipso.SaidMapping) → mapping-or said ≡ true → judged-or mappingNumbers (cipso.saidJudged t said) ≡ true
+unfolding isAmong
+mapping-judged t (cipso.refused n) h = h
+mapping-judged t (cipso.mapping x level s) h =
+    either (judged-or mappingNumbers) (noPlace (labelIn t x) (length (t .labels)) labelLimit) refl
+    (either (judged-or mappingNumbers) (noPlace (cipso.mappingFor t x) (length (t .mappings)) mappingLimit) refl refl)
 
-mapping-listed : (st : Store) (text : List ℕ) (n : ℕ) → cipso.mapAnswer st text ≡ d.Refused n → Among n mappingNumbers
-unfolding cipso.mapAnswer isAmong
-mapping-listed st text n =
-    of-done mappingNumbers _ n (either (done-or mappingNumbers) (undamagedOf st) (mapping-answer (tableOf st) (cipso.mappingOf text) (mapping-said text)) refl)
+mapping-listed : (st : Store) (text : List ℕ) → Refuses (undamagedOf st) (cipso.mapAnswer st text) d.Refused mappingNumbers
+unfolding cipso.mapAnswer cipso.mappingWrite onState isAmong
+mapping-listed st text =
+    done-state mappingNumbers (undamagedOf st) (cipso.mappingWrite text (tableOf st)) refl
+    (λ n. of-done mappingNumbers _ n (done-judged mappingNumbers (cipso.mappingWrite text (tableOf st)) (mapping-judged (tableOf st) (cipso.mappingOf text) (mapping-said text))))
 
 -- ---- the lookups
 
 abbrev byLabelNumbers : List ℕ
-byLabelNumbers = 0 ∷ 3 ∷ []
+byLabelNumbers = 3 ∷ []
 
 looked-up : (t : Table) (at : Found) → lookup-or byLabelNumbers (lookupBy t at) ≡ true
 looked-up t Nothing = refl
@@ -341,26 +370,27 @@ looked-up t (At k) = by-mapping (cipso.mappingIn t k)
     by-mapping (At i) = refl
     by-mapping Nothing = refl
 
-by-label-listed : (st : Store) (label : List ℕ) (n : ℕ) → byLabelOf st label ≡ lookup.Refused n → Among n byLabelNumbers
+by-label-listed : (st : Store) (label : List ℕ) → Refuses (undamagedOf st) (byLabelOf st label) lookup.Refused byLabelNumbers
 unfolding byLabelOf labelLookup isAmong
-by-label-listed st label n =
-    of-lookup byLabelNumbers _ n
-    (either (lookup-or byLabelNumbers) (undamagedOf st) (either (lookup-or byLabelNumbers) (wellFormed label) (looked-up (tableOf st) (labelIn (tableOf st) label)) refl) refl)
+by-label-listed st label =
+    of-state lookup.Refused byLabelNumbers (undamagedOf st) _ refl
+    (λ n. of-lookup byLabelNumbers _ n (either (lookup-or byLabelNumbers) (wellFormed label) (looked-up (tableOf st) (labelIn (tableOf st) label)) refl))
 
 abbrev byLevelNumbers : List ℕ
-byLevelNumbers = 0 ∷ 9 ∷ []
+byLevelNumbers = 9 ∷ []
 
 numbered-label : (at : Found) → label-or byLevelNumbers (numbered at) ≡ true
 numbered-label (At k) = refl
 numbered-label Nothing = refl
 
-by-level-listed : (st : Store) (level set n : ℕ) → byLevelOf st level set ≡ label.Refused n → Among n byLevelNumbers
+by-level-listed : (st : Store) (level set : ℕ) → Refuses (undamagedOf st) (byLevelOf st level set) label.Refused byLevelNumbers
 unfolding byLevelOf levelLookup isAmong
-by-level-listed st level set n =
+by-level-listed st level set =
+    of-state label.Refused byLevelNumbers (undamagedOf st) _ refl
+    (λ n.
     of-label byLevelNumbers _ n
-    (either (label-or byLevelNumbers) (undamagedOf st)
     (either (label-or byLevelNumbers) (cipso.isLevel level && knownSet set)
-    (numbered-label (first (hasBoth (tableOf st) level set) (entries (λ (k : ℕ). k) (length (tableOf st .labels))))) refl) refl)
+    (numbered-label (first (hasBoth (tableOf st) level set) (entries (λ (k : ℕ). k) (length (tableOf st .labels))))) refl))
 
 best-label : (b : Best) → label-or (9 ∷ []) (run.said b) ≡ true
 best-label (best.Label k) = refl
@@ -373,7 +403,7 @@ run-listed records level set n = of-label (9 ∷ []) _ n (either (label-or (9 �
 -- ---- a question
 
 abbrev questionNumbers : List ℕ
-questionNumbers = 0 ∷ 3 ∷ 8 ∷ []
+questionNumbers = 3 ∷ 8 ∷ []
 
 answered-listed : (override : Bool) (x : Ruling) → answer-or questionNumbers (answered override x) ≡ true
 answered-listed override (ruling.Grants k b) = refl
@@ -385,34 +415,35 @@ unfolding decide isAmong
 by-request t s o capable (Modes m) = answered-listed (effective t (labelIn t s) capable) (firstOf (sevenRules t s o m))
 by-request t s o capable Bad = refl
 
-question-listed :
-    (st : Store) (s o request : List ℕ) (capable : Bool) (n : ℕ) → questionOf st s o request capable ≡ a.Refused n → Among n questionNumbers
+question-listed : (st : Store) (s o request : List ℕ) (capable : Bool) → Refuses (undamagedOf st) (questionOf st s o request capable) a.Refused questionNumbers
 unfolding questionOf answer isAmong
-question-listed st s o request capable n =
+question-listed st s o request capable =
+    of-state a.Refused questionNumbers (undamagedOf st) _ refl
+    (λ n.
     of-answer questionNumbers _ n
-    (either (answer-or questionNumbers) (undamagedOf st)
     (either (answer-or questionNumbers) (wellFormed s && wellFormed o)
-    (either (answer-or questionNumbers) (eqb (length request) 0) refl (by-request (tableOf st) s o capable (readModes requestLetters false request))) refl) refl)
+    (either (answer-or questionNumbers) (eqb (length request) 0) refl (by-request (tableOf st) s o capable (readModes requestLetters false request))) refl))
 
 -- ---- a listing, a label by number
 
 abbrev listingNumbers : List ℕ
-listingNumbers = 0 ∷ 13 ∷ 12 ∷ []
+listingNumbers = 13 ∷ 12 ∷ []
 
-listing-listed : (st : Store) (k : ℕ) (out : List ℕ) (n : ℕ) → listAnswer st k out ≡ l.Refused n → Among n listingNumbers
+listing-listed : (st : Store) (k : ℕ) (out : List ℕ) → Refuses (undamagedOf st) (listAnswer st k out) l.Refused listingNumbers
 unfolding listAnswer listRule putAnswer isAmong
-listing-listed st k out n =
+listing-listed st k out =
+    of-state l.Refused listingNumbers (undamagedOf st) _ refl
+    (λ n.
     of-listed listingNumbers _ n
-    (either (listed-or listingNumbers) (undamagedOf st)
     (either (listed-or listingNumbers) (ltb k (length (tableOf st .rules)))
-    (either (listed-or listingNumbers) (leb (length (ruleText (tableOf st) (ruleNumbered (tableOf st) k))) (length out)) refl refl) refl) refl)
+    (either (listed-or listingNumbers) (leb (length (ruleText (tableOf st) (ruleNumbered (tableOf st) k))) (length out)) refl refl) refl))
 
 abbrev labelNumbers : List ℕ
-labelNumbers = 0 ∷ 13 ∷ []
+labelNumbers = 13 ∷ []
 
-label-listed : (st : Store) (k n : ℕ) → labelAnswer st k ≡ d.Refused n → Among n labelNumbers
+label-listed : (st : Store) (k : ℕ) → Refuses (undamagedOf st) (labelAnswer st k) d.Refused labelNumbers
 unfolding labelAnswer isAmong
-label-listed st k n = of-done labelNumbers _ n (either (done-or labelNumbers) (undamagedOf st) (either (done-or labelNumbers) (ltb k (length (tableOf st .labels))) refl refl) refl)
+label-listed st k = of-state d.Refused labelNumbers (undamagedOf st) _ refl (λ n. of-done labelNumbers _ n (either (done-or labelNumbers) (ltb k (length (tableOf st .labels))) refl refl))
 
 pub from-the-list : FromTheList
 from-the-list =

@@ -6,14 +6,14 @@ use lib.Dec.{eqb}
 use Rattle.search.specs.Bytes.{sameBytes}
 use Rattle.modes.specs.Modes.{modesText}
 use Rattle.store.specs.Table.{Table, fresh, floor, hat, star, labelIn}
-use Rattle.lines.specs.Lines.{ruleOf, changeOf}
+use Rattle.lines.specs.Lines.{ruleOf}
 use Rattle.rules.specs.Rules.{modesOfRule}
-use Rattle.writes.specs.Writes.{judged}
+use Rattle.writes.specs.Writes.{judged, changeWrite}
 use Rattle.store.specs.Judged.{tableAfter}
 use Rattle.access.specs.Rules.{ruleBetween}
 use Rattle.access.specs.Access.{answer, shown}
 use Rattle.access.specs.declared.Shown.{Shown}
-use Rattle.cipso.specs.Cipso.{mappedTable}
+use Rattle.cipso.specs.Cipso.{mappingWrite}
 use Rattle.lookups.specs.Lookups.{labelLookup}
 use Rattle.lookups.specs.declared.Lookup.{Lookup}
 use Rattle.lookups.specs.declared.Lookup.the-variants as l
@@ -45,8 +45,8 @@ sameLookup (l.Refused k) x cs n = false
 unfoldable pub right : Case → Bool
 right (asks lines s o request expected) = sameShown (shown (answer (afterLines lines) s o request false)) expected
 right (changes line write s o modes) =
-    sameBytes (modesText (pairModes (tableAfter (afterLines (line ∷ [])) (judged (afterLines (line ∷ [])) (changeOf write))) s o)) modes
-right (maps write label level cs count) = sameLookup (labelLookup (mappedTable fresh write) label) level cs count
+    sameBytes (modesText (pairModes (tableAfter (afterLines (line ∷ [])) (changeWrite write (afterLines (line ∷ [])))) s o)) modes
+right (maps write label level cs count) = sameLookup (labelLookup (tableAfter fresh (mappingWrite write fresh)) label) level cs count
 
 -- ---- the texts, in bytes
 

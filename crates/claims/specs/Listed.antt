@@ -1,14 +1,15 @@
--- Demand 1: bad input is refused by a number from the list. 01, The refusal numbers, with the calls in its order: a refusal of
--- a call has one of these numbers, which stand in the order in which 01 gives them, 0 before every other. Assumes nothing.
+-- Demand 1: bad input is refused by a number from the list. 01, The refusal numbers, with the calls in its order: 0 exactly when the lent state
+-- is damaged, before every other; of an undamaged state one of these numbers, which stand in the order in which 01 gives them. Assumes nothing.
 use Prim.Native.Nat.{ℕ}
 use mathlib.Core.Path.{_≡_}
 use mathlib.Core.Bool.{Bool, true, false, _||_}
 use mathlib.Core.List.{List, [], _∷_}
+use mathlib.Core.Logic.{_↔_}
 use lib.Dec.{eqb}
 use Rattle.store.specs.declared.Done.the-variants as d
-use Rattle.store.specs.Layout.{Store}
+use Rattle.store.specs.Layout.{Store, fullSizes, undamagedOf}
 use Rattle.store.specs.Judged.{freshAnswer}
-use Rattle.load.specs.Loader.{Load, pieceAnswer, endAnswer}
+use Rattle.load.specs.Loader.{Load, ready, pieceAnswer, endAnswer}
 use Rattle.load.specs.declared.Fed.the-variants as f
 use Rattle.load.specs.declared.Ended.the-variants as e
 use Rattle.writes.specs.Writes.{lineOutcome, changeAnswer}
@@ -35,22 +36,27 @@ isAmong n (m ∷ ms) = eqb n m || isAmong n ms
 abbrev pub Among : ℕ → List ℕ → Type 0
 Among n ns = isAmong n ns ≡ true
 
--- a fresh table, a piece and the end call have 0 alone; a line of rule text has no answer of its own, and its number stands in the report; a run
--- is no part of the state, and never gets 0
+-- an answer is refused with 0 exactly when the state is damaged, and otherwise, if it is refused, with one of the numbers ns
+pub record Refuses {A : Type 0} (undamaged : Bool) (answer : A) (refused : ℕ → A) (ns : List ℕ) : Type 0 where
+  pub damaged : (answer ≡ refused 0) ↔ (undamaged ≡ false)
+  pub listed : (n : ℕ) → undamaged ≡ true → answer ≡ refused n → Among n ns
+
+-- A fresh table, a piece and the end call have 0 alone: a part has not its full size; the table or the loader is damaged. A line of rule text is
+-- judged in a state that was tested, and its number stands in the report. A run is no part of the state, and never gets 0
 pub record FromTheList : Type 0 where
-  pub fresh-table : (st : Store) (n : ℕ) → freshAnswer st ≡ d.Refused n → Among n (0 ∷ [])
-  pub piece : (s : Load) (text : List ℕ) (n : ℕ) → pieceAnswer s text ≡ f.Refused n → Among n (0 ∷ [])
-  pub end-call : (s : Load) (n : ℕ) → endAnswer s ≡ e.Refused n → Among n (0 ∷ [])
+  pub fresh-table : (st : Store) → Refuses (fullSizes st) (freshAnswer st) d.Refused []
+  pub piece : (s : Load) (text : List ℕ) → Refuses (ready s) (pieceAnswer s text) f.Refused []
+  pub end-call : (s : Load) → Refuses (ready s) (endAnswer s) e.Refused []
   pub line : (st : Store) (text : List ℕ) (n : ℕ) → lineOutcome st text ≡ v.Refused n → Among n (1 ∷ 2 ∷ 3 ∷ 4 ∷ 5 ∷ 6 ∷ 7 ∷ [])
-  pub change : (st : Store) (text : List ℕ) (n : ℕ) → changeAnswer st text ≡ d.Refused n → Among n (0 ∷ 1 ∷ 2 ∷ 3 ∷ 4 ∷ 5 ∷ 6 ∷ 7 ∷ [])
-  pub revoke : (st : Store) (label : List ℕ) (n : ℕ) → revokeAnswer st label ≡ r.Refused n → Among n (0 ∷ 1 ∷ 3 ∷ [])
-  pub onlycap : (st : Store) (text : List ℕ) (n : ℕ) → onlycapAnswer st text ≡ d.Refused n → Among n (0 ∷ 1 ∷ 2 ∷ 3 ∷ 11 ∷ 6 ∷ [])
-  pub mapping : (st : Store) (text : List ℕ) (n : ℕ) → mapAnswer st text ≡ d.Refused n → Among n (0 ∷ 1 ∷ 2 ∷ 3 ∷ 9 ∷ 6 ∷ 10 ∷ [])
-  pub mapping-by-label : (st : Store) (label : List ℕ) (n : ℕ) → byLabelOf st label ≡ lookup.Refused n → Among n (0 ∷ 3 ∷ [])
-  pub by-level-and-set : (st : Store) (level set n : ℕ) → byLevelOf st level set ≡ label.Refused n → Among n (0 ∷ 9 ∷ [])
+  pub change : (st : Store) (text : List ℕ) → Refuses (undamagedOf st) (changeAnswer st text) d.Refused (1 ∷ 2 ∷ 3 ∷ 4 ∷ 5 ∷ 6 ∷ 7 ∷ [])
+  pub revoke : (st : Store) (label : List ℕ) → Refuses (undamagedOf st) (revokeAnswer st label) r.Refused (1 ∷ 3 ∷ [])
+  pub onlycap : (st : Store) (text : List ℕ) → Refuses (undamagedOf st) (onlycapAnswer st text) d.Refused (1 ∷ 2 ∷ 3 ∷ 11 ∷ 6 ∷ [])
+  pub mapping : (st : Store) (text : List ℕ) → Refuses (undamagedOf st) (mapAnswer st text) d.Refused (1 ∷ 2 ∷ 3 ∷ 9 ∷ 6 ∷ 10 ∷ [])
+  pub mapping-by-label : (st : Store) (label : List ℕ) → Refuses (undamagedOf st) (byLabelOf st label) lookup.Refused (3 ∷ [])
+  pub by-level-and-set : (st : Store) (level set : ℕ) → Refuses (undamagedOf st) (byLevelOf st level set) label.Refused (9 ∷ [])
   pub in-a-run : (run : List Record) (level set n : ℕ) → runOf run level set ≡ label.Refused n → Among n (9 ∷ [])
   pub question :
-      (st : Store) (subject object request : List ℕ) (capable : Bool) (n : ℕ) →
-      questionOf st subject object request capable ≡ a.Refused n → Among n (0 ∷ 3 ∷ 8 ∷ [])
-  pub listing : (st : Store) (k : ℕ) (out : List ℕ) (n : ℕ) → listAnswer st k out ≡ l.Refused n → Among n (0 ∷ 13 ∷ 12 ∷ [])
-  pub label-by-number : (st : Store) (k n : ℕ) → labelAnswer st k ≡ d.Refused n → Among n (0 ∷ 13 ∷ [])
+      (st : Store) (subject object request : List ℕ) (capable : Bool) →
+      Refuses (undamagedOf st) (questionOf st subject object request capable) a.Refused (3 ∷ 8 ∷ [])
+  pub listing : (st : Store) (k : ℕ) (out : List ℕ) → Refuses (undamagedOf st) (listAnswer st k out) l.Refused (13 ∷ 12 ∷ [])
+  pub label-by-number : (st : Store) (k : ℕ) → Refuses (undamagedOf st) (labelAnswer st k) d.Refused (13 ∷ [])

@@ -11,8 +11,8 @@ use lib.Seq.{take-append-seam}
 use denote.Ref.{RefT, now}
 use Rattle.search.specs.Bytes.{written}
 use Rattle.store.specs.Layout.{Store, store, fullSizes}
-use Rattle.store.specs.Within.{freshLabels, freshWords}
 use Rattle.store.specs.Judged.{freshStore}
+use Rattle.store.proofs.Judged.{fresh-entries}
 use Rattle.program_line.specs.declared.Session.{Session}
 use Rattle.program.specs.declared.Turn.the-variants.{Went, Refused}
 use Rattle.program_line.specs.Line.{State, state, sessionOf, freshSession, stepInput, sayInput, closeAfter, closeSays}
@@ -67,15 +67,6 @@ module _ (s : State) (out : List ℕ) where
 abbrev lends : List ℕ → RefT (List ℕ)
 lends x = record { ptr = (0, 0); name = 0; now = x }
 
--- a fresh table leaves the entries
-entries-stay : (st : Store) → store (freshStore st .labels) (st .entries) (freshStore st .words) ≡ freshStore st
-unfolding freshStore
-entries-stay st = by-test (fullSizes st) (store (freshLabels (st .labels)) (st .entries) (freshWords (st .words))) refl
-  where
-    by-test : (b : Bool) (new : Store) → new .entries ≡ st .entries → store (cond b new st .labels) (st .entries) (cond b new st .words) ≡ cond b new st
-    by-test true new e = rw (sym e)
-    by-test false new e = refl
-
 abbrev begin-call : (st : Store) → Called-begin
 begin-call st =
     record {
@@ -84,7 +75,7 @@ begin-call st =
       asked = tt;
       result = freshSession;
       last = (freshStore st .labels, (tt, (freshStore st .words, tt)));
-      ensures = (refl, entries-stay st);
+      ensures = (refl, fresh-entries st);
     }
 
 abbrev feed-call : (s : State) (input out : List ℕ) → Called-feed

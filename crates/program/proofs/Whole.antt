@@ -15,7 +15,7 @@ use Rattle.search.specs.Bytes.{written}
 use Rattle.store.specs.Table.{Table, fresh}
 use Rattle.store.specs.Layout.{Store, store, Sizes}
 use Rattle.store.specs.Judged.{freshStore}
-use Rattle.store.proofs.Laws.{fresh-is, fresh-undamaged}
+use Rattle.store.proofs.Judged.{fresh-is, fresh-undamaged}
 use Rattle.access.specs.Access.{answer}
 use Rattle.reports.specs.Report.{freshLoader}
 use Rattle.load.specs.Loader.{load, ready, endAnswer, endAfter}
