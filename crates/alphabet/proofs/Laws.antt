@@ -1,29 +1,59 @@
 -- Laws of the definitions of specs/. Assumes nothing.
 use mathlib.Core.Path.{_≡_, refl, sym, ap, _∙_}
-use mathlib.Core.Bool.{Bool, true, false, cond, not, _&&_, _||_, Bool·beq, and-false}
+use mathlib.Core.Bool.{Bool, true, false, cond, not, _&&_, _||_, Bool·beq, and-false, or-true}
 use mathlib.Core.List.{List, [], _∷_}
+use mathlib.Core.Logic.{_↔_, inl, inr, ⊎-elim}
 use Prim.Native.Nat.{ℕ, zero, suc, _+_, _-_, _<_, _≤_, suc-le-suc}
 use native.Mathlib.Numerals.{add-one}
 use native.Mathlib.Omega.{arith}
 use lib.Dec.{eqb, leb, ltb}
 use lib.ListN.{length, take, drop, getD, length-take, length-drop, drop-of-length-le}
 use lib.Seq.{drop-cons, drop-drop, take-all, getD-take}
-use borrow.Author.Tests.{eqb-false, eq-eqb, ne-eqb, leb-true, le-leb, lt-leb, lt-ltb, le-ltb, ltb-true, ltb-false, not-true, not-false}
+use borrow.Author.Tests.{eqb-true, eqb-false, eq-eqb, ne-eqb, leb-true, le-leb, lt-leb, lt-ltb, le-ltb, ltb-true, ltb-false, not-true, not-false}
 use Rattle.search.specs.Search.{first, all, later}
 use Rattle.search.specs.declared.Found.{Found}
 use Rattle.search.specs.declared.Found.the-variants.{At, Nothing}
-use Rattle.search.proofs.Laws.{no, and-both, all-at, first-at, first-none}
-use Rattle.alphabet.specs.Alphabet.{isBlank, labelByte, classOf, wellFormed, orTooLong, faultOf, run, startOf, endOf, fieldAt, part, opens, onto, fields}
+use Rattle.search.proofs.Laws.{no, and-both, all-at, first-at, first-none, entries-length, entries-at}
+use Rattle.alphabet.specs.Alphabet.{isBlank, labelByte, classOf, LabelByte, Blank, ByteClass, ByteClasses, classTable, wellFormed, orTooLong, faultOf, run, startOf, endOf, fieldAt, part, opens, onto, fields}
 use Rattle.alphabet.specs.declared.Field.{Field}
 use Rattle.alphabet.specs.declared.Field.the-variants.{Part, End}
 
 -- ---- the classes
 
+neither : (a b : Bool) → (a || b) ≡ false → (a ≡ false) × (b ≡ false)
+neither true b e = absurd (no (sym e))
+neither false b e = (refl, e)
+
+-- the two tests of a byte say what 01 says
+label-is : (b : ℕ) → (labelByte b ≡ true) ↔ LabelByte b
+unfolding labelByte
+label-is b = (there, back)
+  where
+    there : labelByte b ≡ true → LabelByte b
+    there e =
+        let h = and-both (leb 33 b) (leb b 126 && not (eqb b 47 || (eqb b 92 || (eqb b 39 || eqb b 34)))) e in
+        let i = and-both (leb b 126) (not (eqb b 47 || (eqb b 92 || (eqb b 39 || eqb b 34)))) (h .1) in
+        let j = neither (eqb b 47) (eqb b 92 || (eqb b 39 || eqb b 34)) (not-true _ (i .1)) in
+        let k = neither (eqb b 92) (eqb b 39 || eqb b 34) (j .1) in
+        let l = neither (eqb b 39) (eqb b 34) (k .1) in
+        (leb-true 33 b (h .0), leb-true b 126 (i .0), eqb-false b 47 (j .0), eqb-false b 92 (k .0), eqb-false b 39 (l .0), eqb-false b 34 (l .1))
+
+    back : LabelByte b → labelByte b ≡ true
+    back x = rw (le-leb 33 b (x .0), le-leb b 126 (x .1), ne-eqb b 47 (x .2), ne-eqb b 92 (x .3), ne-eqb b 39 (x .4), ne-eqb b 34 (x .5))
+
+blank-is : (b : ℕ) → (isBlank b ≡ true) ↔ Blank b
+unfolding isBlank
+blank-is b = (there (eqb b 32) refl, ⊎-elim (λ q. rw (eq-eqb b 32 q)) (λ q. rw (eq-eqb b 9 q) (or-true (eqb b 32))))
+  where
+    there : (t : Bool) → eqb b 32 ≡ t → (t || eqb b 9) ≡ true → Blank b
+    there true e q = inl (eqb-true b 32 e)
+    there false e q = inr (eqb-true b 9 q)
+
 -- a label byte is no blank
 pub label-unblank : (b : ℕ) → labelByte b ≡ true → isBlank b ≡ false
-unfolding labelByte isBlank
+unfolding isBlank
 label-unblank b e =
-    let h = leb-true 33 b (and-both (leb 33 b) (leb b 126 && not (eqb b 47 || (eqb b 92 || (eqb b 39 || eqb b 34)))) e .0) in
+    let h = label-is b .0 e .0 in
     rw (ne-eqb b 32 (λ q. omega arith), ne-eqb b 9 (λ q. omega arith))
 
 -- a byte's class tells whether it is a label byte, and whether it is a blank
@@ -46,6 +76,67 @@ class-blank b = by-test (labelByte b) (isBlank b) (eqb b 10) (label-unblank b)
     by-test false true n h = refl
     by-test false false true h = refl
     by-test false false false h = refl
+
+-- a byte is in one of the other two classes, too, by its tests
+above-newline : (b : ℕ) → labelByte b ≡ true → eqb b 10 ≡ false
+unfolding labelByte
+above-newline b e = let h = label-is b .0 e .0 in ne-eqb b 10 (λ q. omega arith)
+
+blank-no-newline : (b : ℕ) → isBlank b ≡ true → eqb b 10 ≡ false
+blank-no-newline b e = ne-eqb b 10 (λ q. ⊎-elim (λ h. omega arith) (λ h. omega arith) (blank-is b .0 e))
+
+class-newline : (b : ℕ) → eqb (classOf b) 2 ≡ eqb b 10
+unfolding classOf
+class-newline b = by-test (labelByte b) (isBlank b) (eqb b 10) (above-newline b) (blank-no-newline b)
+  where
+    by-test : (l k n : Bool) → (l ≡ true → n ≡ false) → (k ≡ true → n ≡ false) → eqb (cond l 0 (cond k 1 (cond n 2 3))) 2 ≡ n
+    by-test true k n h i = sym (h refl)
+    by-test false true n h i = sym (i refl)
+    by-test false false true h i = refl
+    by-test false false false h i = refl
+
+class-other : (b : ℕ) → eqb (classOf b) 3 ≡ (not (labelByte b) && (not (isBlank b) && not (eqb b 10)))
+unfolding classOf
+class-other b = by-test (labelByte b) (isBlank b) (eqb b 10)
+  where
+    by-test : (l k n : Bool) → eqb (cond l 0 (cond k 1 (cond n 2 3))) 3 ≡ (not l && (not k && not n))
+    by-test true k n = refl
+    by-test false true n = refl
+    by-test false false true = refl
+    by-test false false false = refl
+
+-- a class by its test
+by-class : (c k : ℕ) (t : Bool) {A : Type 0} → eqb c k ≡ t → (t ≡ true) ↔ A → (c ≡ k) ↔ A
+by-class c k t e a = (λ q. a .0 (sym e ∙ eq-eqb c k q), λ x. eqb-true c k (e ∙ a .1 x))
+
+none-is : {A B C : Type 0} (l k n : Bool) → (l ≡ true) ↔ A → (k ≡ true) ↔ B → (n ≡ true) ↔ C → ((not l && (not k && not n)) ≡ true) ↔ ((A → ⊥) × (B → ⊥) × (C → ⊥))
+none-is true k n a b c = (λ e. absurd (no e), λ x. absurd (x .0 (a .0 refl)))
+none-is false true n a b c = (λ e. absurd (no e), λ x. absurd (x .1 (b .0 refl)))
+none-is false false true a b c = (λ e. absurd (no e), λ x. absurd (x .2 (c .0 refl)))
+none-is false false false a b c = (λ e. (λ x. no (a .1 x), λ x. no (b .1 x), λ x. no (c .1 x)), λ x. refl)
+
+-- the class of each byte is the one that 01 gives it
+pub byte-class : (b : ℕ) → ByteClass b (classOf b)
+byte-class b =
+    let ends : (eqb b 10 ≡ true) ↔ (b ≡ 10) = (eqb-true b 10, eq-eqb b 10) in
+    record {
+      label = by-class (classOf b) 0 (labelByte b) (class-label b) (label-is b);
+      blank = by-class (classOf b) 1 (isBlank b) (class-blank b) (blank-is b);
+      ends-a-line = by-class (classOf b) 2 (eqb b 10) (class-newline b) ends;
+      other = by-class (classOf b) 3 _ (class-other b) (none-is (labelByte b) (isBlank b) (eqb b 10) (label-is b) (blank-is b) ends);
+    }
+
+-- the table of the classes, and a table that is it
+pub class-count : length classTable ≡ 256
+unfolding classTable
+class-count = entries-length classOf 256
+
+pub class-at : (b : ℕ) → b < 256 → getD classTable b 0 ≡ classOf b
+unfolding classTable
+class-at b h = entries-at classOf 0 256 b h
+
+pub table-says : (t : List ℕ) → t ≡ classTable → (t ≡ classTable) × ByteClasses (λ b. getD t b 0)
+table-says t e = (e, λ b h. rw (e, class-at b h) (byte-class b))
 
 -- the same of a class r that was read from the table
 pub blank-told : (b r : ℕ) → r ≡ classOf b → eqb r 1 ≡ isBlank b

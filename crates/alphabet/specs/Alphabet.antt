@@ -1,7 +1,9 @@
 -- 01, Labels 1 and 4, and the fields of 'Rule text': the class of a byte, a well-formed label and its first fault, and the fields of a line.
 -- The alphabet is that of the kernel's Smack text (source documents 000, 001 and 004); the 23-character limit of the
 -- first version (source document 003) is overruled. Assumes nothing.
-use Prim.Native.Nat.{ℕ, zero, suc, _+_, _-_}
+use Prim.Native.Nat.{ℕ, zero, suc, _+_, _-_, _<_, _≤_}
+use mathlib.Core.Path.{_≡_}
+use mathlib.Core.Logic.{_↔_, _≢_, _⊎_}
 use mathlib.Core.Bool.{Bool, true, false, cond, not, _&&_, _||_}
 use mathlib.Core.List.{List, [], _∷_}
 use lib.ListN.{length, take, drop, getD}
@@ -24,6 +26,24 @@ labelByte b = leb 33 b && (leb b 126 && not (eqb b 47 || (eqb b 92 || (eqb b 39 
 unfoldable pub classOf : ℕ → ℕ
 unfolding isBlank labelByte
 classOf b = cond (labelByte b) 0 (cond (isBlank b) 1 (cond (eqb b 10) 2 3))
+
+-- What 01 says of a byte and its class, without the tests above: 0 exactly where the byte is 33 to 126 and none of / \ ' ", 1 exactly where it is
+-- space or tab, 2 exactly where it is newline, 3 exactly where it is none of these.
+abbrev pub LabelByte : ℕ → Type 0
+LabelByte b = (33 ≤ b) × (b ≤ 126) × (b ≢ 47) × (b ≢ 92) × (b ≢ 39) × (b ≢ 34)
+
+abbrev pub Blank : ℕ → Type 0
+Blank b = (b ≡ 32) ⊎ (b ≡ 9)
+
+pub record ByteClass (b class : ℕ) : Type 0 where
+  pub label : (class ≡ 0) ↔ LabelByte b
+  pub blank : (class ≡ 1) ↔ Blank b
+  pub ends-a-line : (class ≡ 2) ↔ (b ≡ 10)
+  pub other : (class ≡ 3) ↔ ((LabelByte b → ⊥) × (Blank b → ⊥) × (b ≢ 10))
+
+-- what is said of the byte values, all 256
+abbrev pub ByteClasses : (ℕ → ℕ) → Type 0
+ByteClasses class = (b : ℕ) → b < 256 → ByteClass b (class b)
 
 -- the classes of the 256 byte values, in order
 unfoldable pub classTable : List ℕ

@@ -1,13 +1,12 @@
 -- `alphabet::label_fault` meets its contract: after i turns the first i bytes are label bytes. Assumes nothing.
 use Prim.Native.Nat.{ℕ, _<_, _≤_, _-_}
-use mathlib.Core.Path.{_≡_, refl, sym}
+use mathlib.Core.Path.{_≡_, sym}
 use mathlib.Core.Bool.{true}
 use native.Mathlib.Omega.{arith}
 use borrow.Author.Needs.{needs}
 use borrow.Author.Count.{below-more}
 use lib.ListN.{length, getD}
-use Rattle.alphabet.specs.Alphabet.{isBlank, labelByte, classOf, classTable}
-use Rattle.search.specs.Search.{entries}
+use Rattle.alphabet.specs.Alphabet.{labelByte, classTable}
 use Rattle.alphabet.proofs.Laws.{label-told, other-told, fault-empty, fault-dash, fault-at, fault-long, fault-none}
 use Rattle.alphabet.proofs.label_fault.Statement.{statement}
 use Rattle.alphabet.proofs.label_fault.Tie as tie
@@ -27,16 +26,17 @@ shared-slice-read-if2 c = omega arith
 returns-2 : tie.Need-returns-2 Inv-loop μ-loop
 returns-2 c = sym (fault-dash _ (c .before .before .if1 .left) (c .if2 .taken))
 
--- the code's table, computed entry by entry, is the list of the classes of 0 to 255
+classes-requires : tie.Need-classes-requires Inv-loop μ-loop
+classes-requires c κs = tt
+
 loop-holds : tie.Need-loop-holds Inv-loop μ-loop
-unfolding classTable classOf entries isBlank labelByte
-loop-holds c = (refl, omega arith, omega arith, λ k h. absurd (omega arith))
+loop-holds c = (c .classes .ensures .0, omega arith, omega arith, λ k h. absurd (omega arith))
 
 returns-3 : tie.Need-returns-3 Inv-loop μ-loop
 returns-3 c =
     let l = c .before .before in
     let z : l .loop .i ≡ 255 = c .if3 .taken in
-    sym (fault-long _ (l .before .before .before .if1 .left) (l .before .if2 .left) (omega arith) (rw z at (l .loop .inv .3)))
+    sym (fault-long _ (l .before .before .before .before .if1 .left) (l .before .before .if2 .left) (omega arith) (rw z at (l .loop .inv .3)))
 
 slice-aggregate-class : tie.Need-slice-aggregate-class Inv-loop μ-loop
 slice-aggregate-class c = search needs
@@ -52,7 +52,7 @@ returns-4 c =
     let l = c .before .before .before .before .before .before in
     let i = l .loop .inv in
     sym
-    (fault-at _ (l .before .before .before .if1 .left) (l .before .if2 .left) (l .loop .i) (omega arith) (omega arith) (i .3)
+    (fault-at _ (l .before .before .before .before .if1 .left) (l .before .before .if2 .left) (l .loop .i) (omega arith) (omega arith) (i .3)
     (other-told _ _ (c .before .class .ensures) (c .if4 .taken)))
 
 add-i : tie.Need-add-i Inv-loop μ-loop
@@ -69,8 +69,8 @@ loop-again c =
 returns-5 : tie.Need-returns-5 Inv-loop μ-loop
 returns-5 c =
     let l = c .before in
-    let z : l .loop .i ≡ length (l .before .before .before .before .before .args .label .now) = omega arith in
-    sym (fault-none _ (l .before .before .before .if1 .left) (l .before .if2 .left) (omega arith) (rw z at (l .loop .inv .3)))
+    let z : l .loop .i ≡ length (l .before .before .before .before .before .before .args .label .now) = omega arith in
+    sym (fault-none _ (l .before .before .before .before .if1 .left) (l .before .before .if2 .left) (omega arith) (rw z at (l .loop .inv .3)))
 
 pub label-fault-spec : {M : Type 1} → statement M
 label-fault-spec =
@@ -81,6 +81,7 @@ label-fault-spec =
     returns
     shared-slice-read-if2
     returns-2
+    classes-requires
     loop-holds
     returns-3
     slice-aggregate-class
