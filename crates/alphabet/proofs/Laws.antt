@@ -1,8 +1,8 @@
 -- Laws of the definitions of specs/. Assumes nothing.
 use mathlib.Core.Path.{_≡_, refl, sym, ap, _∙_}
-use mathlib.Core.Bool.{Bool, true, false, cond, not, _&&_, _||_, Bool·beq, and-false, or-true}
+use mathlib.Core.Bool.{Bool, true, false, cond, not, _&&_, _||_, Bool·beq, and-false}
 use mathlib.Core.List.{List, [], _∷_}
-use mathlib.Core.Logic.{_↔_, inl, inr, ⊎-elim}
+use mathlib.Core.Logic.{_↔_, ⊎-elim}
 use Prim.Native.Nat.{ℕ, zero, suc, _+_, _-_, _<_, _≤_, suc-le-suc}
 use native.Mathlib.Numerals.{add-one}
 use native.Mathlib.Omega.{arith}
@@ -13,7 +13,7 @@ use borrow.Author.Tests.{eqb-true, eqb-false, eq-eqb, ne-eqb, leb-true, le-leb, 
 use Rattle.search.specs.Search.{first, all, later}
 use Rattle.search.specs.declared.Found.{Found}
 use Rattle.search.specs.declared.Found.the-variants.{At, Nothing}
-use Rattle.search.proofs.Laws.{no, and-both, all-at, first-at, first-none, entries-length, entries-at}
+use Rattle.search.proofs.Laws.{no, and-both, eqb-is, or-is, not-is, number-is, all-at, first-at, first-none, entries-length, entries-at}
 use Rattle.alphabet.specs.Alphabet.{isBlank, labelByte, classOf, LabelByte, Blank, ByteClass, ByteClasses, classTable, wellFormed, orTooLong, faultOf, run, startOf, endOf, fieldAt, part, opens, onto, fields}
 use Rattle.alphabet.specs.declared.Field.{Field}
 use Rattle.alphabet.specs.declared.Field.the-variants.{Part, End}
@@ -43,11 +43,7 @@ label-is b = (there, back)
 
 blank-is : (b : ℕ) → (isBlank b ≡ true) ↔ Blank b
 unfolding isBlank
-blank-is b = (there (eqb b 32) refl, ⊎-elim (λ q. rw (eq-eqb b 32 q)) (λ q. rw (eq-eqb b 9 q) (or-true (eqb b 32))))
-  where
-    there : (t : Bool) → eqb b 32 ≡ t → (t || eqb b 9) ≡ true → Blank b
-    there true e q = inl (eqb-true b 32 e)
-    there false e q = inr (eqb-true b 9 q)
+blank-is b = or-is (eqb b 32) (eqb b 9) (eqb-is b 32) (eqb-is b 9)
 
 -- a label byte is no blank
 pub label-unblank : (b : ℕ) → labelByte b ≡ true → isBlank b ≡ false
@@ -95,35 +91,26 @@ class-newline b = by-test (labelByte b) (isBlank b) (eqb b 10) (above-newline b)
     by-test false false true h i = refl
     by-test false false false h i = refl
 
-class-other : (b : ℕ) → eqb (classOf b) 3 ≡ (not (labelByte b) && (not (isBlank b) && not (eqb b 10)))
+class-other : (b : ℕ) → eqb (classOf b) 3 ≡ not (labelByte b || (isBlank b || eqb b 10))
 unfolding classOf
 class-other b = by-test (labelByte b) (isBlank b) (eqb b 10)
   where
-    by-test : (l k n : Bool) → eqb (cond l 0 (cond k 1 (cond n 2 3))) 3 ≡ (not l && (not k && not n))
+    by-test : (l k n : Bool) → eqb (cond l 0 (cond k 1 (cond n 2 3))) 3 ≡ not (l || (k || n))
     by-test true k n = refl
     by-test false true n = refl
     by-test false false true = refl
     by-test false false false = refl
 
--- a class by its test
-by-class : (c k : ℕ) (t : Bool) {A : Type 0} → eqb c k ≡ t → (t ≡ true) ↔ A → (c ≡ k) ↔ A
-by-class c k t e a = (λ q. a .0 (sym e ∙ eq-eqb c k q), λ x. eqb-true c k (e ∙ a .1 x))
-
-none-is : {A B C : Type 0} (l k n : Bool) → (l ≡ true) ↔ A → (k ≡ true) ↔ B → (n ≡ true) ↔ C → ((not l && (not k && not n)) ≡ true) ↔ ((A → ⊥) × (B → ⊥) × (C → ⊥))
-none-is true k n a b c = (λ e. absurd (no e), λ x. absurd (x .0 (a .0 refl)))
-none-is false true n a b c = (λ e. absurd (no e), λ x. absurd (x .1 (b .0 refl)))
-none-is false false true a b c = (λ e. absurd (no e), λ x. absurd (x .2 (c .0 refl)))
-none-is false false false a b c = (λ e. (λ x. no (a .1 x), λ x. no (b .1 x), λ x. no (c .1 x)), λ x. refl)
-
 -- the class of each byte is the one that 01 gives it
 pub byte-class : (b : ℕ) → ByteClass b (classOf b)
 byte-class b =
-    let ends : (eqb b 10 ≡ true) ↔ (b ≡ 10) = (eqb-true b 10, eq-eqb b 10) in
     record {
-      label = by-class (classOf b) 0 (labelByte b) (class-label b) (label-is b);
-      blank = by-class (classOf b) 1 (isBlank b) (class-blank b) (blank-is b);
-      ends-a-line = by-class (classOf b) 2 (eqb b 10) (class-newline b) ends;
-      other = by-class (classOf b) 3 _ (class-other b) (none-is (labelByte b) (isBlank b) (eqb b 10) (label-is b) (blank-is b) ends);
+      label = number-is (classOf b) 0 (labelByte b) (class-label b) (label-is b);
+      blank = number-is (classOf b) 1 (isBlank b) (class-blank b) (blank-is b);
+      ends-a-line = number-is (classOf b) 2 (eqb b 10) (class-newline b) (eqb-is b 10);
+      other =
+          number-is (classOf b) 3 _ (class-other b)
+          (not-is (labelByte b || (isBlank b || eqb b 10)) (or-is (labelByte b) _ (label-is b) (or-is (isBlank b) _ (blank-is b) (eqb-is b 10))));
     }
 
 -- the table of the classes, and a table that is it

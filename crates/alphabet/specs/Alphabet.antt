@@ -39,7 +39,7 @@ pub record ByteClass (b class : ℕ) : Type 0 where
   pub label : (class ≡ 0) ↔ LabelByte b
   pub blank : (class ≡ 1) ↔ Blank b
   pub ends-a-line : (class ≡ 2) ↔ (b ≡ 10)
-  pub other : (class ≡ 3) ↔ ((LabelByte b → ⊥) × (Blank b → ⊥) × (b ≢ 10))
+  pub other : (class ≡ 3) ↔ (LabelByte b ⊎ Blank b ⊎ (b ≡ 10) → ⊥)
 
 -- what is said of the byte values, all 256
 abbrev pub ByteClasses : (ℕ → ℕ) → Type 0

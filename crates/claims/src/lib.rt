@@ -3,11 +3,9 @@
 ghost use mathlib.Core.Path.{_≡_};
 ghost use mathlib.Core.Bool.{true, false};
 ghost use mathlib.Core.List.{List, map};
-ghost use Prim.Native.Nat.{ℕ, _<_};
-ghost use lib.ListN.{getD};
 ghost use Rattle.search.specs.Search.{all};
-ghost use Rattle.alphabet.specs.Alphabet.{classOf, classTable};
-ghost use Rattle.modes.specs.Modes.{letters, soundLetters};
+ghost use Rattle.alphabet.specs.Alphabet.{classOf, ByteClasses};
+ghost use Rattle.modes.specs.Modes.{SixLetters};
 ghost use Rattle.store.specs.Layout.{tableOf, undamagedOf};
 ghost use Rattle.load.specs.Loader.{Load};
 ghost use Rattle.lists.specs.Reader.{Call, Reply, events, reports};
@@ -65,11 +63,11 @@ pub fn search_of_a_run()
     ensures { λ _. ⌜ SearchesTheRun ⌝ }
 {}
 
-// Byte classes and letters, the rule of each once over its table: each of the 256 entries is the class of its byte; each letter is a small one,
-// each bit a power of two, and none of them stands twice.
+// Byte classes and letters as 01 says them, byte by byte: label byte, blank, newline or other; each letter's bit in either case, and the letters that each
+// place allows. That the code's tables are these, say the contracts of `alphabet::classes` and of what reads and writes modes.
 pub fn bytes_and_letters()
-    ensures { λ _. ⌜ ((b : ℕ) → b < 256 → getD classTable b 0 ≡ classOf b) ⌝ }
-    ensures { λ _. ⌜ soundLetters letters ≡ true ⌝ }
+    ensures { λ _. ⌜ ByteClasses classOf ⌝ }
+    ensures { λ _. ⌜ SixLetters ⌝ }
 {}
 
 // The cases P1 to P12.

@@ -1,39 +1,33 @@
 -- Laws of the definitions of specs/Modes.antt: the table of letters, a field read from some byte on, and modes as text. Assumes nothing.
 use mathlib.Core.Path.{_≡_, refl, sym, ap, _∙_}
-use mathlib.Core.Bool.{Bool, true, false, cond, not, _&&_, _||_, or-true, and-false}
+use mathlib.Core.Bool.{Bool, true, false, cond, not, _&&_, _||_, Bool·beq, or-true, and-false}
+use mathlib.Core.Logic.{_↔_}
 use mathlib.Core.List.{List, [], _∷_, foldl, append-assoc}
 use Prim.Native.Nat.{ℕ, zero, suc, _+_, _-_, _<_, _≤_}
 use native.Mathlib.Numerals.{add-one}
 use native.Mathlib.Omega.{arith}
-use lib.Dec.{eqb, ltb}
+use lib.Dec.{eqb, leb, ltb}
 use lib.Bits.{bitAnd, bitOr, or-lt}
 use borrow.Author.Tests.{eqb-true, eq-eqb, ne-eqb, ltb-true, lt-ltb, leb-true}
 use lib.ListN.{length, take, drop, getD, set, length-set, drop-of-length-le}
 use lib.Seq.{drop-cons, drop-nil, take-length, set-split, paste, paste-zero, paste-suc}
 use Rattle.search.specs.Search.{all, entries}
 use Rattle.search.specs.Bytes.{written}
-use Rattle.search.proofs.Laws.{no, and-both, all-at, entries-at, entries-length}
-use Rattle.modes.specs.Modes.{letters, bitAmong, bitOf, allowedByte, modesOf, readModes, has, lettersIn, modesText, ruleLetters, changeLetters, requestLetters, soundLetters, soundLetter}
+use Rattle.search.proofs.Laws.{no, and-both, eqb-is, or-is, not-is, number-is, all-at, entries-at, entries-length}
+use Rattle.modes.specs.Modes.{letters, bitAmong, bitOf, allowedByte, modesOf, readModes, has, lettersIn, modesText, ruleLetters, Is, LetterBit, SixLetters}
 use Rattle.modes.specs.declared.Letter.{Letter}
 use Rattle.modes.specs.declared.Access.{Access}
 use Rattle.modes.specs.declared.Access.the-variants.{Modes, Bad}
 
 -- ---- the table of letters
 
--- the rule of the table, computed once over all of it
-pub letters-rule : soundLetters letters ≡ true
-unfolding all soundLetters
-letters-rule = refl
+-- the rule of the table, computed once over all of it: each letter is a small one, and each bit is below 64
+abbrev pub soundLetter : Letter → Bool
+soundLetter l = leb 97 (l .letter) && leb (l .letter) 122 && ltb 0 (l .bit) && ltb (l .bit) 64
 
--- the letters that each place allows
-pub rule-letters : lettersIn letters ruleLetters ≡ 114 ∷ 119 ∷ 120 ∷ 97 ∷ 116 ∷ 98 ∷ []
-rule-letters = refl
-
-pub change-letters : lettersIn letters changeLetters ≡ 114 ∷ 119 ∷ 120 ∷ 97 ∷ 116 ∷ []
-change-letters = refl
-
-pub request-letters : lettersIn letters requestLetters ≡ 114 ∷ 119 ∷ 120 ∷ 97 ∷ []
-request-letters = refl
+letters-sound : all soundLetter letters ≡ true
+unfolding all
+letters-sound = refl
 
 -- what stands past the table's end
 abbrev pub noLetter : Letter
@@ -43,8 +37,7 @@ abbrev pub letterAt : ℕ → Letter
 letterAt i = getD letters i noLetter
 
 pub letter-rule : (i : ℕ) → i < 6 → soundLetter (letterAt i) ≡ true
-unfolding soundLetters
-letter-rule i h = all-at soundLetter noLetter letters (and-both _ _ letters-rule .0) i h
+letter-rule i h = all-at soundLetter noLetter letters letters-sound i h
 
 -- what the rule says of one letter, as facts
 pub sound-parts : (l : Letter) → soundLetter l ≡ true → (97 ≤ l .letter) × (l .letter ≤ 122) × (0 < l .bit) × (l .bit < 64)
@@ -52,8 +45,7 @@ sound-parts l e =
     let h₁ = and-both _ _ e in
     let h₂ = and-both _ _ (h₁ .0) in
     let h₃ = and-both _ _ (h₂ .0) in
-    let h₄ = and-both _ _ (h₃ .0) in
-    (leb-true _ _ (h₄ .0), leb-true _ _ (h₄ .1), ltb-true _ _ (h₃ .1), ltb-true _ _ (h₂ .1))
+    (leb-true _ _ (h₃ .0), leb-true _ _ (h₃ .1), ltb-true _ _ (h₂ .1), ltb-true _ _ (h₁ .1))
 
 -- ---- the bit of a byte, searched from the letter i on
 
@@ -79,8 +71,63 @@ among-lt (l ∷ ls) b e =
     bit-or (eqb b (l .letter) || eqb b (l .letter - 32)) l (bitAmong ls b) (h .0) (among-lt ls b (h .1))
 
 pub bit-lt : (b : ℕ) → bitOf b < 64
-unfolding bitOf soundLetters
-bit-lt b = among-lt letters b (and-both _ _ letters-rule .0)
+unfolding bitOf
+bit-lt b = among-lt letters b letters-sound
+
+-- ---- the bit of each byte, as 01 says it
+
+-- what is true of each number below n by one test, computed at all of them
+pub below : (p : ℕ → Bool) (n : ℕ) → all p (entries (λ (k : ℕ). k) n) ≡ true → (k : ℕ) → k < n → p k ≡ true
+below p n e k h = rw (← entries-at (λ (j : ℕ). j) 0 n k h) (all-at p 0 (entries (λ (j : ℕ). j) n) e k (rw (entries-length (λ (j : ℕ). j) n) h))
+
+-- a bit k is that of the letter s and its capital c, computed at all 256 bytes
+abbrev either : ℕ → ℕ → ℕ → Bool
+either b s c = eqb b s || eqb b c
+
+bitTest : ℕ → ℕ → ℕ → ℕ → Bool
+bitTest k s c b = Bool·beq (eqb (bitOf b) k) (either b s c)
+
+beq-same : (s t : Bool) → Bool·beq s t ≡ true → s ≡ t
+beq-same true true e = refl
+beq-same true false e = absurd (no e)
+beq-same false true e = absurd (no e)
+beq-same false false e = refl
+
+is-letter : (b s c : ℕ) → (either b s c ≡ true) ↔ Is b s c
+is-letter b s c = or-is (eqb b s) (eqb b c) (eqb-is b s) (eqb-is b c)
+
+bit-is : (k s c : ℕ) → all (bitTest k s c) (entries (λ (j : ℕ). j) 256) ≡ true → (b : ℕ) → b < 256 → (bitOf b ≡ k) ↔ Is b s c
+unfolding bitTest
+bit-is k s c e b h = number-is (bitOf b) k (either b s c) (beq-same _ _ (below (bitTest k s c) 256 e b h)) (is-letter b s c)
+
+-- a byte has no bit where it is no letter
+no-bit : (r w x a t b : Bool) → eqb (cond r 32 (cond w 16 (cond x 8 (cond a 4 (cond t 2 (cond b 1 0)))))) 0 ≡ not (r || (w || (x || (a || (t || b)))))
+no-bit true w x a t b = refl
+no-bit false true x a t b = refl
+no-bit false false true a t b = refl
+no-bit false false false true t b = refl
+no-bit false false false false true b = refl
+no-bit false false false false false true = refl
+no-bit false false false false false false = refl
+
+letter-bit : (b : ℕ) → b < 256 → LetterBit b (bitOf b)
+unfolding all entries bitTest bitOf
+letter-bit b h =
+    record {
+      read = bit-is 32 114 82 refl b h;
+      write = bit-is 16 119 87 refl b h;
+      execute = bit-is 8 120 88 refl b h;
+      append = bit-is 4 97 65 refl b h;
+      transmute = bit-is 2 116 84 refl b h;
+      bring-up = bit-is 1 98 66 refl b h;
+      none =
+          number-is (bitOf b) 0 _ (no-bit (either b 114 82) (either b 119 87) (either b 120 88) (either b 97 65) (either b 116 84) (either b 98 66))
+          (not-is _ (or-is _ _ (is-letter b 114 82) (or-is _ _ (is-letter b 119 87) (or-is _ _ (is-letter b 120 88) (or-is _ _ (is-letter b 97 65) (or-is _ _ (is-letter b 116 84) (is-letter b 98 66)))))));
+    }
+
+pub six-letters : SixLetters
+unfolding modesText
+six-letters = record { bits = letter-bit; in-a-rule = refl; in-a-change = refl; in-a-request = refl }
 
 -- ---- a field read from some byte on, with the modes m of the bytes before
 
@@ -142,10 +189,6 @@ modes-small allowed dash field m e = by-test (all (allowedByte allowed dash) fie
 
 -- ---- modes as text
 
--- what is true of each number below n by one test, computed at all of them
-pub below : (p : ℕ → Bool) (n : ℕ) → all p (entries (λ (k : ℕ). k) n) ≡ true → (k : ℕ) → k < n → p k ≡ true
-below p n e k h = rw (← entries-at (λ (j : ℕ). j) 0 n k h) (all-at p 0 (entries (λ (j : ℕ). j) n) e k (rw (entries-length (λ (j : ℕ). j) n) h))
-
 -- whether a field was read as m
 abbrev isModes : ℕ → Access → Bool
 isModes m (Modes n) = eqb n m
@@ -201,12 +244,12 @@ among-bytes (l ∷ ls) m e = let h = and-both (soundLetter l) (all soundLetter l
     by-test false p h = h
 
 pub text-bytes : (m : ℕ) → all textByte (modesText m) ≡ true
-unfolding modesText soundLetters all
+unfolding modesText all
 text-bytes m = by-test (eqb m 0)
   where
     by-test : (t : Bool) → all textByte (cond t (45 ∷ []) (lettersIn letters m)) ≡ true
     by-test true = refl
-    by-test false = among-bytes letters m (and-both _ _ letters-rule .0)
+    by-test false = among-bytes letters m letters-sound
 
 pub text-byte : (m k : ℕ) → k < length (modesText m) → (32 < getD (modesText m) k 0) × (getD (modesText m) k 0 < 127)
 text-byte m k h =

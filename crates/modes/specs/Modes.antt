@@ -1,9 +1,11 @@
 -- 01, Modes: a set of the letters r w x a t b, its bits, and how it is read and written. One table of letters and bits serves both. The
 -- letters are those of the kernel's Smack text; the four of the first version (source document 003) are overruled. Assumes nothing.
-use Prim.Native.Nat.{ℕ, _-_}
-use mathlib.Core.Bool.{Bool, true, cond, not, _&&_, _||_}
+use Prim.Native.Nat.{ℕ, _-_, _<_}
+use mathlib.Core.Path.{_≡_}
+use mathlib.Core.Bool.{Bool, cond, not, _&&_, _||_}
 use mathlib.Core.List.{List, [], _∷_, foldl}
-use lib.Dec.{eqb, leb, ltb}
+use mathlib.Core.Logic.{_↔_, _⊎_}
+use lib.Dec.{eqb}
 use lib.Bits.{bitAnd, bitOr}
 use Rattle.search.specs.Search.{all}
 use Rattle.modes.specs.declared.Letter.{Letter}
@@ -16,20 +18,6 @@ entry l b = record { letter = l; bit = b }
 -- the letters and their bits, in the fixed order: read, write, execute, append, transmute, bring-up
 abbrev pub letters : List Letter
 letters = entry 114 32 ∷ entry 119 16 ∷ entry 120 8 ∷ entry 97 4 ∷ entry 116 2 ∷ entry 98 1 ∷ []
-
--- the rule of the table: each letter is a small one, each bit a power of two below 64, and no letter and no bit stands twice
-abbrev pub soundLetter : Letter → Bool
-soundLetter l = leb 97 (l .letter) && leb (l .letter) 122 && ltb 0 (l .bit) && ltb (l .bit) 64 && eqb (bitAnd (l .bit) (l .bit - 1)) 0
-
-abbrev pub apart : Letter → Letter → Bool
-apart l k = not (eqb (l .letter) (k .letter)) && not (eqb (l .bit) (k .bit))
-
-abbrev pub allApart : List Letter → Bool
-allApart [] = true
-allApart (l ∷ ls) = all (apart l) ls && allApart ls
-
-unfoldable pub soundLetters : List Letter → Bool
-soundLetters ls = all soundLetter ls && allApart ls
 
 -- the bit of a letter in either case (a capital letter is 32 below the small one), or 0 for any other byte
 abbrev pub bitAmong : List Letter → ℕ → ℕ
@@ -78,3 +66,26 @@ readExecute = 40
 
 abbrev pub bringUpLetter : ℕ
 bringUpLetter = 1
+
+-- ---- what 01 says of the letters, byte by byte and without the table above
+
+-- a byte is a letter, small or capital
+abbrev pub Is : ℕ → ℕ → ℕ → Type 0
+Is b small capital = (b ≡ small) ⊎ (b ≡ capital)
+
+-- each letter has its own bit, and any other byte has none
+pub record LetterBit (b bit : ℕ) : Type 0 where
+  pub read : (bit ≡ 32) ↔ Is b 114 82
+  pub write : (bit ≡ 16) ↔ Is b 119 87
+  pub execute : (bit ≡ 8) ↔ Is b 120 88
+  pub append : (bit ≡ 4) ↔ Is b 97 65
+  pub transmute : (bit ≡ 2) ↔ Is b 116 84
+  pub bring-up : (bit ≡ 1) ↔ Is b 98 66
+  pub none : (bit ≡ 0) ↔ (Is b 114 82 ⊎ Is b 119 87 ⊎ Is b 120 88 ⊎ Is b 97 65 ⊎ Is b 116 84 ⊎ Is b 98 66 → ⊥)
+
+-- so it is of all 256 bytes; and the letters that each place allows, in the order in which they are written
+pub record SixLetters : Type 0 where
+  pub bits : (b : ℕ) → b < 256 → LetterBit b (bitOf b)
+  pub in-a-rule : modesText ruleLetters ≡ 114 ∷ 119 ∷ 120 ∷ 97 ∷ 116 ∷ 98 ∷ []
+  pub in-a-change : modesText changeLetters ≡ 114 ∷ 119 ∷ 120 ∷ 97 ∷ 116 ∷ []
+  pub in-a-request : modesText requestLetters ≡ 114 ∷ 119 ∷ 120 ∷ 97 ∷ []

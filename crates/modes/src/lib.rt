@@ -3,7 +3,7 @@ ghost use mathlib.Core.Path.{_≡_};
 ghost use Prim.Native.Nat.{_+_, _≤_};
 ghost use lib.ListN.{length};
 ghost use Rattle.search.specs.Bytes.{written};
-ghost use Rattle.modes.specs.Modes.{bitOf, readModes, modesText};
+ghost use Rattle.modes.specs.Modes.{bitOf, readModes, modesText, SixLetters};
 
 // A letter and its bit.
 pub struct Letter {
@@ -17,23 +17,29 @@ const COUNT: usize = 6;
 // The letters in the order in which they are written out: r, w, x, a, t, b. Reading searches it, listing walks it.
 const LETTERS: [Letter; 6] = [
     Letter {
-        letter: 114,
+        letter: b'r',
         bit: 32,
     },
     Letter {
-        letter: 119,
+        letter: b'w',
         bit: 16,
     },
     Letter {
-        letter: 120,
+        letter: b'x',
         bit: 8,
     },
-    Letter { letter: 97, bit: 4 },
     Letter {
-        letter: 116,
+        letter: b'a',
+        bit: 4,
+    },
+    Letter {
+        letter: b't',
         bit: 2,
     },
-    Letter { letter: 98, bit: 1 },
+    Letter {
+        letter: b'b',
+        bit: 1,
+    },
 ];
 
 // What reading an access field answers: its modes, or that it has a byte not allowed there.
@@ -60,6 +66,11 @@ fn bit_of(b: u8) -> u8
     0
 }
 
+// The claim that letters and bits are those that 01 says, and that each place allows the letters that 01 says.
+pub fn six_letters()
+    ensures { λ _. ⌜ SixLetters ⌝ }
+{}
+
 // The modes of an access field, which may have the letters of `allowed` and, where `dash` says so, dashes.
 pub fn read_modes(field: &[u8], allowed: u8, dash: bool) -> Access
     ensures { λ r. ⌜ r ≡ readModes allowed dash (now (field .entry)) ⌝ }
@@ -73,7 +84,7 @@ pub fn read_modes(field: &[u8], allowed: u8, dash: bool) -> Access
             if !dash {
                 return Access::Bad;
             }
-            if b != 45 {
+            if b != b'-' {
                 return Access::Bad;
             }
         }
@@ -91,7 +102,7 @@ pub fn write_modes(out: &mut [u8], at: usize, modes: u8) -> usize
     ensures { λ _. ⌜ now (out .exit) ≡ written (now (out .entry)) at (modesText modes) ⌝ }
 {
     if modes == 0 {
-        out[at] = 45;
+        out[at] = b'-';
         return 1;
     }
     let mut n = 0;

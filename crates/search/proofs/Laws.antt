@@ -2,7 +2,7 @@
 use mathlib.Core.Path.{_≡_, refl, sym, ap, _∙_, subst}
 use mathlib.Core.Bool.{Bool, true, false, cond, not, _&&_, _||_, and-false, and-true}
 use mathlib.Core.List.{List, [], _∷_, _++_, append-assoc, append-nil, map}
-use mathlib.Core.Logic.{_⊎_, inl, inr, ⊎-elim}
+use mathlib.Core.Logic.{_↔_, _⊎_, inl, inr, ⊎-elim}
 use Prim.Native.Nat.{ℕ, zero, suc, _+_, _*_, _-_, _<_, _≤_, suc-le-suc}
 use native.Mathlib.Nat.{le-of-suc-le-suc, eq-or-lt-of-le}
 use native.Mathlib.Numerals.{add-one}
@@ -35,6 +35,22 @@ eqb-sym a b = by-test (eqb a b) refl
     by-test : (t : Bool) → eqb a b ≡ t → t ≡ eqb b a
     by-test true e = sym (eq-eqb b a (sym (eqb-true a b e)))
     by-test false e = sym (ne-eqb b a (λ q. eqb-false a b e (sym q)))
+
+-- tests that say what something is, and tests put together
+pub eqb-is : (a b : ℕ) → (eqb a b ≡ true) ↔ (a ≡ b)
+eqb-is a b = (eqb-true a b, eq-eqb a b)
+
+pub or-is : {A B : Type 0} (s t : Bool) → (s ≡ true) ↔ A → (t ≡ true) ↔ B → ((s || t) ≡ true) ↔ (A ⊎ B)
+or-is true t a b = (λ e. inl (a .0 refl), λ x. refl)
+or-is false t a b = (λ e. inr (b .0 e), ⊎-elim (λ x. absurd (no (a .1 x))) (b .1))
+
+pub not-is : {A : Type 0} (s : Bool) → (s ≡ true) ↔ A → (not s ≡ true) ↔ (A → ⊥)
+not-is true a = (λ e. absurd (no e), λ x. absurd (x (a .0 refl)))
+not-is false a = (λ e x. no (a .1 x), λ x. refl)
+
+-- a number is k exactly where a test passes
+pub number-is : {A : Type 0} (n k : ℕ) (t : Bool) → eqb n k ≡ t → (t ≡ true) ↔ A → (n ≡ k) ↔ A
+number-is n k t e a = (λ q. a .0 (sym e ∙ eq-eqb n k q), λ x. eqb-true n k (e ∙ a .1 x))
 
 -- ---- equal byte strings
 

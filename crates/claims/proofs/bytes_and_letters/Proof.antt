@@ -1,19 +1,11 @@
--- The rules of the two tables, each computed once. Assumes nothing.
-use Prim.Native.Nat.{ℕ, _<_}
-use mathlib.Core.Path.{_≡_}
-use lib.ListN.{getD}
-use Rattle.search.proofs.Laws.{entries-at}
-use Rattle.alphabet.specs.Alphabet.{classOf, classTable}
-use Rattle.modes.proofs.Laws.{letters-rule}
+-- The classes of the bytes and the bits of the letters, each by its law. Assumes nothing.
+use Rattle.alphabet.proofs.Laws.{byte-class}
+use Rattle.modes.proofs.Laws.{six-letters}
 use Rattle.claims.proofs.bytes_and_letters.Statement.{statement}
 use Rattle.claims.proofs.bytes_and_letters.Tie as tie
 
-class-at : (b : ℕ) → b < 256 → getD classTable b 0 ≡ classOf b
-unfolding classTable
-class-at b h = entries-at classOf 0 256 b h
-
 returns : tie.Need-returns
-returns c = (class-at, letters-rule)
+returns c = (λ b h. byte-class b, six-letters)
 
 pub bytes-and-letters-spec : {M : Type 1} → statement M
 bytes-and-letters-spec = tie.close (tie.spec returns)
