@@ -10,11 +10,12 @@ use lib.Dec.{eqb, leb, ltb}
 use lib.ListN.{length, take, drop, getD, length-take, length-drop, drop-of-length-le}
 use lib.Seq.{drop-cons, drop-drop, take-all, getD-take}
 use borrow.Author.Tests.{eqb-true, eqb-false, eq-eqb, ne-eqb, leb-true, le-leb, lt-leb, lt-ltb, le-ltb, ltb-true, ltb-false, not-true, not-false}
-use Rattle.search.specs.Search.{first, all, later}
+use Rattle.search.specs.Search.{first, all, those, later}
 use Rattle.search.specs.declared.Found.{Found}
 use Rattle.search.specs.declared.Found.the-variants.{At, Nothing}
 use Rattle.search.proofs.Laws.{no, and-both, eqb-is, or-is, not-is, number-is, all-at, first-at, first-none, entries-length, entries-at}
-use Rattle.alphabet.specs.Alphabet.{isBlank, labelByte, classOf, LabelByte, Blank, ByteClass, ByteClasses, classTable, wellFormed, orTooLong, faultOf, run, startOf, endOf, fieldAt, part, opens, onto, fields}
+use Rattle.alphabet.specs.Alphabet.{isBlank, labelByte, classOf, LabelByte, Blank, ByteClass, ByteClasses, wellFormed, orTooLong, faultOf, onto, parts, hasByte, fields}
+use Rattle.alphabet.specs.Within.{classTable, run, startOf, endOf, fieldAt, part}
 use Rattle.alphabet.specs.declared.Field.{Field}
 use Rattle.alphabet.specs.declared.Field.the-variants.{Part, End}
 
@@ -295,15 +296,41 @@ pub no-fields : fields [] ≡ []
 unfolding fields
 no-fields = refl
 
+-- whether a line begins with a field
+abbrev pub opens : List ℕ → Bool
+opens [] = false
+opens (b ∷ bs) = not (isBlank b)
+
+-- the fields by the line's first byte: a blank is passed, and any other byte joins the field that follows at once, or is one by itself
+pub fields-cons : (b : ℕ) (bs : List ℕ) → fields (b ∷ bs) ≡ cond (isBlank b) (fields bs) (cond (opens bs) (onto b (fields bs)) ((b ∷ []) ∷ fields bs))
+unfolding fields
+fields-cons b bs = by-test (isBlank b) bs
+  where
+    joins : (b : ℕ) (bs : List ℕ) → those hasByte (onto b (parts bs)) ≡ cond (opens bs) (onto b (those hasByte (parts bs))) ((b ∷ []) ∷ those hasByte (parts bs))
+    joins b [] = refl
+    joins b (x ∷ xs) = by-blank (isBlank x)
+      where
+        by-blank : (t : Bool) → those hasByte (onto b (cond t ([] ∷ parts xs) (onto x (parts xs)))) ≡ cond (not t) (onto b (those hasByte (cond t ([] ∷ parts xs) (onto x (parts xs))))) ((b ∷ []) ∷ those hasByte (cond t ([] ∷ parts xs) (onto x (parts xs))))
+        by-blank true = refl
+        by-blank false = by-parts (parts xs)
+          where
+            by-parts : (ps : List (List ℕ)) → those hasByte (onto b (onto x ps)) ≡ onto b (those hasByte (onto x ps))
+            by-parts [] = refl
+            by-parts (p ∷ ps) = refl
+
+    by-test : (t : Bool) (bs : List ℕ) → those hasByte (cond t ([] ∷ parts bs) (onto b (parts bs))) ≡ cond t (those hasByte (parts bs)) (cond (opens bs) (onto b (those hasByte (parts bs))) ((b ∷ []) ∷ those hasByte (parts bs)))
+    by-test true bs = refl
+    by-test false bs = joins b bs
+
 -- blanks in front do not matter
 fields-skip : (l : List ℕ) → fields l ≡ fields (drop (run true l) l)
-unfolding fields run
+unfolding run
 fields-skip [] = refl
 fields-skip (b ∷ bs) = by-test (isBlank b) refl (fields-skip bs)
   where
-    by-test : (t : Bool) → isBlank b ≡ t → fields bs ≡ fields (drop (run true bs) bs) → cond t (fields bs) (cond (opens bs) (onto b (fields bs)) ((b ∷ []) ∷ fields bs)) ≡ fields (drop (cond t (suc (run true bs)) zero) (b ∷ bs))
-    by-test true e ih = ih
-    by-test false e ih = rw e
+    by-test : (t : Bool) → isBlank b ≡ t → fields bs ≡ fields (drop (run true bs) bs) → fields (b ∷ bs) ≡ fields (drop (cond t (suc (run true bs)) zero) (b ∷ bs))
+    by-test true e ih = fields-cons b bs ∙ rw e ih
+    by-test false e ih = refl
 
 -- past the blanks, what is left begins with another byte
 opens-skip : (l : List ℕ) → run true l < length l → opens (drop (run true l) l) ≡ true
@@ -317,9 +344,9 @@ opens-skip (b ∷ bs) h = by-test (isBlank b) refl h (opens-skip bs)
 
 -- a line that begins with a field: the field is the run up to the next blank
 fields-cut : (l : List ℕ) → opens l ≡ true → (0 < run false l) × (fields l ≡ take (run false l) l ∷ fields (drop (run false l) l))
-unfolding fields run
+unfolding run
 fields-cut [] o = absurd (no o)
-fields-cut (b ∷ bs) o = rw (not-true (isBlank b) o) (omega arith, rest bs (opens bs) refl (fields-cut bs))
+fields-cut (b ∷ bs) o = rw (fields-cons b bs, not-true (isBlank b) o) (omega arith, rest bs (opens bs) refl (fields-cut bs))
   where
     rest :
         (bs : List ℕ) (t : Bool) →
@@ -327,8 +354,8 @@ fields-cut (b ∷ bs) o = rw (not-true (isBlank b) o) (omega arith, rest bs (ope
         (opens bs ≡ true → (0 < run false bs) × (fields bs ≡ take (run false bs) bs ∷ fields (drop (run false bs) bs))) →
         cond t (onto b (fields bs)) ((b ∷ []) ∷ fields bs) ≡ (b ∷ take (run false bs) bs) ∷ fields (drop (run false bs) bs)
     rest bs true e ih = ap (onto b) (ih e .1)
-    rest [] false e ih = refl
-    rest (x ∷ xs) false e ih = let z = not-false (isBlank x) e in rw (z, z)
+    rest [] false e ih = rw no-fields
+    rest (x ∷ xs) false e ih = rw (not-false (isBlank x) e)
 
 -- where the reader starts: no earlier than it was told to, and past blanks alone
 start-after : (line : List ℕ) (from : ℕ) → from ≤ startOf line from

@@ -3,21 +3,31 @@ use search::Found;
 ghost use mathlib.Core.Path.{_≡_};
 ghost use Prim.Native.Nat.{_+_};
 ghost use lib.ListN.{drop, getD};
-ghost use Rattle.alphabet.specs.Alphabet.{classOf, ByteClasses, classTable, faultOf, run, fieldAt};
+ghost use Rattle.alphabet.specs.Alphabet.{classOf, ByteClasses, faultOf};
+ghost use Rattle.alphabet.specs.Within.{classTable, run, fieldAt};
 
-// The numbers of the four classes in the table below.
-pub const LABEL: u8 = 0;
+// The bytes that have a part of their own.
+pub const TAB: u8 = b'\t';
+
+pub const NEWLINE: u8 = b'\n';
+
+pub const SPACE: u8 = b' ';
+
+pub const DASH: u8 = b'-';
+
+// The most bytes of a label, and of a line or a single write.
+pub const LABEL_LONGEST: usize = 255;
+
+pub const LINE_LIMIT: usize = 600;
+
+// The numbers of the four classes in the table below: a byte of a label, a blank, the end of a line, any other.
+pub const IN_A_LABEL: u8 = 0;
 
 pub const BLANK: u8 = 1;
 
-pub const NEWLINE: u8 = 2;
+pub const ENDS_A_LINE: u8 = 2;
 
 pub const OTHER: u8 = 3;
-
-// The most bytes that a label has, and the dash, which it does not begin with.
-const LONGEST: usize = 255;
-
-const DASH: u8 = 45;
 
 // The class of each of the 256 byte values.
 const CLASSES: [u8; 256] = [
@@ -31,7 +41,7 @@ const CLASSES: [u8; 256] = [
     OTHER, // 7
     OTHER, // 8
     BLANK, // 9, tab
-    NEWLINE, // 10, newline
+    ENDS_A_LINE, // 10, newline
     OTHER, // 11
     OTHER, // 12
     OTHER, // 13
@@ -54,100 +64,100 @@ const CLASSES: [u8; 256] = [
     OTHER, // 30
     OTHER, // 31
     BLANK, // 32, space
-    LABEL, // 33, !
+    IN_A_LABEL, // 33, !
     OTHER, // 34, "
-    LABEL, // 35, #
-    LABEL, // 36, $
-    LABEL, // 37, %
-    LABEL, // 38, &
+    IN_A_LABEL, // 35, #
+    IN_A_LABEL, // 36, $
+    IN_A_LABEL, // 37, %
+    IN_A_LABEL, // 38, &
     OTHER, // 39, '
-    LABEL, // 40, (
-    LABEL, // 41, )
-    LABEL, // 42, *
-    LABEL, // 43, +
-    LABEL, // 44, ,
-    LABEL, // 45, -
-    LABEL, // 46, .
+    IN_A_LABEL, // 40, (
+    IN_A_LABEL, // 41, )
+    IN_A_LABEL, // 42, *
+    IN_A_LABEL, // 43, +
+    IN_A_LABEL, // 44, ,
+    IN_A_LABEL, // 45, -
+    IN_A_LABEL, // 46, .
     OTHER, // 47, /
-    LABEL, // 48, 0
-    LABEL, // 49, 1
-    LABEL, // 50, 2
-    LABEL, // 51, 3
-    LABEL, // 52, 4
-    LABEL, // 53, 5
-    LABEL, // 54, 6
-    LABEL, // 55, 7
-    LABEL, // 56, 8
-    LABEL, // 57, 9
-    LABEL, // 58, :
-    LABEL, // 59, ;
-    LABEL, // 60, <
-    LABEL, // 61, =
-    LABEL, // 62, >
-    LABEL, // 63, ?
-    LABEL, // 64, @
-    LABEL, // 65, A
-    LABEL, // 66, B
-    LABEL, // 67, C
-    LABEL, // 68, D
-    LABEL, // 69, E
-    LABEL, // 70, F
-    LABEL, // 71, G
-    LABEL, // 72, H
-    LABEL, // 73, I
-    LABEL, // 74, J
-    LABEL, // 75, K
-    LABEL, // 76, L
-    LABEL, // 77, M
-    LABEL, // 78, N
-    LABEL, // 79, O
-    LABEL, // 80, P
-    LABEL, // 81, Q
-    LABEL, // 82, R
-    LABEL, // 83, S
-    LABEL, // 84, T
-    LABEL, // 85, U
-    LABEL, // 86, V
-    LABEL, // 87, W
-    LABEL, // 88, X
-    LABEL, // 89, Y
-    LABEL, // 90, Z
-    LABEL, // 91, [
+    IN_A_LABEL, // 48, 0
+    IN_A_LABEL, // 49, 1
+    IN_A_LABEL, // 50, 2
+    IN_A_LABEL, // 51, 3
+    IN_A_LABEL, // 52, 4
+    IN_A_LABEL, // 53, 5
+    IN_A_LABEL, // 54, 6
+    IN_A_LABEL, // 55, 7
+    IN_A_LABEL, // 56, 8
+    IN_A_LABEL, // 57, 9
+    IN_A_LABEL, // 58, :
+    IN_A_LABEL, // 59, ;
+    IN_A_LABEL, // 60, <
+    IN_A_LABEL, // 61, =
+    IN_A_LABEL, // 62, >
+    IN_A_LABEL, // 63, ?
+    IN_A_LABEL, // 64, @
+    IN_A_LABEL, // 65, A
+    IN_A_LABEL, // 66, B
+    IN_A_LABEL, // 67, C
+    IN_A_LABEL, // 68, D
+    IN_A_LABEL, // 69, E
+    IN_A_LABEL, // 70, F
+    IN_A_LABEL, // 71, G
+    IN_A_LABEL, // 72, H
+    IN_A_LABEL, // 73, I
+    IN_A_LABEL, // 74, J
+    IN_A_LABEL, // 75, K
+    IN_A_LABEL, // 76, L
+    IN_A_LABEL, // 77, M
+    IN_A_LABEL, // 78, N
+    IN_A_LABEL, // 79, O
+    IN_A_LABEL, // 80, P
+    IN_A_LABEL, // 81, Q
+    IN_A_LABEL, // 82, R
+    IN_A_LABEL, // 83, S
+    IN_A_LABEL, // 84, T
+    IN_A_LABEL, // 85, U
+    IN_A_LABEL, // 86, V
+    IN_A_LABEL, // 87, W
+    IN_A_LABEL, // 88, X
+    IN_A_LABEL, // 89, Y
+    IN_A_LABEL, // 90, Z
+    IN_A_LABEL, // 91, [
     OTHER, // 92, \
-    LABEL, // 93, ]
-    LABEL, // 94, ^
-    LABEL, // 95, _
-    LABEL, // 96, `
-    LABEL, // 97, a
-    LABEL, // 98, b
-    LABEL, // 99, c
-    LABEL, // 100, d
-    LABEL, // 101, e
-    LABEL, // 102, f
-    LABEL, // 103, g
-    LABEL, // 104, h
-    LABEL, // 105, i
-    LABEL, // 106, j
-    LABEL, // 107, k
-    LABEL, // 108, l
-    LABEL, // 109, m
-    LABEL, // 110, n
-    LABEL, // 111, o
-    LABEL, // 112, p
-    LABEL, // 113, q
-    LABEL, // 114, r
-    LABEL, // 115, s
-    LABEL, // 116, t
-    LABEL, // 117, u
-    LABEL, // 118, v
-    LABEL, // 119, w
-    LABEL, // 120, x
-    LABEL, // 121, y
-    LABEL, // 122, z
-    LABEL, // 123, {
-    LABEL, // 124, |
-    LABEL, // 125, }
-    LABEL, // 126, ~
+    IN_A_LABEL, // 93, ]
+    IN_A_LABEL, // 94, ^
+    IN_A_LABEL, // 95, _
+    IN_A_LABEL, // 96, `
+    IN_A_LABEL, // 97, a
+    IN_A_LABEL, // 98, b
+    IN_A_LABEL, // 99, c
+    IN_A_LABEL, // 100, d
+    IN_A_LABEL, // 101, e
+    IN_A_LABEL, // 102, f
+    IN_A_LABEL, // 103, g
+    IN_A_LABEL, // 104, h
+    IN_A_LABEL, // 105, i
+    IN_A_LABEL, // 106, j
+    IN_A_LABEL, // 107, k
+    IN_A_LABEL, // 108, l
+    IN_A_LABEL, // 109, m
+    IN_A_LABEL, // 110, n
+    IN_A_LABEL, // 111, o
+    IN_A_LABEL, // 112, p
+    IN_A_LABEL, // 113, q
+    IN_A_LABEL, // 114, r
+    IN_A_LABEL, // 115, s
+    IN_A_LABEL, // 116, t
+    IN_A_LABEL, // 117, u
+    IN_A_LABEL, // 118, v
+    IN_A_LABEL, // 119, w
+    IN_A_LABEL, // 120, x
+    IN_A_LABEL, // 121, y
+    IN_A_LABEL, // 122, z
+    IN_A_LABEL, // 123, {
+    IN_A_LABEL, // 124, |
+    IN_A_LABEL, // 125, }
+    IN_A_LABEL, // 126, ~
     OTHER, // 127, delete
     OTHER, // 128
     OTHER, // 129
@@ -315,10 +325,10 @@ pub fn label_fault(label: &[u8]) -> Found
     let classes = classes();
     let mut i = 0;
     while i < label.len() {
-        if i == LONGEST {
-            return Found::At(LONGEST);
+        if i == LABEL_LONGEST {
+            return Found::At(LABEL_LONGEST);
         }
-        if class(&classes, label[i]) != LABEL {
+        if class(&classes, label[i]) != IN_A_LABEL {
             return Found::At(i);
         }
         i += 1;

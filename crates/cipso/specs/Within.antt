@@ -7,7 +7,7 @@ use lib.ListN.{length, set}
 use Rattle.refusals.specs.Refusals.{noLabelPlace, noMappingPlace}
 use Rattle.search.specs.Search.{put, placeOf}
 use Rattle.search.specs.declared.Found.{Found}
-use Rattle.alphabet.specs.Alphabet.{part}
+use Rattle.alphabet.specs.Within.{part}
 use Rattle.store.specs.declared.Mapping.{Mapping}
 use Rattle.store.specs.Table.{Table, labelIn, labelLimit, mappingLimit, withLabels, withMappings}
 use Rattle.store.specs.Layout.{Store, tableOf, Sizes, mappedFrom, levelsFrom, setsFrom}

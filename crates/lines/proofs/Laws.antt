@@ -6,7 +6,8 @@ use Prim.Native.Nat.{ℕ, _<_}
 use lib.Dec.{ltb}
 use lib.ListN.{length}
 use Rattle.search.specs.Bytes.{sameBytes}
-use Rattle.alphabet.specs.Alphabet.{wellFormed, fields, fieldAt, part, lineLimit}
+use Rattle.alphabet.specs.Alphabet.{wellFormed, fields, lineLimit}
+use Rattle.alphabet.specs.Within.{fieldAt, part}
 use Rattle.alphabet.proofs.Laws.{FieldFrom, in-a-row}
 use Rattle.modes.specs.Modes.{readModes, ruleLetters, changeLetters}
 use Rattle.modes.specs.declared.Access.{Access}

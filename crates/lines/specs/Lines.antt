@@ -7,7 +7,8 @@ use mathlib.Core.List.{List, [], _∷_}
 use lib.ListN.{length}
 use lib.Dec.{ltb}
 use Rattle.search.specs.Bytes.{sameBytes}
-use Rattle.alphabet.specs.Alphabet.{wellFormed, lineLimit, fields, fieldAt, part}
+use Rattle.alphabet.specs.Alphabet.{wellFormed, lineLimit, fields}
+use Rattle.alphabet.specs.Within.{fieldAt, part}
 use Rattle.alphabet.specs.declared.Field.{Field}
 use Rattle.alphabet.specs.declared.Field.the-variants.{Part, End}
 use Rattle.modes.specs.Modes.{readModes, ruleLetters, changeLetters}

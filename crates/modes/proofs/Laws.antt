@@ -135,50 +135,50 @@ abbrev pub joined : ℕ → ℕ → ℕ
 joined m b = bitOr m (bitOf b)
 
 unfoldable pub readFrom : ℕ → Bool → ℕ → List ℕ → Access
-readFrom allowed dash m rest = cond (all (allowedByte allowed dash) rest) (Modes (foldl joined m rest)) Bad
+readFrom allowed dashes m rest = cond (all (allowedByte allowed dashes) rest) (Modes (foldl joined m rest)) Bad
 
-pub read-all : (allowed : ℕ) (dash : Bool) (field : List ℕ) → readModes allowed dash field ≡ readFrom allowed dash 0 field
+pub read-all : (allowed : ℕ) (dashes : Bool) (field : List ℕ) → readModes allowed dashes field ≡ readFrom allowed dashes 0 field
 unfolding readModes modesOf readFrom
-read-all allowed dash field = refl
+read-all allowed dashes field = refl
 
-pub read-none : (allowed : ℕ) (dash : Bool) (m : ℕ) → readFrom allowed dash m [] ≡ Modes m
+pub read-none : (allowed : ℕ) (dashes : Bool) (m : ℕ) → readFrom allowed dashes m [] ≡ Modes m
 unfolding readFrom all
-read-none allowed dash m = refl
+read-none allowed dashes m = refl
 
 -- one byte of it, whose bit is `bit`, by the tests in their order
-module _ (allowed : ℕ) (dash : Bool) (m : ℕ) (field : List ℕ) (i : ℕ) (h : i < length field) (bit : ℕ) (is : bit ≡ bitOf (getD field i 0)) where
-  read-stop : allowedByte allowed dash (getD field i 0) ≡ false → readFrom allowed dash m (drop i field) ≡ Bad
+module _ (allowed : ℕ) (dashes : Bool) (m : ℕ) (field : List ℕ) (i : ℕ) (h : i < length field) (bit : ℕ) (is : bit ≡ bitOf (getD field i 0)) where
+  read-stop : allowedByte allowed dashes (getD field i 0) ≡ false → readFrom allowed dashes m (drop i field) ≡ Bad
   unfolding readFrom all
   read-stop e = rw (drop-cons field i 0 h, e)
 
-  read-more : allowedByte allowed dash (getD field i 0) ≡ true → readFrom allowed dash m (drop i field) ≡ readFrom allowed dash (bitOr m bit) (drop (i + 1) field)
+  read-more : allowedByte allowed dashes (getD field i 0) ≡ true → readFrom allowed dashes m (drop i field) ≡ readFrom allowed dashes (bitOr m bit) (drop (i + 1) field)
   unfolding readFrom all
   read-more e = rw (add-one i, drop-cons field i 0 h, e, is)
 
-  pub read-letter : (bitAnd bit allowed ≡ 0 → ⊥) → readFrom allowed dash m (drop i field) ≡ readFrom allowed dash (bitOr m bit) (drop (i + 1) field)
+  pub read-letter : (bitAnd bit allowed ≡ 0 → ⊥) → readFrom allowed dashes m (drop i field) ≡ readFrom allowed dashes (bitOr m bit) (drop (i + 1) field)
   unfolding allowedByte
   read-letter n = read-more (rw (← is, ne-eqb (bitAnd bit allowed) 0 n))
 
-  pub read-dash : dash ≡ true → getD field i 0 ≡ 45 → readFrom allowed dash m (drop i field) ≡ readFrom allowed dash (bitOr m bit) (drop (i + 1) field)
+  pub read-dash : dashes ≡ true → getD field i 0 ≡ 45 → readFrom allowed dashes m (drop i field) ≡ readFrom allowed dashes (bitOr m bit) (drop (i + 1) field)
   unfolding allowedByte
   read-dash d e = read-more (rw (d, eq-eqb (getD field i 0) 45 e) (or-true (not (eqb (bitAnd (bitOf (getD field i 0)) allowed) 0))))
 
-  pub read-no-dash : bitAnd bit allowed ≡ 0 → dash ≡ false → readFrom allowed dash m (drop i field) ≡ Bad
+  pub read-no-dash : bitAnd bit allowed ≡ 0 → dashes ≡ false → readFrom allowed dashes m (drop i field) ≡ Bad
   unfolding allowedByte
   read-no-dash z d = read-stop (rw (← is, eq-eqb (bitAnd bit allowed) 0 z, d))
 
-  pub read-other : bitAnd bit allowed ≡ 0 → (getD field i 0 ≡ 45 → ⊥) → readFrom allowed dash m (drop i field) ≡ Bad
+  pub read-other : bitAnd bit allowed ≡ 0 → (getD field i 0 ≡ 45 → ⊥) → readFrom allowed dashes m (drop i field) ≡ Bad
   unfolding allowedByte
-  read-other z n = read-stop (rw (← is, eq-eqb (bitAnd bit allowed) 0 z, ne-eqb (getD field i 0) 45 n) (and-false dash))
+  read-other z n = read-stop (rw (← is, eq-eqb (bitAnd bit allowed) 0 z, ne-eqb (getD field i 0) 45 n) (and-false dashes))
 
 -- modes that were read are below 64
 modes-lt : (field : List ℕ) (m : ℕ) → m < 64 → foldl joined m field < 64
 modes-lt [] m h = h
 modes-lt (b ∷ bs) m h = modes-lt bs (joined m b) (or-lt 6 m (bitOf b) h (bit-lt b))
 
-pub modes-small : (allowed : ℕ) (dash : Bool) (field : List ℕ) (m : ℕ) → readModes allowed dash field ≡ Modes m → m < 64
+pub modes-small : (allowed : ℕ) (dashes : Bool) (field : List ℕ) (m : ℕ) → readModes allowed dashes field ≡ Modes m → m < 64
 unfolding readModes modesOf
-modes-small allowed dash field m e = by-test (all (allowedByte allowed dash) field) e
+modes-small allowed dashes field m e = by-test (all (allowedByte allowed dashes) field) e
   where
     by-test : (t : Bool) → cond t (Modes (foldl joined 0 field)) Bad ≡ Modes m → m < 64
     by-test true q =

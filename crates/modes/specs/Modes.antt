@@ -8,6 +8,7 @@ use mathlib.Core.Logic.{_↔_, _⊎_}
 use lib.Dec.{eqb}
 use lib.Bits.{bitAnd, bitOr}
 use Rattle.search.specs.Search.{all}
+use Rattle.alphabet.specs.Alphabet.{dash}
 use Rattle.modes.specs.declared.Letter.{Letter}
 use Rattle.modes.specs.declared.Access.{Access}
 use Rattle.modes.specs.declared.Access.the-variants.{Modes, Bad}
@@ -15,7 +16,7 @@ use Rattle.modes.specs.declared.Access.the-variants.{Modes, Bad}
 abbrev entry : ℕ → ℕ → Letter
 entry l b = record { letter = l; bit = b }
 
--- the letters and their bits, in the fixed order: read, write, execute, append, transmute, bring-up
+-- the letters and their bits, in the fixed order: read r (114), write w (119), execute x (120), append a (97), transmute t (116), bring-up b (98)
 abbrev pub letters : List Letter
 letters = entry 114 32 ∷ entry 119 16 ∷ entry 120 8 ∷ entry 97 4 ∷ entry 116 2 ∷ entry 98 1 ∷ []
 
@@ -27,16 +28,16 @@ bitAmong (l ∷ ls) b = cond (eqb b (l .letter) || eqb b (l .letter - 32)) (l .b
 unfoldable pub bitOf : ℕ → ℕ
 bitOf b = bitAmong letters b
 
--- whether a byte may stand in an access field: a letter of `allowed`, or a dash where `dash` says so
+-- whether a byte may stand in an access field: a letter of `allowed`, or a dash where `dashes` says so
 unfoldable pub allowedByte : ℕ → Bool → ℕ → Bool
-allowedByte allowed dash b = not (eqb (bitAnd (bitOf b) allowed) 0) || (dash && eqb b 45)
+allowedByte allowed dashes b = not (eqb (bitAnd (bitOf b) allowed) 0) || (dashes && eqb b dash)
 
 -- the letters of a field; a dash is a placeholder
 unfoldable pub modesOf : List ℕ → ℕ
 modesOf field = foldl (λ (m b : ℕ). bitOr m (bitOf b)) 0 field
 
 unfoldable pub readModes : ℕ → Bool → List ℕ → Access
-readModes allowed dash field = cond (all (allowedByte allowed dash) field) (Modes (modesOf field)) Bad
+readModes allowed dashes field = cond (all (allowedByte allowed dashes) field) (Modes (modesOf field)) Bad
 
 -- whether modes hold a bit
 abbrev pub has : ℕ → ℕ → Bool
@@ -48,7 +49,7 @@ lettersIn [] m = []
 lettersIn (l ∷ ls) m = cond (has m (l .bit)) (l .letter ∷ lettersIn ls m) (lettersIn ls m)
 
 unfoldable pub modesText : ℕ → List ℕ
-modesText m = cond (eqb m 0) (45 ∷ []) (lettersIn letters m)
+modesText m = cond (eqb m 0) (dash ∷ []) (lettersIn letters m)
 
 -- the letters that each place allows: a rule's all six, a change's all but b, a request's r w x a
 abbrev pub ruleLetters : ℕ

@@ -71,9 +71,9 @@ pub fn six_letters()
     ensures { λ _. ⌜ SixLetters ⌝ }
 {}
 
-// The modes of an access field, which may have the letters of `allowed` and, where `dash` says so, dashes.
-pub fn read_modes(field: &[u8], allowed: u8, dash: bool) -> Access
-    ensures { λ r. ⌜ r ≡ readModes allowed dash (now (field .entry)) ⌝ }
+// The modes of an access field, which may have the letters of `allowed` and, where `dashes` says so, dashes.
+pub fn read_modes(field: &[u8], allowed: u8, dashes: bool) -> Access
+    ensures { λ r. ⌜ r ≡ readModes allowed dashes (now (field .entry)) ⌝ }
 {
     let mut modes = 0;
     let mut i = 0;
@@ -81,10 +81,10 @@ pub fn read_modes(field: &[u8], allowed: u8, dash: bool) -> Access
         let b = field[i];
         let bit = bit_of(b);
         if bit & allowed == 0 {
-            if !dash {
+            if !dashes {
                 return Access::Bad;
             }
-            if b != b'-' {
+            if b != alphabet::DASH {
                 return Access::Bad;
             }
         }
@@ -102,7 +102,7 @@ pub fn write_modes(out: &mut [u8], at: usize, modes: u8) -> usize
     ensures { λ _. ⌜ now (out .exit) ≡ written (now (out .entry)) at (modesText modes) ⌝ }
 {
     if modes == 0 {
-        out[at] = b'-';
+        out[at] = alphabet::DASH;
         return 1;
     }
     let mut n = 0;

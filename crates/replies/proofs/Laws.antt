@@ -11,7 +11,8 @@ use lib.ListN.{length, take, drop, set, length-append, take-append-drop}
 use lib.Seq.{take-at, drop-append-add, drop-drop, set-split, length-take-le}
 use Rattle.search.specs.Bytes.{written, sameBytes}
 use Rattle.search.proofs.Laws.{length-written}
-use Rattle.alphabet.specs.Alphabet.{fields, fieldAt, part}
+use Rattle.alphabet.specs.Alphabet.{fields}
+use Rattle.alphabet.specs.Within.{fieldAt, part}
 use Rattle.alphabet.specs.declared.Field.the-variants.{Part, End}
 use Rattle.alphabet.proofs.Laws.{field-some, field-none}
 use Rattle.lines.proofs.Answers.{One, Two, Three, Four}

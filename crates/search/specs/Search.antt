@@ -22,6 +22,11 @@ unfoldable pub all : {A : Type 0} → (A → Bool) → List A → Bool
 all p [] = true
 all p (x ∷ xs) = p x && all p xs
 
+-- those entries that pass p, in order
+abbrev pub those : {A : Type 0} → (A → Bool) → List A → List A
+those p [] = []
+those p (x ∷ xs) = cond (p x) (x ∷ those p xs) (those p xs)
+
 -- the list with v in the place that a search found, or last where it found none
 unfoldable pub put : {A : Type 0} → Found → List A → A → List A
 put (At i) l v = set l i v

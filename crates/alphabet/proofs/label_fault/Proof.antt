@@ -6,7 +6,8 @@ use native.Mathlib.Omega.{arith}
 use borrow.Author.Needs.{needs}
 use borrow.Author.Count.{below-more}
 use lib.ListN.{length, getD}
-use Rattle.alphabet.specs.Alphabet.{labelByte, classTable}
+use Rattle.alphabet.specs.Alphabet.{labelByte}
+use Rattle.alphabet.specs.Within.{classTable}
 use Rattle.alphabet.proofs.Laws.{label-told, other-told, fault-empty, fault-dash, fault-at, fault-long, fault-none}
 use Rattle.alphabet.proofs.label_fault.Statement.{statement}
 use Rattle.alphabet.proofs.label_fault.Tie as tie

@@ -5,7 +5,7 @@ use native.Mathlib.Omega.{arith}
 use borrow.Author.Needs.{needs}
 use lib.Dec.{eqb}
 use lib.ListN.{length, drop, getD}
-use Rattle.alphabet.specs.Alphabet.{run}
+use Rattle.alphabet.specs.Within.{run}
 use Rattle.alphabet.proofs.Laws.{blank-told, bools-differ, bools-agree, run-stop, run-more, run-past}
 use Rattle.alphabet.proofs.skip.Statement.{statement}
 use Rattle.alphabet.proofs.skip.Tie as tie

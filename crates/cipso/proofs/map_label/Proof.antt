@@ -4,7 +4,7 @@ use mathlib.Core.Path.{_≡_, sym, _∙_, ap, subst}
 use mathlib.Core.Bool.{true}
 use native.Mathlib.Omega.{arith}
 use borrow.Author.Tests.{not-true, not-false}
-use Rattle.alphabet.specs.Alphabet.{part}
+use Rattle.alphabet.specs.Within.{part}
 use Rattle.store.specs.Layout.{Store, store, undamagedOf}
 use Rattle.store.proofs.Laws.{Undamaged, undamaged-is}
 use Rattle.cipso.specs.Cipso.{mapping, mappingOf}

@@ -4,7 +4,8 @@ use mathlib.Core.Path.{_≡_, sym, ap, _∙_}
 use native.Mathlib.Omega.{arith}
 use borrow.Author.Needs.{needs}
 use lib.ListN.{length, drop}
-use Rattle.alphabet.specs.Alphabet.{fields, part}
+use Rattle.alphabet.specs.Alphabet.{fields}
+use Rattle.alphabet.specs.Within.{part}
 use Rattle.alphabet.proofs.Laws.{FieldFrom, field-some, field-none}
 use Rattle.numbers.specs.Numbers.{numberOf}
 use Rattle.numbers.specs.declared.Number.the-variants.{Value}

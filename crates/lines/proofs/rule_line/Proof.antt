@@ -3,7 +3,8 @@ use mathlib.Core.Path.{_≡_, sym, _∙_}
 use native.Mathlib.Omega.{arith}
 use borrow.Author.Needs.{needs}
 use Rattle.search.specs.declared.Found.the-variants.{Nothing}
-use Rattle.alphabet.specs.Alphabet.{faultOf, fieldAt, part}
+use Rattle.alphabet.specs.Alphabet.{faultOf}
+use Rattle.alphabet.specs.Within.{fieldAt, part}
 use Rattle.alphabet.specs.declared.Field.the-variants.{End}
 use Rattle.lines.proofs.Laws.{rule-meets}
 use Rattle.lines.proofs.Answers.{One, Two, Three, in-one, in-two, in-three, rule-long, rule-none, rule-one, rule-two, rule-four, rule-subject, rule-object, rule-bad, rule-judged}

@@ -11,10 +11,10 @@ use Rattle.modes.proofs.read_modes.Statement.{statement}
 use Rattle.modes.proofs.read_modes.Tie as tie
 
 abbrev Inv-loop : tie.InvT-loop
-Inv-loop field allowed dash modes₀ i₀ modes i = (i ≤ length field) × (readModes allowed dash field ≡ readFrom allowed dash modes (drop i field))
+Inv-loop field allowed dashes modes₀ i₀ modes i = (i ≤ length field) × (readModes allowed dashes field ≡ readFrom allowed dashes modes (drop i field))
 
 abbrev μ-loop : tie.MeasureT-loop
-μ-loop field allowed dash modes₀ i₀ modes i = length field - i
+μ-loop field allowed dashes modes₀ i₀ modes i = length field - i
 
 loop-holds : tie.Need-loop-holds Inv-loop μ-loop
 loop-holds c = (omega arith, read-all _ _ _)
@@ -30,14 +30,14 @@ returns c =
     let b = c .before .before in
     let l = b .before .before .before in
     let a = l .before .before .args in
-    sym (l .loop .inv .1 ∙ read-no-dash (a .allowed) (a .dash) (l .loop .modes) (a .field .now) (l .loop .i) (omega arith) (b .bit-of .result) (b .bit-of .ensures) (c .before .if1 .taken) (not-true (a .dash) (c .if2 .taken)))
+    sym (l .loop .inv .1 ∙ read-no-dash (a .allowed) (a .dashes) (l .loop .modes) (a .field .now) (l .loop .i) (omega arith) (b .bit-of .result) (b .bit-of .ensures) (c .before .if1 .taken) (not-true (a .dashes) (c .if2 .taken)))
 
 returns-2 : tie.Need-returns-2 Inv-loop μ-loop
 returns-2 c =
     let b = c .before .before .before in
     let l = b .before .before .before in
     let a = l .before .before .args in
-    sym (l .loop .inv .1 ∙ read-other (a .allowed) (a .dash) (l .loop .modes) (a .field .now) (l .loop .i) (omega arith) (b .bit-of .result) (b .bit-of .ensures) (c .before .before .if1 .taken) (c .if3 .taken))
+    sym (l .loop .inv .1 ∙ read-other (a .allowed) (a .dashes) (l .loop .modes) (a .field .now) (l .loop .i) (omega arith) (b .bit-of .result) (b .bit-of .ensures) (c .before .before .if1 .taken) (c .if3 .taken))
 
 add-i : tie.Need-add-i Inv-loop μ-loop
 add-i c = omega arith
@@ -53,8 +53,8 @@ loop-again c =
       omega arith,
       l .loop .inv .1
           ∙ ⊎-elim
-          (λ w. read-dash (a .allowed) (a .dash) (l .loop .modes) (a .field .now) (l .loop .i) (omega arith) (b .bit-of .result) (b .bit-of .ensures) (not-false (a .dash) (w .1 .left)) (w .2 .left))
-          (λ w. read-letter (a .allowed) (a .dash) (l .loop .modes) (a .field .now) (l .loop .i) (omega arith) (b .bit-of .result) (b .bit-of .ensures) (w .left))
+          (λ w. read-dash (a .allowed) (a .dashes) (l .loop .modes) (a .field .now) (l .loop .i) (omega arith) (b .bit-of .result) (b .bit-of .ensures) (not-false (a .dashes) (w .1 .left)) (w .2 .left))
+          (λ w. read-letter (a .allowed) (a .dashes) (l .loop .modes) (a .field .now) (l .loop .i) (omega arith) (b .bit-of .result) (b .bit-of .ensures) (w .left))
           (c .if1 .came),
     )
 
@@ -62,7 +62,7 @@ returns-3 : tie.Need-returns-3 Inv-loop μ-loop
 returns-3 c =
     let l = c .before in
     let a = l .before .before .args in
-    sym (l .loop .inv .1 ∙ rw (drop-of-length-le (a .field .now) {i = l .loop .i} (omega arith)) (read-none (a .allowed) (a .dash) (l .loop .modes)))
+    sym (l .loop .inv .1 ∙ rw (drop-of-length-le (a .field .now) {i = l .loop .i} (omega arith)) (read-none (a .allowed) (a .dashes) (l .loop .modes)))
 
 pub read-modes-spec : {M : Type 1} → statement M
 read-modes-spec =

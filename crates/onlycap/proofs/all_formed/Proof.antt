@@ -5,7 +5,8 @@ use borrow.Author.Needs.{needs}
 use native.Mathlib.Omega.{arith}
 use lib.ListN.{length, drop}
 use Rattle.search.specs.Search.{all}
-use Rattle.alphabet.specs.Alphabet.{fieldAt, fields, wellFormed, part}
+use Rattle.alphabet.specs.Alphabet.{fields, wellFormed}
+use Rattle.alphabet.specs.Within.{fieldAt, part}
 use Rattle.alphabet.specs.declared.Field.the-variants.{Part}
 use Rattle.alphabet.proofs.Laws.{field-some, fault-formed, fault-unformed}
 use Rattle.onlycap.proofs.Laws.{formed-end, formed-turn}

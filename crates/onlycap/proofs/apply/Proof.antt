@@ -9,7 +9,8 @@ use mathlib.Core.Logic.{⊎-elim}
 use borrow.Author.Tests.{not-true, not-false}
 use lib.ListN.{length, take, set, length-set}
 use Rattle.search.specs.Search.{entries, placeOf, countOf}
-use Rattle.alphabet.specs.Alphabet.{fields, part}
+use Rattle.alphabet.specs.Alphabet.{fields}
+use Rattle.alphabet.specs.Within.{part}
 use Rattle.alphabet.proofs.Laws.{field-some}
 use Rattle.store.specs.Layout.{Store, store}
 use Rattle.onlycap.specs.Within.{appearsIn, foundIn, takenUpTo, Taken}

@@ -8,7 +8,8 @@ use lib.ListN.{length}
 use Rattle.search.specs.Search.{first, entries}
 use Rattle.search.specs.Bytes.{sameBytes}
 use Rattle.search.proofs.Laws.{entries-length}
-use Rattle.alphabet.specs.Alphabet.{fields, part}
+use Rattle.alphabet.specs.Alphabet.{fields}
+use Rattle.alphabet.specs.Within.{part}
 use Rattle.alphabet.proofs.Laws.{field-some}
 use Rattle.store.specs.Layout.{labelAt}
 use Rattle.onlycap.specs.declared.Counted.{Counted}

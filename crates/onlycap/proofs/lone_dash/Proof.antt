@@ -2,7 +2,7 @@
 use mathlib.Core.Path.{_≡_, sym, _∙_}
 use borrow.Author.Needs.{needs}
 use native.Mathlib.Omega.{arith}
-use Rattle.alphabet.specs.Alphabet.{fieldAt}
+use Rattle.alphabet.specs.Within.{fieldAt}
 use Rattle.alphabet.specs.declared.Field.the-variants.{Part}
 use Rattle.alphabet.proofs.Laws.{field-some}
 use Rattle.onlycap.proofs.Laws.{dash-none, dash-more, dash-one}

@@ -1,0 +1,43 @@
+-- What only contracts inside the library and proofs speak of: the table of the byte classes, and where in a line its fields stand. Nobody has to
+-- believe it: what it says of lines is held to `fields` by the laws. Assumes nothing.
+use Prim.Native.Nat.{ℕ, zero, suc, _+_, _-_}
+use mathlib.Core.Bool.{Bool, true, false, cond}
+use mathlib.Core.List.{List, [], _∷_}
+use lib.ListN.{length, take, drop}
+use lib.Dec.{ltb}
+use Rattle.search.specs.Search.{entries}
+use Rattle.alphabet.specs.Alphabet.{isBlank, classOf}
+use Rattle.alphabet.specs.declared.Field.{Field}
+use Rattle.alphabet.specs.declared.Field.the-variants.{Part, End}
+
+-- the classes of the 256 byte values, in order
+unfoldable pub classTable : List ℕ
+unfolding classOf
+classTable = entries classOf 256
+
+-- how many bytes at the front of a line are blanks (true), or are not (false)
+unfoldable pub run : Bool → List ℕ → ℕ
+unfolding isBlank
+run blanks [] = zero
+run true (b ∷ bs) = cond (isBlank b) (suc (run true bs)) zero
+run false (b ∷ bs) = cond (isBlank b) zero (suc (run false bs))
+
+-- the next field of a line from an index on: where it starts, past the blanks, and where it ends, before the next blank or with the line
+unfoldable pub startOf : List ℕ → ℕ → ℕ
+unfolding run
+startOf line from = from + run true (drop from line)
+
+unfoldable pub endOf : List ℕ → ℕ → ℕ
+unfolding run
+endOf line start = start + run false (drop start line)
+
+unfoldable pub fieldAt : List ℕ → ℕ → Field
+unfolding startOf endOf
+fieldAt line from =
+    cond (ltb (startOf line from) (length line))
+    (Part (startOf line from) (endOf line (startOf line from)))
+    End
+
+-- the bytes of a line from start to end
+abbrev pub part : List ℕ → ℕ → ℕ → List ℕ
+part line start end = take (end - start) (drop start line)
