@@ -4,7 +4,7 @@ use mathlib.Core.Bool.{Bool, true, false, cond, _&&_}
 use mathlib.Core.List.{List, [], _∷_}
 use Prim.Native.Nat.{ℕ, _<_}
 use lib.Dec.{ltb}
-use lib.ListN.{length}
+use lib.ListN.{length, drop}
 use Rattle.search.specs.Bytes.{sameBytes}
 use Rattle.alphabet.specs.Alphabet.{wellFormed, fields, lineLimit}
 use Rattle.alphabet.specs.Within.{fieldAt, part}
@@ -13,7 +13,9 @@ use Rattle.modes.specs.Modes.{readModes, ruleLetters, changeLetters}
 use Rattle.modes.specs.declared.Access.{Access}
 use Rattle.modes.specs.declared.Access.the-variants.{Modes, Bad}
 use Rattle.modes.proofs.Laws.{modes-small}
-use Rattle.lines.specs.Lines.{Said, skipped, refused, rule, change, ruleWith, ruleBy, ruleFields, ruleOf, changeWith, changeBy, changeFields, changeOf, span, pair, ruleSaid, changeSaid, SpanInside, RuleInside, ChangeInside, ruleAtAccess, ruleAtLabels, ruleAtFourth, ruleAtThird, ruleAtSecond, ruleAtFirst, ruleLineAt, changeAtAccess, changeAtLabels, changeAtFifth, changeAtFourth, changeAtThird, changeAtSecond, changeAtFirst, changeLineAt}
+use Rattle.lines.specs.Lines.{Said, skipped, refused, rule, change, ruleWith, ruleBy, ruleFields, ruleOf, changeWith, changeBy, changeFields, changeOf}
+use Rattle.lines.specs.Within.{at, span, pair, ruleSaid, changeSaid, SpanInside, RuleInside, ChangeInside, labelsAt, apartAt, Kind, firstAt, secondAt, lineAt, ruleAtAccess, ruleAtFourth, ruleAtThird, ruleKind, ruleLineAt, changeAtAccess, changeAtFifth, changeAtFourth, changeAtThird, changeKind, changeLineAt}
+use Rattle.lines.specs.declared.Pair.{Pair}
 use Rattle.lines.specs.declared.RuleLine.{RuleLine}
 use Rattle.lines.specs.declared.RuleLine.the-variants as ruled
 use Rattle.lines.specs.declared.ChangeLine.{ChangeLine}
@@ -106,6 +108,41 @@ pub change-sound : (line : List ℕ) → Sound (changeOf line)
 unfolding changeOf
 change-sound line = limit-or (length line) (changeFields (fields line)) (change-fields-sound (fields line))
 
+-- ---- what both kinds of line share: an answer x is right of what is to be said, and a refusal is right where its number is said
+
+module _ {A : Type 0} (refuse : ℕ → A) (Right : A → Said → Type 0) (refuses : (n : ℕ) → Right (refuse n) (refused n)) (line : List ℕ) (p : Pair) (x : A) (y : Said) (right : Right x y) where
+  labels-right : Right (labelsAt refuse line p x) (cond (wellFormed (at line (p .subject)) && wellFormed (at line (p .object))) y (refused 3))
+  labels-right = by-test (wellFormed (at line (p .subject)) && wellFormed (at line (p .object)))
+    where
+      by-test : (t : Bool) → Right (cond t x (refuse 3)) (cond t y (refused 3))
+      by-test true = right
+      by-test false = refuses 3
+
+  apart-right : Right (apartAt refuse line p x) (cond (sameBytes (at line (p .subject)) (at line (p .object))) (refused 5) y)
+  apart-right = by-test (sameBytes (at line (p .subject)) (at line (p .object)))
+    where
+      by-test : (t : Bool) → Right (cond t (refuse 5) x) (cond t (refused 5) y)
+      by-test true = refuses 5
+      by-test false = right
+
+-- a line is right where it is so without a field, with one, and with two labels and what follows them
+line-right :
+    {A : Type 0} (k : Kind A) (Right : A → Said → Type 0) →
+    ((n : ℕ) → Right (k .refuse n) (refused n)) →
+    (line : List ℕ) (said : List (List ℕ) → Said) →
+    Right (k .none) (said []) →
+    ((s : List ℕ) → Right (k .refuse 2) (said (s ∷ []))) →
+    ((a b c d : ℕ) → SpanInside line (span a b) → SpanInside line (span c d) → Right (k .more line (pair a b c d) d) (said (part line a b ∷ part line c d ∷ fields (drop d line)))) →
+    Right (lineAt k line) (cond (ltb lineLimit (length line)) (refused 1) (said (fields line)))
+line-right k Right refuses line said none one more = by-test (ltb lineLimit (length line))
+  where
+    by-test : (t : Bool) → Right (cond t (k .refuse 1) (firstAt k line (fieldAt line 0))) (cond t (refused 1) (said (fields line)))
+    by-test true = refuses 1
+    by-test false =
+        in-a-row Right line 0 (firstAt k line) said none
+        (λ a b s. in-a-row Right line b (secondAt k line a b) (λ l. said (part line a b ∷ l)) (one (part line a b))
+        (λ c d o. more a b c d (inside s) (inside o)))
+
 -- ---- a rule line
 
 -- an answer is right: it says what is to be said, and what it names is inside
@@ -113,50 +150,39 @@ abbrev pub RightRule : List ℕ → RuleLine → Said → Type 0
 RightRule line x said = (ruleSaid line x ≡ said) × RuleInside line x
 
 module _ (line : List ℕ) where
-  rule-labels :
-      (a b c d e f : ℕ) →
+  rule-refuses : (n : ℕ) → RightRule line (ruled.Refused n) (refused n)
+  rule-refuses n = (refl, tt)
+
+  rule-two-labels :
+      (a b c d : ℕ) →
       SpanInside line (span a b) →
       SpanInside line (span c d) →
-      RightRule line (ruleAtLabels line (pair a b c d) (span e f)) (ruleBy (part line a b) (part line c d) (part line e f))
+      RightRule line (ruleAtThird line (pair a b c d) (fieldAt line d)) (ruleFields (part line a b ∷ part line c d ∷ fields (drop d line)))
   unfolding ruleBy
-  rule-labels a b c d e f s o =
-      by-case (wellFormed (part line a b) && wellFormed (part line c d)) (readModes ruleLetters true (part line e f)) (modes-small ruleLetters true (part line e f))
+  rule-two-labels a b c d s o =
+      in-a-row (RightRule line) line d (ruleAtThird line p) (λ l. ruleFields (part line a b ∷ part line c d ∷ l)) (rule-refuses 2)
+      (λ e f x. in-a-row (RightRule line) line f (ruleAtFourth line p (span e f)) (λ l. ruleFields (part line a b ∷ part line c d ∷ part line e f ∷ l))
+      (labels-right ruled.Refused (RightRule line) rule-refuses line p _ _ (by-access (readModes ruleLetters true (part line e f)) (modes-small ruleLetters true (part line e f))))
+      (λ g h y. rule-refuses 2))
     where
-      by-same : (t : Bool) (m : ℕ) → m < 64 → RightRule line (cond t (ruled.Refused 5) (ruled.Rule (pair a b c d) m)) (cond t (refused 5) (rule (part line a b) (part line c d) m))
-      by-same true m h = (refl, tt)
-      by-same false m h = (refl, (s, o, h))
+      p : Pair
+      p = pair a b c d
 
-      by-case :
-          (t : Bool) (x : Access) →
-          ((m : ℕ) → x ≡ Modes m → m < 64) →
-          RightRule line (cond t (ruleAtAccess line (pair a b c d) x) (ruled.Refused 3)) (cond t (ruleWith (part line a b) (part line c d) x) (refused 3))
-      by-case true (Modes m) h = by-same (sameBytes (part line a b) (part line c d)) m (h m refl)
-      by-case true Bad h = (refl, tt)
-      by-case false x h = (refl, tt)
-
-  rule-first : RightRule line (ruleAtFirst line (fieldAt line 0)) (ruleFields (fields line))
-  rule-first =
-      in-a-row (RightRule line) line 0 (ruleAtFirst line) ruleFields (refl, tt)
-      (λ a b s. in-a-row (RightRule line) line b (ruleAtSecond line a b) (λ l. ruleFields (part line a b ∷ l)) (refl, tt)
-      (λ c d o. in-a-row (RightRule line) line d (ruleAtThird line (pair a b c d)) (λ l. ruleFields (part line a b ∷ part line c d ∷ l)) (refl, tt)
-      (λ e f x. in-a-row (RightRule line) line f (ruleAtFourth line (pair a b c d) (span e f)) (λ l. ruleFields (part line a b ∷ part line c d ∷ part line e f ∷ l))
-      (rule-labels a b c d e f (inside s) (inside o))
-      (λ g h y. (refl, tt)))))
+      by-access : (x : Access) → ((m : ℕ) → x ≡ Modes m → m < 64) → RightRule line (ruleAtAccess line p x) (ruleWith (part line a b) (part line c d) x)
+      by-access (Modes m) h = apart-right ruled.Refused (RightRule line) rule-refuses line p (ruled.Rule p m) (rule (part line a b) (part line c d) m) (refl, (s, o, h m refl))
+      by-access Bad h = rule-refuses 4
 
   pub rule-right : RightRule line (ruleLineAt line) (ruleOf line)
   unfolding ruleLineAt ruleOf
-  rule-right = by-test (ltb lineLimit (length line))
-    where
-      by-test : (t : Bool) → RightRule line (cond t (ruled.Refused 1) (ruleAtFirst line (fieldAt line 0))) (cond t (refused 1) (ruleFields (fields line)))
-      by-test true = (refl, tt)
-      by-test false = rule-first
+  rule-right = line-right ruleKind (RightRule line) rule-refuses line ruleFields (refl, tt) (λ s. rule-refuses 2) rule-two-labels
 
   -- an answer that names labels names such as are taken
   pub rule-told : (x : RuleLine) → x ≡ ruleLineAt line → Sound (ruleSaid line x)
   rule-told x e = rw (e, rule-right .0) (rule-sound line)
 
   -- the answer meets its contract
-  pub rule-meets : (x : RuleLine) → ruleLineAt line ≡ x → (x ≡ ruleLineAt line) × RightRule line x (ruleOf line)
+  pub rule-meets : (x : RuleLine) → lineAt ruleKind line ≡ x → (x ≡ ruleLineAt line) × RightRule line x (ruleOf line)
+  unfolding ruleLineAt
   rule-meets x e = rw (← e) (refl, rule-right)
 
 -- ---- a change-rule write
@@ -165,53 +191,47 @@ abbrev pub RightChange : List ℕ → ChangeLine → Said → Type 0
 RightChange line x said = (changeSaid line x ≡ said) × ChangeInside line x
 
 module _ (line : List ℕ) where
-  change-labels :
-      (a b c d e f g h : ℕ) →
+  change-refuses : (n : ℕ) → RightChange line (changed.Refused n) (refused n)
+  change-refuses n = (refl, tt)
+
+  change-two-labels :
+      (a b c d : ℕ) →
       SpanInside line (span a b) →
       SpanInside line (span c d) →
-      RightChange line (changeAtLabels line (pair a b c d) (span e f) (span g h)) (changeBy (part line a b) (part line c d) (part line e f) (part line g h))
+      RightChange line (changeAtThird line (pair a b c d) (fieldAt line d)) (changeFields (part line a b ∷ part line c d ∷ fields (drop d line)))
   unfolding changeBy
-  change-labels a b c d e f g h s o =
-      by-case (wellFormed (part line a b) && wellFormed (part line c d))
-      (readModes changeLetters true (part line e f)) (modes-small changeLetters true (part line e f))
-      (readModes changeLetters true (part line g h)) (modes-small changeLetters true (part line g h))
+  change-two-labels a b c d s o =
+      in-a-row (RightChange line) line d (changeAtThird line p) (λ l. changeFields (part line a b ∷ part line c d ∷ l)) (change-refuses 2)
+      (λ e f x. in-a-row (RightChange line) line f (changeAtFourth line p (span e f)) (λ l. changeFields (part line a b ∷ part line c d ∷ part line e f ∷ l)) (change-refuses 2)
+      (λ g h y. in-a-row (RightChange line) line h (changeAtFifth line p (span e f) (span g h)) (λ l. changeFields (part line a b ∷ part line c d ∷ part line e f ∷ part line g h ∷ l))
+      (labels-right changed.Refused (RightChange line) change-refuses line p _ _
+      (by-access (readModes changeLetters true (part line e f)) (modes-small changeLetters true (part line e f))
+      (readModes changeLetters true (part line g h)) (modes-small changeLetters true (part line g h))))
+      (λ i j z. change-refuses 2)))
     where
-      by-same : (t : Bool) (m n : ℕ) → m < 64 → n < 64 → RightChange line (cond t (changed.Refused 5) (changed.Change (pair a b c d) m n)) (cond t (refused 5) (change (part line a b) (part line c d) m n))
-      by-same true m n i j = (refl, tt)
-      by-same false m n i j = (refl, (s, o, i, j))
+      p : Pair
+      p = pair a b c d
 
-      by-case :
-          (t : Bool) (x : Access) →
+      by-access :
+          (x : Access) →
           ((m : ℕ) → x ≡ Modes m → m < 64) →
           (y : Access) →
           ((n : ℕ) → y ≡ Modes n → n < 64) →
-          RightChange line (cond t (changeAtAccess line (pair a b c d) x y) (changed.Refused 3)) (cond t (changeWith (part line a b) (part line c d) x y) (refused 3))
-      by-case true (Modes m) i (Modes n) j = by-same (sameBytes (part line a b) (part line c d)) m n (i m refl) (j n refl)
-      by-case true (Modes m) i Bad j = (refl, tt)
-      by-case true Bad i y j = (refl, tt)
-      by-case false x i y j = (refl, tt)
-
-  change-first : RightChange line (changeAtFirst line (fieldAt line 0)) (changeFields (fields line))
-  change-first =
-      in-a-row (RightChange line) line 0 (changeAtFirst line) changeFields (refl, tt)
-      (λ a b s. in-a-row (RightChange line) line b (changeAtSecond line a b) (λ l. changeFields (part line a b ∷ l)) (refl, tt)
-      (λ c d o. in-a-row (RightChange line) line d (changeAtThird line (pair a b c d)) (λ l. changeFields (part line a b ∷ part line c d ∷ l)) (refl, tt)
-      (λ e f x. in-a-row (RightChange line) line f (changeAtFourth line (pair a b c d) (span e f)) (λ l. changeFields (part line a b ∷ part line c d ∷ part line e f ∷ l)) (refl, tt)
-      (λ g h y. in-a-row (RightChange line) line h (changeAtFifth line (pair a b c d) (span e f) (span g h)) (λ l. changeFields (part line a b ∷ part line c d ∷ part line e f ∷ part line g h ∷ l))
-      (change-labels a b c d e f g h (inside s) (inside o))
-      (λ i j z. (refl, tt))))))
+          RightChange line (changeAtAccess line p x y) (changeWith (part line a b) (part line c d) x y)
+      by-access (Modes m) i (Modes n) j =
+          apart-right changed.Refused (RightChange line) change-refuses line p (changed.Change p m n) (change (part line a b) (part line c d) m n)
+          (refl, (s, o, i m refl, j n refl))
+      by-access (Modes m) i Bad j = change-refuses 4
+      by-access Bad i y j = change-refuses 4
 
   pub change-right : RightChange line (changeLineAt line) (changeOf line)
   unfolding changeLineAt changeOf
-  change-right = by-test (ltb lineLimit (length line))
-    where
-      by-test : (t : Bool) → RightChange line (cond t (changed.Refused 1) (changeAtFirst line (fieldAt line 0))) (cond t (refused 1) (changeFields (fields line)))
-      by-test true = (refl, tt)
-      by-test false = change-first
+  change-right = line-right changeKind (RightChange line) change-refuses line changeFields (refl, tt) (λ s. change-refuses 2) change-two-labels
 
   pub change-told : (x : ChangeLine) → x ≡ changeLineAt line → Sound (changeSaid line x)
   change-told x e = rw (e, change-right .0) (change-sound line)
 
   -- the answer meets its contract
-  pub change-meets : (x : ChangeLine) → changeLineAt line ≡ x → (x ≡ changeLineAt line) × RightChange line x (changeOf line)
+  pub change-meets : (x : ChangeLine) → lineAt changeKind line ≡ x → (x ≡ changeLineAt line) × RightChange line x (changeOf line)
+  unfolding changeLineAt
   change-meets x e = rw (← e) (refl, change-right)

@@ -4,15 +4,8 @@ use alphabet::Field;
 use modes::Access;
 use search::Found;
 ghost use mathlib.Core.Path.{_≡_};
-ghost use Rattle.lines.specs.Lines.{ruleLineAt, ruleSaid, ruleOf, RuleInside, changeLineAt, changeSaid, changeOf, ChangeInside};
-
-// The most bytes of a line and of a single write.
-const LIMIT: usize = 600;
-
-// The letters that an access field may have: a rule's all six, a change's all but b.
-const RULE_LETTERS: u8 = 63;
-
-const CHANGE_LETTERS: u8 = 62;
+ghost use Rattle.lines.specs.Lines.{ruleOf, changeOf};
+ghost use Rattle.lines.specs.Within.{ruleLineAt, ruleSaid, RuleInside, changeLineAt, changeSaid, ChangeInside};
 
 // Where a field stands: line[start..end].
 pub struct Span {
@@ -45,32 +38,32 @@ pub fn rule_line(line: &[u8]) -> RuleLine
     ensures { λ r. ⌜ ruleSaid (now (line .entry)) r ≡ ruleOf (now (line .entry)) ⌝ }
     ensures { λ r. ⌜ RuleInside (now (line .entry)) r ⌝ }
 {
-    if LIMIT < line.len() {
-        return RuleLine::Refused(1);
+    if alphabet::LINE_LIMIT < line.len() {
+        return RuleLine::Refused(refusals::TOO_LONG);
     }
     let Field::Part { start: a, end: b } = alphabet::next_field(line, 0) else {
         return RuleLine::Skipped;
     };
     let Field::Part { start: c, end: d } = alphabet::next_field(line, b) else {
-        return RuleLine::Refused(2);
+        return RuleLine::Refused(refusals::WRONG_FIELDS);
     };
     let Field::Part { start: x, end: y } = alphabet::next_field(line, d) else {
-        return RuleLine::Refused(2);
+        return RuleLine::Refused(refusals::WRONG_FIELDS);
     };
     let Field::End = alphabet::next_field(line, y) else {
-        return RuleLine::Refused(2);
+        return RuleLine::Refused(refusals::WRONG_FIELDS);
     };
     let Found::Nothing = alphabet::label_fault(&line[a..b]) else {
-        return RuleLine::Refused(3);
+        return RuleLine::Refused(refusals::BAD_LABEL);
     };
     let Found::Nothing = alphabet::label_fault(&line[c..d]) else {
-        return RuleLine::Refused(3);
+        return RuleLine::Refused(refusals::BAD_LABEL);
     };
-    let Access::Modes(m) = modes::read_modes(&line[x..y], RULE_LETTERS, true) else {
-        return RuleLine::Refused(4);
+    let Access::Modes(m) = modes::read_modes(&line[x..y], modes::RULE_LETTERS, true) else {
+        return RuleLine::Refused(refusals::BAD_ACCESS);
     };
     if search::same_bytes(&line[a..b], &line[c..d]) {
-        return RuleLine::Refused(5);
+        return RuleLine::Refused(refusals::SAME_LABELS);
     }
     RuleLine::Rule(
         Pair {
@@ -87,38 +80,38 @@ pub fn change_line(line: &[u8]) -> ChangeLine
     ensures { λ r. ⌜ changeSaid (now (line .entry)) r ≡ changeOf (now (line .entry)) ⌝ }
     ensures { λ r. ⌜ ChangeInside (now (line .entry)) r ⌝ }
 {
-    if LIMIT < line.len() {
-        return ChangeLine::Refused(1);
+    if alphabet::LINE_LIMIT < line.len() {
+        return ChangeLine::Refused(refusals::TOO_LONG);
     }
     let Field::Part { start: a, end: b } = alphabet::next_field(line, 0) else {
-        return ChangeLine::Refused(2);
+        return ChangeLine::Refused(refusals::WRONG_FIELDS);
     };
     let Field::Part { start: c, end: d } = alphabet::next_field(line, b) else {
-        return ChangeLine::Refused(2);
+        return ChangeLine::Refused(refusals::WRONG_FIELDS);
     };
     let Field::Part { start: e, end: f } = alphabet::next_field(line, d) else {
-        return ChangeLine::Refused(2);
+        return ChangeLine::Refused(refusals::WRONG_FIELDS);
     };
     let Field::Part { start: g, end: h } = alphabet::next_field(line, f) else {
-        return ChangeLine::Refused(2);
+        return ChangeLine::Refused(refusals::WRONG_FIELDS);
     };
     let Field::End = alphabet::next_field(line, h) else {
-        return ChangeLine::Refused(2);
+        return ChangeLine::Refused(refusals::WRONG_FIELDS);
     };
     let Found::Nothing = alphabet::label_fault(&line[a..b]) else {
-        return ChangeLine::Refused(3);
+        return ChangeLine::Refused(refusals::BAD_LABEL);
     };
     let Found::Nothing = alphabet::label_fault(&line[c..d]) else {
-        return ChangeLine::Refused(3);
+        return ChangeLine::Refused(refusals::BAD_LABEL);
     };
-    let Access::Modes(allow) = modes::read_modes(&line[e..f], CHANGE_LETTERS, true) else {
-        return ChangeLine::Refused(4);
+    let Access::Modes(allow) = modes::read_modes(&line[e..f], modes::CHANGE_LETTERS, true) else {
+        return ChangeLine::Refused(refusals::BAD_ACCESS);
     };
-    let Access::Modes(deny) = modes::read_modes(&line[g..h], CHANGE_LETTERS, true) else {
-        return ChangeLine::Refused(4);
+    let Access::Modes(deny) = modes::read_modes(&line[g..h], modes::CHANGE_LETTERS, true) else {
+        return ChangeLine::Refused(refusals::BAD_ACCESS);
     };
     if search::same_bytes(&line[a..b], &line[c..d]) {
-        return ChangeLine::Refused(5);
+        return ChangeLine::Refused(refusals::SAME_LABELS);
     }
     ChangeLine::Change(
         Pair {

@@ -42,6 +42,13 @@ const LETTERS: [Letter; 6] = [
     },
 ];
 
+// The letters that each place allows: a rule's all six, a change's all but b, a request's r w x a.
+pub const RULE_LETTERS: u8 = 63;
+
+pub const CHANGE_LETTERS: u8 = 62;
+
+pub const REQUEST_LETTERS: u8 = 60;
+
 // What reading an access field answers: its modes, or that it has a byte not allowed there.
 pub enum Access {
     Modes(u8),

@@ -9,8 +9,9 @@ use Rattle.alphabet.specs.declared.Field.the-variants.{End}
 use Rattle.modes.specs.Modes.{readModes, changeLetters}
 use Rattle.modes.specs.declared.Access.the-variants.{Modes}
 use mathlib.Core.Bool.{true}
+use Rattle.lines.specs.Within.{changeKind}
 use Rattle.lines.proofs.Laws.{change-meets}
-use Rattle.lines.proofs.Answers.{One, Two, Three, Four, in-one, in-two, in-three, in-four, change-long, change-none, change-one, change-two, change-three, change-five, change-subject, change-object, change-bad-allow, change-bad-deny, change-judged}
+use Rattle.lines.proofs.Answers.{One, Two, Three, Four, in-one, in-two, in-three, in-four, too-long, no-field, only-one, change-two, change-three, change-five, change-subject, change-object, change-bad-allow, change-bad-deny, change-judged}
 use Rattle.lines.proofs.change_line.Statement.{statement}
 use Rattle.lines.proofs.change_line.Tie as tie
 
@@ -45,7 +46,7 @@ allowed : (c : tie.After-allow) → readModes changeLetters true (part (c .befor
 allowed c = sym (c .before .before .read-modes .ensures) ∙ c .allow .given .1
 
 returns : tie.Need-returns
-returns c = change-meets _ _ (change-long _ (c .if1 .taken))
+returns c = change-meets _ _ (too-long changeKind (c .before .before .args .line .now) (c .if1 .taken))
 
 next-field-requires : tie.Need-next-field-requires
 next-field-requires c κs = search needs
@@ -57,7 +58,7 @@ enum-told : tie.Need-enum-told
 enum-told c = search needs
 
 returns-2 : tie.Need-returns-2
-returns-2 c = change-meets _ _ (change-none _ (c .before .before .before .if1 .left) (sym (c .before .before .next-field .ensures) ∙ c .enum-told .given .1))
+returns-2 c = change-meets _ _ (no-field changeKind (c .before .before .before .before .before .args .line .now) (c .before .before .before .if1 .left) (sym (c .before .before .next-field .ensures) ∙ c .enum-told .given .1))
 
 next-field-requires-2 : tie.Need-next-field-requires-2
 next-field-requires-2 c κs = search needs
@@ -69,7 +70,7 @@ enum-told-2 : tie.Need-enum-told-2
 enum-told-2 c = search needs
 
 returns-3 : tie.Need-returns-3
-returns-3 c = change-meets _ _ (change-one (one (c .before .before .before .before)) (sym (c .before .before .next-field2 .ensures) ∙ c .enum-told2 .given .1))
+returns-3 c = change-meets _ _ (only-one changeKind (one (c .before .before .before .before)) (sym (c .before .before .next-field2 .ensures) ∙ c .enum-told2 .given .1))
 
 next-field-requires-3 : tie.Need-next-field-requires-3
 next-field-requires-3 c κs = search needs

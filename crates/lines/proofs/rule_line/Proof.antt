@@ -6,8 +6,9 @@ use Rattle.search.specs.declared.Found.the-variants.{Nothing}
 use Rattle.alphabet.specs.Alphabet.{faultOf}
 use Rattle.alphabet.specs.Within.{fieldAt, part}
 use Rattle.alphabet.specs.declared.Field.the-variants.{End}
+use Rattle.lines.specs.Within.{ruleKind}
 use Rattle.lines.proofs.Laws.{rule-meets}
-use Rattle.lines.proofs.Answers.{One, Two, Three, in-one, in-two, in-three, rule-long, rule-none, rule-one, rule-two, rule-four, rule-subject, rule-object, rule-bad, rule-judged}
+use Rattle.lines.proofs.Answers.{One, Two, Three, in-one, in-two, in-three, too-long, no-field, only-one, rule-two, rule-four, rule-subject, rule-object, rule-bad, rule-judged}
 use Rattle.lines.proofs.rule_line.Statement.{statement}
 use Rattle.lines.proofs.rule_line.Tie as tie
 
@@ -34,7 +35,7 @@ object : (c : tie.After-enum-told8) → faultOf (part (c .before .before .before
 object c = sym (c .before .before .label-fault2 .ensures) ∙ c .enum-told8 .given .1
 
 returns : tie.Need-returns
-returns c = rule-meets _ _ (rule-long _ (c .if1 .taken))
+returns c = rule-meets _ _ (too-long ruleKind (c .before .before .args .line .now) (c .if1 .taken))
 
 next-field-requires : tie.Need-next-field-requires
 next-field-requires c κs = search needs
@@ -46,7 +47,7 @@ enum-told : tie.Need-enum-told
 enum-told c = search needs
 
 returns-2 : tie.Need-returns-2
-returns-2 c = rule-meets _ _ (rule-none _ (c .before .before .before .if1 .left) (sym (c .before .before .next-field .ensures) ∙ c .enum-told .given .1))
+returns-2 c = rule-meets _ _ (no-field ruleKind (c .before .before .before .before .before .args .line .now) (c .before .before .before .if1 .left) (sym (c .before .before .next-field .ensures) ∙ c .enum-told .given .1))
 
 next-field-requires-2 : tie.Need-next-field-requires-2
 next-field-requires-2 c κs = search needs
@@ -58,7 +59,7 @@ enum-told-2 : tie.Need-enum-told-2
 enum-told-2 c = search needs
 
 returns-3 : tie.Need-returns-3
-returns-3 c = rule-meets _ _ (rule-one (one (c .before .before .before .before)) (sym (c .before .before .next-field2 .ensures) ∙ c .enum-told2 .given .1))
+returns-3 c = rule-meets _ _ (only-one ruleKind (one (c .before .before .before .before)) (sym (c .before .before .next-field2 .ensures) ∙ c .enum-told2 .given .1))
 
 next-field-requires-3 : tie.Need-next-field-requires-3
 next-field-requires-3 c κs = search needs

@@ -5,7 +5,8 @@ use borrow.Author.Tests.{not-true, not-false}
 use mathlib.Core.List.{List}
 use Prim.Native.Nat.{ℕ}
 use Rattle.store.specs.Layout.{store, undamagedOf}
-use Rattle.lines.specs.Lines.{change, changeOf, at, changeSaid, ChangeInside}
+use Rattle.lines.specs.Lines.{change, changeOf}
+use Rattle.lines.specs.Within.{at, changeSaid, ChangeInside}
 use Rattle.lines.specs.declared.ChangeLine.{ChangeLine}
 use Rattle.lines.specs.declared.ChangeLine.the-variants as x
 use Rattle.lines.proofs.Laws.{Taken, change-sound}

@@ -5,7 +5,8 @@ use Prim.Native.Nat.{ℕ}
 use Rattle.store.specs.Table.{Table}
 use Rattle.store.specs.Layout.{store, tableOf}
 use Rattle.rules.specs.Rules.{placing}
-use Rattle.lines.specs.Lines.{rule, ruleOf, at, ruleSaid, RuleInside}
+use Rattle.lines.specs.Lines.{rule, ruleOf}
+use Rattle.lines.specs.Within.{at, ruleSaid, RuleInside}
 use Rattle.lines.specs.declared.RuleLine.{RuleLine}
 use Rattle.lines.specs.declared.RuleLine.the-variants as r
 use Rattle.lines.proofs.Laws.{Taken, rule-sound}
