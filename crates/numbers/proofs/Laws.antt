@@ -13,10 +13,11 @@ use lib.Count.{ones, ones-step}
 use borrow.Author.Tests.{eqb-true, eqb-false, ltb-true, ltb-false, leb-true, le-leb, lt-leb}
 use lib.ListN.{length, drop, getD, length-append}
 use lib.Seq.{drop-cons}
-use Rattle.search.specs.Search.{all, entries}
+use Rattle.search.specs.Search.{all, those, entries}
 use Rattle.search.proofs.Laws.{no, and-both}
 use Rattle.numbers.specs.Numbers.{isDigit, oneMore, numberOf}
-use Rattle.numbers.specs.Categories.{Category, categoryBit, hasCategory, chosen, categories, withCategory}
+use Rattle.numbers.specs.Categories.{categoryBit, hasCategory, categories, withCategory}
+use Rattle.numbers.specs.Within.{Category}
 use Rattle.numbers.specs.declared.Number.{Number}
 use Rattle.numbers.specs.declared.Number.the-variants.{Value, Bad}
 
@@ -179,11 +180,11 @@ with-lt set n h hn = or-lt 64 set (categoryBit n) h (category-lt n hn)
 
 -- ---- how many categories a set has
 
-chosen-append : (p : ℕ → Bool) (ns ms : List ℕ) → chosen p (ns ++ ms) ≡ chosen p ns ++ chosen p ms
-chosen-append p [] ms = refl
-chosen-append p (n ∷ ns) ms = by-test (p n) (chosen-append p ns ms)
+those-append : (p : ℕ → Bool) (ns ms : List ℕ) → those p (ns ++ ms) ≡ those p ns ++ those p ms
+those-append p [] ms = refl
+those-append p (n ∷ ns) ms = by-test (p n) (those-append p ns ms)
   where
-    by-test : (t : Bool) → chosen p (ns ++ ms) ≡ chosen p ns ++ chosen p ms → cond t (n ∷ chosen p (ns ++ ms)) (chosen p (ns ++ ms)) ≡ cond t (n ∷ chosen p ns) (chosen p ns) ++ chosen p ms
+    by-test : (t : Bool) → those p (ns ++ ms) ≡ those p ns ++ those p ms → cond t (n ∷ those p (ns ++ ms)) (those p (ns ++ ms)) ≡ cond t (n ∷ those p ns) (those p ns) ++ those p ms
     by-test true e = rw e
     by-test false e = e
 
@@ -197,7 +198,7 @@ above : (set m : ℕ) → m < 64 → set / 2 ^ (64 - (m + 1)) / 2 ≡ set / 2 ^ 
 above set m h = let e : 64 - (m + 1) + 1 ≡ 64 - m = omega arith in shr-shr set (64 - (m + 1)) 1 ∙ ap (λ (x : ℕ). set / 2 ^ x) e
 
 -- the first m categories are the top m digits
-count-top : (set m : ℕ) → set < 2 ^ 64 → m ≤ 64 → length (chosen (hasCategory set) (entries (λ (k : ℕ). k + 1) m)) ≡ ones (set / 2 ^ (64 - m))
+count-top : (set m : ℕ) → set < 2 ^ 64 → m ≤ 64 → length (those (hasCategory set) (entries (λ (k : ℕ). k + 1) m)) ≡ ones (set / 2 ^ (64 - m))
 unfolding entries ones
 count-top set zero h l = rw (div-eq-of-lt h)
 count-top set (suc m) h l =
@@ -205,10 +206,10 @@ count-top set (suc m) h l =
     let p : ℕ → Bool = hasCategory set in
     let top : ℕ = set / 2 ^ (64 - (m + 1)) in
     let ih = count-top set m h (omega arith) in
-    let split : length (chosen p (entries f (suc m))) ≡ length (chosen p (entries f m)) + length (chosen p ((m + 1) ∷ [])) = ap length (chosen-append p (entries f m) ((m + 1) ∷ [])) ∙ length-append (chosen p (entries f m)) (chosen p ((m + 1) ∷ [])) in
-    let last : length (chosen p ((m + 1) ∷ [])) ≡ top % 2 = one-digit (m + 1) (top % 2) (omega arith) in
+    let split : length (those p (entries f (suc m))) ≡ length (those p (entries f m)) + length (those p ((m + 1) ∷ [])) = ap length (those-append p (entries f m) ((m + 1) ∷ [])) ∙ length-append (those p (entries f m)) (those p ((m + 1) ∷ [])) in
+    let last : length (those p ((m + 1) ∷ [])) ≡ top % 2 = one-digit (m + 1) (top % 2) (omega arith) in
     let rest : ones (top / 2) ≡ ones (set / 2 ^ (64 - m)) = ap ones (above set m (omega arith)) in
-    let all-of-it : length (chosen p (entries f (suc m))) ≡ ones top = omega (arith, ones-step top) in
+    let all-of-it : length (those p (entries f (suc m))) ≡ ones top = omega (arith, ones-step top) in
     all-of-it ∙ ap (λ (x : ℕ). ones (set / 2 ^ (64 - x))) (add-one m)
 
 pub count-ones : (set : ℕ) → set < 2 ^ 64 → ones set ≡ length (categories set) + set % 2

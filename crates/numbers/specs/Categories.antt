@@ -1,15 +1,25 @@
--- 01: categories sit as bits of a u64. Category n, from 1 to 63, is the bit 2 ^ (64 - n): category 1 the top one; bit 0 is no category.
--- Assumes nothing.
-use Prim.Native.Nat.{ℕ, _+_, _-_, _/_, _%_, _^_, _≤_}
-use mathlib.Core.Bool.{Bool, cond}
-use mathlib.Core.List.{List, [], _∷_}
-use lib.Dec.{eqb}
+-- 01: levels are 0 to 255, and categories sit as bits of a u64. Category n, from 1 to 63, is the bit 2 ^ (64 - n): category 1 the top one; bit 0 is no
+-- category. All that is said of a set of categories stands here. Assumes nothing.
+use Prim.Native.Nat.{ℕ, _+_, _-_, _/_, _%_, _^_}
+use mathlib.Core.Bool.{Bool, _&&_}
+use mathlib.Core.List.{List}
+use lib.Dec.{eqb, leb}
 use lib.Bits.{bitOr}
-use Rattle.search.specs.Search.{entries}
+use Rattle.search.specs.Search.{those, entries}
+
+-- 01: level 0 to 255
+abbrev pub levelLimit : ℕ
+levelLimit = 255
+
+abbrev pub isLevel : ℕ → Bool
+isLevel n = leb n levelLimit
 
 -- 01: category 1 to 63 (source document 003)
-abbrev pub Category : ℕ → Type 0
-Category n = (1 ≤ n) × (n ≤ 63)
+abbrev pub categoryLimit : ℕ
+categoryLimit = 63
+
+abbrev pub isCategory : ℕ → Bool
+isCategory n = leb 1 n && leb n categoryLimit
 
 abbrev pub categoryBit : ℕ → ℕ
 categoryBit n = 2 ^ (64 - n)
@@ -18,15 +28,22 @@ categoryBit n = 2 ^ (64 - n)
 abbrev pub hasCategory : ℕ → ℕ → Bool
 hasCategory set n = eqb (set / categoryBit n % 2) 1
 
--- those of a list that pass a test, in order
-abbrev pub chosen : (ℕ → Bool) → List ℕ → List ℕ
-chosen p [] = []
-chosen p (n ∷ ns) = cond (p n) (n ∷ chosen p ns) (chosen p ns)
-
 -- the categories that a set has, in order
 unfoldable pub categories : ℕ → List ℕ
-categories set = chosen (hasCategory set) (entries (λ (k : ℕ). k + 1) 63)
+categories set = those (hasCategory set) (entries (λ (k : ℕ). k + 1) categoryLimit)
+
+-- the set of no category
+abbrev pub noCategories : ℕ
+noCategories = 0
 
 -- the set with one category more
 unfoldable pub withCategory : ℕ → ℕ → ℕ
 withCategory set n = bitOr set (categoryBit n)
+
+-- two sets are equal
+abbrev pub sameSet : ℕ → ℕ → Bool
+sameSet a b = eqb a b
+
+-- a set has no other bit than those of categories: bit 0 is none
+abbrev pub knownSet : ℕ → Bool
+knownSet set = eqb (set % 2) 0

@@ -8,7 +8,7 @@ use Rattle.search.specs.Search.{all}
 use Rattle.numbers.specs.declared.Number.{Number}
 use Rattle.numbers.specs.declared.Number.the-variants.{Value, Bad}
 
--- an ASCII digit
+-- an ASCII digit: 0 (48) to 9 (57)
 abbrev pub isDigit : ℕ → Bool
 isDigit b = leb 48 b && leb b 57
 

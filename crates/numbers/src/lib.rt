@@ -3,7 +3,13 @@ ghost use mathlib.Core.Path.{_≡_};
 ghost use Prim.Native.Nat.{_+_, _%_};
 ghost use lib.ListN.{length};
 ghost use Rattle.numbers.specs.Numbers.{numberOf};
-ghost use Rattle.numbers.specs.Categories.{Category, categoryBit, categories, withCategory};
+ghost use Rattle.numbers.specs.Categories.{categoryBit, categories, withCategory};
+ghost use Rattle.numbers.specs.Within.{Category};
+
+// Level 0 to 255, category 1 to 63.
+pub const LEVEL_LIMIT: u64 = 255;
+
+pub const CATEGORY_LIMIT: u64 = 63;
 
 // What reading a number answers: its value, or that the field is none.
 pub enum Number {
@@ -32,13 +38,13 @@ pub fn read_number(field: &[u8]) -> Number
     let mut i = 0;
     while i < field.len() {
         let b = field[i];
-        if b < 48 {
+        if b < b'0' {
             return Number::Bad;
         }
-        if b > 57 {
+        if b > b'9' {
             return Number::Bad;
         }
-        value = value * 10 + wide(b - 48);
+        value = value * 10 + wide(b - b'0');
         i += 1;
     }
     Number::Value(value)

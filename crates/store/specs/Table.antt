@@ -1,10 +1,11 @@
 -- 01: the tables as they are spoken of, with no word of how they lie in memory: labels, rules, mappings and the onlycap list (01: the
 -- override list), in order. Assumes nothing.
-use Prim.Native.Nat.{ℕ, _%_}
+use Prim.Native.Nat.{ℕ}
 use mathlib.Core.Bool.{Bool, _&&_}
 use mathlib.Core.List.{List, [], _∷_}
 use lib.ListN.{length, getD}
-use lib.Dec.{eqb, ltb}
+use lib.Dec.{ltb}
+pub use Rattle.numbers.specs.Categories.{knownSet}
 use Rattle.search.specs.Search.{first, all}
 use Rattle.search.specs.Bytes.{sameBytes}
 use Rattle.search.specs.declared.Found.{Found}
@@ -93,10 +94,6 @@ mappingNumbered t k = getD (t .mappings) k (record { label = 0; level = 0; set =
 
 -- ---- refusal 0, of what is stored: each number names a stored label (of which there are n), no unknown mode bit (64 and above), no
 -- unknown category bit
-
--- a set has no other bit than those of categories: category k is the bit 2^(64-k), and the bit 1 is none
-abbrev pub knownSet : ℕ → Bool
-knownSet s = eqb (s % 2) 0
 
 unfoldable pub soundRule : ℕ → Rule → Bool
 soundRule n r = (ltb (r .subject) n && ltb (r .object) n) && ltb (r .modes) 64
