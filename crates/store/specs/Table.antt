@@ -4,7 +4,7 @@ use Prim.Native.Nat.{ℕ}
 use mathlib.Core.Bool.{Bool, _&&_}
 use mathlib.Core.List.{List, [], _∷_}
 use lib.ListN.{length, getD}
-use lib.Dec.{ltb}
+use lib.Dec.{eqb, ltb}
 pub use Rattle.numbers.specs.Categories.{knownSet}
 use Rattle.search.specs.Search.{first, all}
 use Rattle.search.specs.Bytes.{sameBytes}
