@@ -14,7 +14,7 @@ use Rattle.search.specs.Search.{first, all, those, later}
 use Rattle.search.specs.declared.Found.{Found}
 use Rattle.search.specs.declared.Found.the-variants.{At, Nothing}
 use Rattle.search.proofs.Laws.{no, and-both, eqb-is, or-is, not-is, number-is, all-at, first-at, first-none, entries-length, entries-at}
-use Rattle.alphabet.specs.Alphabet.{isBlank, labelByte, classOf, LabelByte, Blank, ByteClass, ByteClasses, wellFormed, orTooLong, faultOf, onto, parts, hasByte, fields}
+use Rattle.alphabet.specs.Alphabet.{isNewline, isBlank, labelByte, classOf, LabelByte, Blank, ByteClass, ByteClasses, wellFormed, orTooLong, faultOf, onto, parts, hasByte, fields}
 use Rattle.alphabet.specs.Within.{classTable, run, startOf, endOf, fieldAt, part}
 use Rattle.alphabet.specs.declared.Field.{Field}
 use Rattle.alphabet.specs.declared.Field.the-variants.{Part, End}
@@ -56,7 +56,7 @@ label-unblank b e =
 -- a byte's class tells whether it is a label byte, and whether it is a blank
 pub class-label : (b : ℕ) → eqb (classOf b) 0 ≡ labelByte b
 unfolding classOf
-class-label b = by-test (labelByte b) (isBlank b) (eqb b 10)
+class-label b = by-test (labelByte b) (isBlank b) (isNewline b)
   where
     by-test : (l k n : Bool) → eqb (cond l 0 (cond k 1 (cond n 2 3))) 0 ≡ l
     by-test true k n = refl
@@ -66,7 +66,7 @@ class-label b = by-test (labelByte b) (isBlank b) (eqb b 10)
 
 pub class-blank : (b : ℕ) → eqb (classOf b) 1 ≡ isBlank b
 unfolding classOf
-class-blank b = by-test (labelByte b) (isBlank b) (eqb b 10) (label-unblank b)
+class-blank b = by-test (labelByte b) (isBlank b) (isNewline b) (label-unblank b)
   where
     by-test : (l k n : Bool) → (l ≡ true → k ≡ false) → eqb (cond l 0 (cond k 1 (cond n 2 3))) 1 ≡ k
     by-test true k n h = sym (h refl)
@@ -74,17 +74,17 @@ class-blank b = by-test (labelByte b) (isBlank b) (eqb b 10) (label-unblank b)
     by-test false false true h = refl
     by-test false false false h = refl
 
--- a byte is in one of the other two classes, too, by its tests
-above-newline : (b : ℕ) → labelByte b ≡ true → eqb b 10 ≡ false
-unfolding labelByte
-above-newline b e = let h = label-is b .0 e .0 in ne-eqb b 10 (λ q. omega arith)
+-- neither a label byte nor a blank is a newline
+pub label-no-newline : (b : ℕ) → labelByte b ≡ true → isNewline b ≡ false
+label-no-newline b e = let h = label-is b .0 e .0 in ne-eqb b 10 (λ q. omega arith)
 
-blank-no-newline : (b : ℕ) → isBlank b ≡ true → eqb b 10 ≡ false
+blank-no-newline : (b : ℕ) → isBlank b ≡ true → isNewline b ≡ false
 blank-no-newline b e = ne-eqb b 10 (λ q. ⊎-elim (λ h. omega arith) (λ h. omega arith) (blank-is b .0 e))
 
-class-newline : (b : ℕ) → eqb (classOf b) 2 ≡ eqb b 10
+-- a byte is in one of the other two classes, too, by its tests
+class-newline : (b : ℕ) → eqb (classOf b) 2 ≡ isNewline b
 unfolding classOf
-class-newline b = by-test (labelByte b) (isBlank b) (eqb b 10) (above-newline b) (blank-no-newline b)
+class-newline b = by-test (labelByte b) (isBlank b) (isNewline b) (label-no-newline b) (blank-no-newline b)
   where
     by-test : (l k n : Bool) → (l ≡ true → n ≡ false) → (k ≡ true → n ≡ false) → eqb (cond l 0 (cond k 1 (cond n 2 3))) 2 ≡ n
     by-test true k n h i = sym (h refl)
@@ -92,9 +92,9 @@ class-newline b = by-test (labelByte b) (isBlank b) (eqb b 10) (above-newline b)
     by-test false false true h i = refl
     by-test false false false h i = refl
 
-class-other : (b : ℕ) → eqb (classOf b) 3 ≡ not (labelByte b || (isBlank b || eqb b 10))
+class-other : (b : ℕ) → eqb (classOf b) 3 ≡ not (labelByte b || (isBlank b || isNewline b))
 unfolding classOf
-class-other b = by-test (labelByte b) (isBlank b) (eqb b 10)
+class-other b = by-test (labelByte b) (isBlank b) (isNewline b)
   where
     by-test : (l k n : Bool) → eqb (cond l 0 (cond k 1 (cond n 2 3))) 3 ≡ not (l || (k || n))
     by-test true k n = refl
@@ -108,10 +108,10 @@ byte-class b =
     record {
       label = number-is (classOf b) 0 (labelByte b) (class-label b) (label-is b);
       blank = number-is (classOf b) 1 (isBlank b) (class-blank b) (blank-is b);
-      ends-a-line = number-is (classOf b) 2 (eqb b 10) (class-newline b) (eqb-is b 10);
+      ends-a-line = number-is (classOf b) 2 (isNewline b) (class-newline b) (eqb-is b 10);
       other =
           number-is (classOf b) 3 _ (class-other b)
-          (not-is (labelByte b || (isBlank b || eqb b 10)) (or-is (labelByte b) _ (label-is b) (or-is (isBlank b) _ (blank-is b) (eqb-is b 10))));
+          (not-is (labelByte b || (isBlank b || isNewline b)) (or-is (labelByte b) _ (label-is b) (or-is (isBlank b) _ (blank-is b) (eqb-is b 10))));
     }
 
 -- the table of the classes, and a table that is it

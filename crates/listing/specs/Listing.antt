@@ -3,23 +3,17 @@ use Prim.Native.Nat.{ℕ}
 use mathlib.Core.Bool.{cond}
 use mathlib.Core.List.{List, [], _∷_, _++_}
 use lib.ListN.{length}
-use lib.Dec.{ltb, leb}
-use Rattle.search.specs.Bytes.{written}
+use lib.Dec.{ltb}
+use Rattle.refusals.specs.Refusals.{damaged, noSuchNumber}
 use Rattle.modes.specs.Modes.{modesText}
 use Rattle.store.specs.declared.Rule.{Rule}
-use Rattle.store.specs.Table.{Table, labelNumbered, ruleNumbered}
-use Rattle.store.specs.Layout.{Store, tableOf, undamagedOf}
-use Rattle.listing.specs.declared.Listed.{Listed}
-use Rattle.listing.specs.declared.Listed.the-variants as l
 use Rattle.store.specs.declared.Done.{Done}
 use Rattle.store.specs.declared.Done.the-variants as d
-
--- subject, space, object, space, modes or a dash; and the same with its newline
-abbrev pub lineOf : List ℕ → List ℕ → List ℕ → List ℕ
-lineOf subject object modes = subject ++ (32 ∷ (object ++ (32 ∷ modes)))
-
-unfoldable pub textOf : List ℕ → List ℕ → List ℕ → List ℕ
-textOf subject object modes = lineOf subject object modes ++ (10 ∷ [])
+use Rattle.store.specs.Table.{Table, labelNumbered, ruleNumbered}
+use Rattle.store.specs.Layout.{Store, tableOf, undamagedOf}
+use Rattle.output.specs.declared.Output.{Output}
+use Rattle.output.specs.Output.{Text, text, refused, textAnswer, textOut}
+use Rattle.rule_text.specs.RuleText.{textOf}
 
 -- a rule as text, by the labels that are stored
 unfoldable pub ruleText : Table → Rule → List ℕ
@@ -33,30 +27,30 @@ textsOf t (r ∷ rs) = ruleText t r ++ textsOf t rs
 unfoldable pub listing : Table → List ℕ
 listing t = textsOf t (t .rules)
 
--- a text goes to the front of a lent buffer, the rest of which is unchanged, and its length is answered; 12 the buffer is too short
-unfoldable pub putAnswer : List ℕ → List ℕ → Listed
-putAnswer text out = cond (leb (length text) (length out)) (l.Length (length text)) (l.Refused 12)
+-- rule number k as text; refused where there is no rule of that number
+unfoldable pub ruleGiven : Table → ℕ → Text
+ruleGiven t k = cond (ltb k (length (t .rules))) (text (ruleText t (ruleNumbered t k))) (refused noSuchNumber)
 
-unfoldable pub putOut : List ℕ → List ℕ → List ℕ
-putOut text out = cond (leb (length text) (length out)) (written out 0 text) out
+-- the answer, and the lent output afterwards
+abbrev pub listRule : Table → ℕ → List ℕ → Output
+listRule t k out = textAnswer (ruleGiven t k) out
 
--- rule number k: 13 no rule of that number
-unfoldable pub listRule : Table → ℕ → List ℕ → Listed
-listRule t k out = cond (ltb k (length (t .rules))) (putAnswer (ruleText t (ruleNumbered t k)) out) (l.Refused 13)
+abbrev pub listRuleOut : Table → ℕ → List ℕ → List ℕ
+listRuleOut t k out = textOut (ruleGiven t k) out
 
-unfoldable pub listRuleOut : Table → ℕ → List ℕ → List ℕ
-listRuleOut t k out = cond (ltb k (length (t .rules))) (putOut (ruleText t (ruleNumbered t k)) out) out
+-- of a lent state: the refusal of a damaged one comes before every other
+abbrev pub listGiven : Store → ℕ → Text
+listGiven st k = cond (undamagedOf st) (ruleGiven (tableOf st) k) (refused damaged)
 
--- of a lent state: 0 before every other where it is damaged. The answer, and the lent buffer afterwards
-unfoldable pub listAnswer : Store → ℕ → List ℕ → Listed
-listAnswer st k out = cond (undamagedOf st) (listRule (tableOf st) k out) (l.Refused 0)
+unfoldable pub listAnswer : Store → ℕ → List ℕ → Output
+listAnswer st k out = textAnswer (listGiven st k) out
 
 unfoldable pub listOut : Store → ℕ → List ℕ → List ℕ
-listOut st k out = cond (undamagedOf st) (listRuleOut (tableOf st) k out) out
+listOut st k out = textOut (listGiven st k) out
 
--- a label by number, empty on a refusal; and the answer beside it: done, 0, or 13 no label of that number
+-- a label by number, empty on a refusal; and the answer beside it: done, a damaged state, or no label of that number
 unfoldable pub labelGiven : Store → ℕ → List ℕ
 labelGiven st k = cond (undamagedOf st) (labelNumbered (tableOf st) k) []
 
 unfoldable pub labelAnswer : Store → ℕ → Done
-labelAnswer st k = cond (undamagedOf st) (cond (ltb k (length (tableOf st .labels))) d.Done (d.Refused 13)) (d.Refused 0)
+labelAnswer st k = cond (undamagedOf st) (cond (ltb k (length (tableOf st .labels))) d.Done (d.Refused noSuchNumber)) (d.Refused damaged)

@@ -10,7 +10,7 @@ use native.Mathlib.Omega.{arith}
 use lib.Dec.{eqb}
 use borrow.Author.Tests.{eqb-true, eqb-false, eq-eqb, ne-eqb}
 use lib.ListN.{length, take, drop, getD, set, length-append, length-take, length-drop, length-set, length-map, List·getD-append}
-use lib.Seq.{drop-cons, take-suc, getD-at, getD-append-add, getD-set-same, getD-set-other, ext-getD, getD-take, length-take-le}
+use lib.Seq.{drop-cons, drop-drop, drop-append-add, take-at, take-suc, set-split, getD-at, getD-append-add, getD-set-same, getD-set-other, ext-getD, getD-take, length-take-le}
 use Rattle.search.specs.Search.{first, all, put, placeOf, countOf, entries, later}
 use Rattle.search.specs.Bytes.{sameBytes, written}
 use Rattle.search.specs.declared.Found.{Found}
@@ -110,6 +110,29 @@ pub length-written : (d : List ℕ) (at : ℕ) (s : List ℕ) → at + length s 
 unfolding written
 length-written d at s h = simp (length-append, length-take, length-drop) (omega arith)
 
+-- two writes, the second behind the first, are one
+pub written-more : (d : List ℕ) (at : ℕ) (a b : List ℕ) (n : ℕ) → at + length a ≡ n → n + length b ≤ length d → written (written d at a) n b ≡ written d at (a ++ b)
+unfolding written
+written-more d at a b n is h =
+    let p : List ℕ = take at d ++ a in
+    let q : List ℕ = drop (at + length a) d in
+    let e : length p ≡ n = length-append (take at d) a ∙ ap (λ (j : ℕ). j + length a) (length-take-le at d (omega arith)) ∙ is in
+    let s : take at d ++ (a ++ q) ≡ p ++ q = sym (append-assoc (take at d) a q) in
+    let t : take n (take at d ++ (a ++ q)) ≡ p = ap (take n) s ∙ take-at p q n e in
+    let u : drop (n + length b) (take at d ++ (a ++ q)) ≡ drop (n + length b) d =
+    ap (drop (n + length b)) s
+    ∙ ap (λ (j : ℕ). drop (j + length b) (p ++ q)) (sym e)
+    ∙ drop-append-add p q (length b)
+    ∙ drop-drop (length b) (at + length a) d
+    ∙ ap (λ (j : ℕ). drop (j + length b) d) is in
+    let z : at + length (a ++ b) ≡ n + length b = omega (arith, length-append a b) in
+    rw (t, u, z) (append-assoc (take at d) a (b ++ drop (n + length b) d) ∙ ap (λ (x : List ℕ). take at d ++ x) (sym (append-assoc a b (drop (n + length b) d))))
+
+-- one byte set is one byte written
+pub written-one : (d : List ℕ) (at x : ℕ) → at < length d → set d at x ≡ written d at (x ∷ [])
+unfolding written
+written-one d at x h = rw (set-split d at x h, add-one)
+
 -- ---- every entry passes a test
 
 pub all-turn : {A : Type 0} (p : A → Bool) (d : A) (l : List A) (i : ℕ) → i < length l → all p (drop i l) ≡ (p (getD l i d) && all p (drop (i + 1) l))
@@ -120,6 +143,11 @@ pub all-snoc : {A : Type 0} (p : A → Bool) (l : List A) (x : A) → all p (l +
 unfolding all
 all-snoc p [] x = and-true (p x)
 all-snoc p (y ∷ ys) x = rw (all-snoc p ys x) (and-assoc (p y) (all p ys) (p x))
+
+pub all-append : {A : Type 0} (p : A → Bool) (a b : List A) → all p a ≡ true → all p b ≡ true → all p (a ++ b) ≡ true
+unfolding all
+all-append p [] b e f = f
+all-append p (x ∷ xs) b e f = let h = and-both (p x) (all p xs) e in rw (h .0, all-append p xs b (h .1) f)
 
 pub all-at : {A : Type 0} (p : A → Bool) (d : A) (l : List A) → all p l ≡ true → (k : ℕ) → k < length l → p (getD l k d) ≡ true
 unfolding all

@@ -13,8 +13,9 @@ use Rattle.modes.specs.Modes.{modesText}
 use Rattle.modes.proofs.Laws.{text-long}
 use Rattle.store.specs.Layout.{Store, store, ruleAt, undamagedOf}
 use Rattle.store.proofs.Laws.{Undamaged, undamaged-is}
-use Rattle.listing.specs.Listing.{listAnswer, listOut, listRule, listRuleOut}
-use Rattle.listing.proofs.Laws.{front, label-short, rule-sound, list-answer, list-out}
+use Rattle.output.proofs.Laws.{front-is}
+use Rattle.listing.specs.Listing.{ruleGiven, listAnswer, listOut}
+use Rattle.listing.proofs.Laws.{label-short, rule-sound, list-answer, list-out}
 use Rattle.listing.proofs.list_rule.Statement.{statement}
 use Rattle.listing.proofs.list_rule.Tie as tie
 
@@ -49,7 +50,7 @@ module _ (c : tie.Else2) where
 -- the modes' text in its own buffer
 module _ (c : tie.After-write-modes) where
   text : take (c .write-modes .result - 0) (drop 0 (c .write-modes .last .0)) ≡ modesText (getD (c .before .before .before .before .before .before .before .before .before .before .before .before .before .before .before .args .entries .now) (512 + c .before .before .before .before .before .before .before .before .before .before .before .before .before .before .before .args .k) 0)
-  text = ap (λ (x : List ℕ). take (c .write-modes .result - 0) (drop 0 x)) (c .write-modes .ensures .1) ∙ front _ (modesText (getD (c .before .before .before .before .before .before .before .before .before .before .before .before .before .before .before .args .entries .now) (512 + c .before .before .before .before .before .before .before .before .before .before .before .before .before .before .before .args .k) 0)) (c .write-modes .result) (c .write-modes .ensures .0)
+  text = ap (λ (x : List ℕ). take (c .write-modes .result - 0) (drop 0 x)) (c .write-modes .ensures .1) ∙ front-is _ (modesText (getD (c .before .before .before .before .before .before .before .before .before .before .before .before .before .before .before .args .entries .now) (512 + c .before .before .before .before .before .before .before .before .before .before .before .before .before .before .before .args .k) 0)) (c .write-modes .result) (c .write-modes .ensures .0)
 
 undamaged-requires : tie.Need-undamaged-requires
 undamaged-requires c κs = search needs
@@ -62,7 +63,7 @@ shared-slice-read-rules : tie.Need-shared-slice-read-rules
 shared-slice-read-rules c = omega (arith, whole (c .before) .sizes .words)
 
 returns-2 : tie.Need-returns-2
-unfolding listAnswer listOut listRule listRuleOut
+unfolding listAnswer listOut ruleGiven
 returns-2 c =
     let s = lent (c .before .before .before .before .before .before .before .before) in
     let n = entries-length (ruleAt (s .entries)) (getD (s .words) 1 0) in

@@ -1,11 +1,11 @@
--- `listing::put_text` meets its contract: the three parts stand one behind the other, each with its space or newline. Assumes nothing.
+-- `rule_text::put_text` meets its contract: the three parts stand one behind the other, each with its space or newline. Assumes nothing.
 use mathlib.Core.Path.{_≡_, _∙_}
 use borrow.Author.Needs.{needs}
 use native.Mathlib.Omega.{arith}
 use lib.ListN.{length, length-set}
-use Rattle.listing.proofs.Laws.{put-short, put-answer, put-out}
-use Rattle.listing.proofs.put_text.Statement.{statement}
-use Rattle.listing.proofs.put_text.Tie as tie
+use Rattle.rule_text.proofs.Laws.{put-short, put-answer, put-out}
+use Rattle.rule_text.proofs.put_text.Statement.{statement}
+use Rattle.rule_text.proofs.put_text.Tie as tie
 
 -- a write keeps the buffer's length
 kept-two : (c : tie.After-copy-at2) → length (c .copy-at2 .last .0) ≡ length (c .before .before .before .before .before .before .before .before .before .before .before .args .out .now)
