@@ -11,8 +11,8 @@ use Rattle.lookups.specs.declared.Lookup.{Lookup}
 use Rattle.lookups.specs.declared.Lookup.the-variants as lookup
 use Rattle.lookups.specs.declared.Label.{Label}
 use Rattle.lookups.specs.declared.Label.the-variants as label
-use Rattle.listing.specs.declared.Listed.{Listed}
-use Rattle.listing.specs.declared.Listed.the-variants as listed
+use Rattle.output.specs.declared.Output.{Output}
+use Rattle.output.specs.declared.Output.the-variants as listed
 use Rattle.reports.specs.declared.Loader.{Loader}
 use Rattle.load.specs.declared.Fed.{Fed}
 use Rattle.load.specs.declared.Fed.the-variants as fed
@@ -49,7 +49,7 @@ endShown old (ended.Refused n) =
     record { refused = true; number = n; report = record { lines = 0; accepted = 0; skipped = 0; refused = 0; first = 0; reason = 0 }; loader = old }
 
 -- the listing of a rule: its length
-abbrev pub listShown : Listed → Length
+abbrev pub listShown : Output → Length
 listShown (listed.Length k) = record { refused = false; number = 0; length = k }
 listShown (listed.Refused n) = record { refused = true; number = n; length = 0 }
 

@@ -1,10 +1,10 @@
 // What each call answers, in 01's numbers: an exported function can't answer an enum, so a host gets a struct of plain numbers for it. Which
 // number and values each case has, specs/Answers.antt says once for each answer.
-use listing::Listed;
 use load::Ended;
 use load::Fed;
 use lookups::Label;
 use lookups::Lookup;
+use output::Output;
 use reports::Loader;
 use reports::Report;
 use revoke::Revoked;
@@ -159,16 +159,16 @@ pub fn end_shown(before: Loader, answer: Ended) -> Finished
 }
 
 // So for the listing of a rule.
-pub fn list_shown(answer: Listed) -> Length
+pub fn list_shown(answer: Output) -> Length
     ensures { λ r. ⌜ r ≡ listShown answer ⌝ }
 {
     match answer {
-        Listed::Length(length) => Length {
+        Output::Length(length) => Length {
             refused: false,
             number: 0,
             length,
         },
-        Listed::Refused(number) => Length {
+        Output::Refused(number) => Length {
             refused: true,
             number,
             length: 0,

@@ -13,7 +13,7 @@ use Rattle.access.specs.Access.{shown}
 use Rattle.access.specs.declared.Answer.the-variants as answer
 use Rattle.lookups.specs.declared.Lookup.the-variants as lookup
 use Rattle.lookups.specs.declared.Label.the-variants as label
-use Rattle.listing.specs.declared.Listed.the-variants as listed
+use Rattle.output.specs.declared.Output.the-variants as listed
 use Rattle.answers.specs.Answers.{lookupShown, searchShown, listShown}
 use Rattle.load.specs.Loader.{Load}
 use Rattle.lists.specs.Reader as r

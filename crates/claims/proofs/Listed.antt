@@ -55,9 +55,11 @@ use Rattle.access.specs.declared.Verdict.{Verdict as Ruling}
 use Rattle.access.specs.declared.Verdict.the-variants as ruling
 use Rattle.access.specs.declared.Answer.{Answer}
 use Rattle.access.specs.declared.Answer.the-variants as a
-use Rattle.listing.specs.Listing.{ruleText, putAnswer, listRule, listAnswer, labelAnswer}
-use Rattle.listing.specs.declared.Listed.{Listed}
-use Rattle.listing.specs.declared.Listed.the-variants as l
+use Rattle.output.specs.Output as output
+use Rattle.output.specs.Output.{Text, putAnswer, textAnswer}
+use Rattle.listing.specs.Listing.{ruleText, ruleGiven, listAnswer, labelAnswer}
+use Rattle.output.specs.declared.Output.{Output}
+use Rattle.output.specs.declared.Output.the-variants as l
 use Rattle.load.specs.Loader.{Load, ready, pieceAnswer, endAnswer}
 use Rattle.load.specs.declared.Fed.{Fed}
 use Rattle.load.specs.declared.Fed.the-variants as f
@@ -147,11 +149,11 @@ answer-or ns (a.Refused n) = isAmong n ns
 of-answer : (ns : List ℕ) (x : Answer) (n : ℕ) → answer-or ns x ≡ true → x ≡ a.Refused n → Among n ns
 of-answer ns x n h q = rw q at h
 
-abbrev listed-or : List ℕ → Listed → Bool
+abbrev listed-or : List ℕ → Output → Bool
 listed-or ns (l.Length x) = true
 listed-or ns (l.Refused n) = isAmong n ns
 
-of-listed : (ns : List ℕ) (x : Listed) (n : ℕ) → listed-or ns x ≡ true → x ≡ l.Refused n → Among n ns
+of-listed : (ns : List ℕ) (x : Output) (n : ℕ) → listed-or ns x ≡ true → x ≡ l.Refused n → Among n ns
 of-listed ns x n h q = rw q at h
 
 -- ---- a fresh table, a piece, the end call
@@ -429,13 +431,17 @@ question-listed st s o request capable =
 abbrev listingNumbers : List ℕ
 listingNumbers = 13 ∷ 12 ∷ []
 
+text-state : (ns : List ℕ) (out : List ℕ) (b : Bool) (x : Text) → isAmong 0 ns ≡ false → ((n : ℕ) → textAnswer x out ≡ l.Refused n → Among n ns) → Refuses b (textAnswer (cond b x (output.refused 0)) out) l.Refused ns
+text-state ns out true x z h = of-state l.Refused ns true (textAnswer x out) z h
+text-state ns out false x z h = of-state l.Refused ns false (textAnswer x out) z h
+
 listing-listed : (st : Store) (k : ℕ) (out : List ℕ) → Refuses (undamagedOf st) (listAnswer st k out) l.Refused listingNumbers
-unfolding listAnswer listRule putAnswer isAmong
+unfolding listAnswer ruleGiven putAnswer isAmong
 listing-listed st k out =
-    of-state l.Refused listingNumbers (undamagedOf st) _ refl
+    text-state listingNumbers out (undamagedOf st) _ refl
     (λ n.
     of-listed listingNumbers _ n
-    (either (listed-or listingNumbers) (ltb k (length (tableOf st .rules)))
+    (either (λ t. listed-or listingNumbers (textAnswer t out)) (ltb k (length (tableOf st .rules)))
     (either (listed-or listingNumbers) (leb (length (ruleText (tableOf st) (ruleNumbered (tableOf st) k))) (length out)) refl refl) refl))
 
 abbrev labelNumbers : List ℕ

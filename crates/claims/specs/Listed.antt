@@ -26,7 +26,7 @@ use Rattle.run.specs.Run.{runOf}
 use Rattle.access.specs.Access.{questionOf}
 use Rattle.access.specs.declared.Answer.the-variants as a
 use Rattle.listing.specs.Listing.{listAnswer, labelAnswer}
-use Rattle.listing.specs.declared.Listed.the-variants as l
+use Rattle.output.specs.declared.Output.the-variants as l
 
 -- n is one of the numbers ns
 unfoldable pub isAmong : ℕ → List ℕ → Bool

@@ -4,7 +4,7 @@ use mathlib.Core.Bool.{true}
 use mathlib.Core.List.{List, [], _∷_, _++_}
 use Prim.Native.Nat.{ℕ, zero, suc, _+_, _<_, _≤_}
 use native.Mathlib.Omega.{arith}
-use borrow.Author.Tests.{lt-ltb, le-ltb, le-leb}
+use borrow.Author.Tests.{lt-ltb, le-ltb}
 use lib.ListN.{length, take, drop, getD, length-append, drop-of-length-le}
 use lib.Seq.{drop-cons, take-append-seam}
 use Rattle.search.specs.Bytes.{written}
@@ -14,8 +14,10 @@ use Rattle.store.specs.declared.Rule.{Rule}
 use Rattle.store.specs.Table.{ruleNumbered}
 use Rattle.store.specs.Layout.{Store, ruleAt, tableOf, undamagedOf}
 use Rattle.store.proofs.Laws.{undamaged-is}
-use Rattle.listing.specs.Listing.{textOf, ruleText, textsOf, listing, putAnswer, putOut, listRule, listRuleOut, listAnswer, listOut}
-use Rattle.listing.specs.declared.Listed.the-variants as l
+use Rattle.output.proofs.Laws.{fits-answer, fits-out}
+use Rattle.rule_text.specs.RuleText.{textOf}
+use Rattle.listing.specs.Listing.{ruleText, textsOf, listing, ruleGiven, listAnswer, listOut}
+use Rattle.output.specs.declared.Output.the-variants as l
 use Rattle.listing.proofs.Laws.{label-short, rule-listed}
 use Rattle.grown.specs.Relisted.{LoadsBack, front, listed, ListedByNumber}
 use Rattle.grown.proofs.Growing.{grown-sane}
@@ -40,12 +42,12 @@ module _ (st : Store) (undamaged : undamagedOf st ≡ true) where
     fits = let i = short k h in omega arith
 
     answered : listAnswer st k out ≡ l.Length (length (text k))
-    unfolding listAnswer listRule putAnswer
-    answered = rw (undamaged, lt-ltb k (length (tableOf st .rules)) h, le-leb (length (text k)) (length out) fits)
+    unfolding listAnswer ruleGiven
+    answered = rw (undamaged, lt-ltb k (length (tableOf st .rules)) h) (fits-answer (text k) out fits)
 
     written-there : listOut st k out ≡ written out 0 (text k)
-    unfolding listOut listRuleOut putOut
-    written-there = rw (undamaged, lt-ltb k (length (tableOf st .rules)) h, le-leb (length (text k)) (length out) fits)
+    unfolding listOut ruleGiven
+    written-there = rw (undamaged, lt-ltb k (length (tableOf st .rules)) h) (fits-out (text k) out fits)
 
     put : front (listAnswer st k out) (listOut st k out) ≡ text k
     unfolding written
@@ -66,7 +68,7 @@ module _ (st : Store) (undamaged : undamagedOf st ≡ true) where
     whole = from (length (tableOf st .rules)) 0 (omega arith)
 
   ends : (out : List ℕ) → listAnswer st (length (tableOf st .rules)) out ≡ l.Refused 13
-  unfolding listAnswer listRule
+  unfolding listAnswer ruleGiven
   ends out = rw (undamaged, le-ltb (length (tableOf st .rules)) (length (tableOf st .rules)) (omega arith))
 
   pub by-number : ListedByNumber st

@@ -16,7 +16,6 @@ use Rattle.search.specs.declared.Found.the-variants.{At, Nothing}
 use Rattle.search.proofs.Laws.{no, and-both, same-equal, not-so, all-at, all-by, first-is, front-first, map-at, map-same, map-snoc, distinct-fits}
 use Rattle.alphabet.specs.Alphabet.{wellFormed}
 use Rattle.modes.specs.Modes.{modesText}
-use Rattle.modes.proofs.Laws.{text-read}
 use Rattle.store.specs.declared.Rule.{Rule}
 use Rattle.store.specs.Table.{Table, fresh, labelIn, isPair, pairIn, soundRule, labelNumbered, ruleNumbered}
 use Rattle.lines.specs.Lines.{rule, ruleOf}
@@ -26,13 +25,14 @@ use Rattle.store.specs.Judged.{is-accepted, tableAfter}
 use Rattle.access.specs.Rules.{ruleBetween}
 use Rattle.access.specs.Access.{isFound}
 use Rattle.lists.specs.Reader.{Reader, Totals, endLine, takeByte, takePiece, finish, limited, limitedTotals, done, report}
-use Rattle.listing.specs.Listing.{lineOf, ruleText, textsOf, listing}
-use Rattle.listing.proofs.Laws.{noNewline, ListedLine, rule-line}
+use Rattle.rule_text.specs.RuleText.{lineOf, textOf}
+use Rattle.rule_text.proofs.Laws.{noNewline, text-plain, text-says}
+use Rattle.listing.specs.Listing.{ruleText, textsOf, listing}
 use Rattle.grown.specs.Sane.{twoLabels, Sane}
-use Rattle.grown.specs.Pairs.{Triple, no-rule, modesFound, modesBetween, newLabels, hasRoom}
+use Rattle.grown.specs.Pairs.{no-rule, modesFound, modesBetween, newLabels, hasRoom}
 use Rattle.grown.specs.Relisted.{Spelled, spell, spelled, allAccepted, LoadsBack}
 use Rattle.grown.proofs.Sane.{same-bytes, sound-parts, enter, enter-once, enter-all, five-front, subjectAt, objectAt, pairLabels, paired, subject-number, object-number, pair-length, pair-front, stored-known, rule-known, paired-sane, rule-paired, fresh-sane}
-use Rattle.grown.proofs.Pairs.{pair-read, rule-accepted, triple-rule, accepted-as, labels-counted}
+use Rattle.grown.proofs.Pairs.{pair-read, rule-accepted, accepted-as, labels-counted}
 
 -- ---- the plain reader and one line
 
@@ -121,23 +121,12 @@ module _ (t u : Table) (rs rest : List Rule) (r : Rule) (h : Sane t) (w : Loaded
   abbrev listed : List ℕ
   listed = lineOf s o (modesText m)
 
-  listed-line : ListedLine t r listed
-  listed-line = rule-line t r s-formed o-formed (r-known .2)
-
-  triple : Triple listed s o m
-  triple =
-      record {
-        short = omega (arith, listed-line .short);
-        access = modesText m;
-        three = listed-line .fields-are;
-        subject = s-formed;
-        object = o-formed;
-        modes = text-read m (r-known .2);
-        different = s-o;
-      }
-
   taken : Taken s o
   taken = record { subject = s-formed; object = o-formed; apart = not-so (sameBytes s o) (λ e. s-o (same-equal s o e)) }
+
+  -- the line says the rule, by its labels
+  says : ruleOf listed ≡ rule s o m
+  says = text-says s o m taken (r-known .2)
 
   -- as many rules as there were lines
   so-many : length (u .rules) ≡ length rs
@@ -219,7 +208,7 @@ module _ (t u : Table) (rs rest : List Rule) (r : Rule) (h : Sane t) (w : Loaded
   accepted : judged u (ruleOf listed) ≡ is-accepted (paired u s o m)
   accepted =
       let e : judged u (rule s o m) ≡ is-accepted (tableAfter u (judged u (rule s o m))) = accepted-as u (judged u (rule s o m)) (rule-accepted u s o m (w .sane .sound) ∙ room) in
-      ap (judged u) (triple-rule triple) ∙ e ∙ ap is-accepted (rule-paired u (tableAfter u (judged u (rule s o m))) s o m (taken, r-known .2) e .is)
+      ap (judged u) says ∙ e ∙ ap is-accepted (rule-paired u (tableAfter u (judged u (rule s o m))) s o m (taken, r-known .2) e .is)
 
   -- the rules that were there are spelled as before, and the new one is spelled as r
   spelled-more : (x : Rule) → soundRule (length (u .labels)) x ≡ true → spell (paired u s o m) x ≡ spell u x
@@ -244,7 +233,7 @@ module _ (t u : Table) (rs rest : List Rule) (r : Rule) (h : Sane t) (w : Loaded
   unfolding put
   one-more =
       record {
-        sane = paired-sane (w .sane) (rule-paired u (paired u s o m) s o m (taken, r-known .2) (ap (judged u) (sym (triple-rule triple)) ∙ accepted));
+        sane = paired-sane (w .sane) (rule-paired u (paired u s o m) s o m (taken, r-known .2) (ap (judged u) (sym says) ∙ accepted));
         known = still-known;
         same =
             ap (λ (f : Found). map (spell (paired u s o m)) (put f (u .rules) new)) new-place
@@ -258,9 +247,9 @@ module _ (t u : Table) (rs rest : List Rule) (r : Rule) (h : Sane t) (w : Loaded
       }
 
   next : takePiece (between u (length rs)) (ruleText t r) ≡ between (paired u s o m) (length (rs ++ (r ∷ [])))
+  unfolding ruleText textOf
   next =
-      ap (takePiece (between u (length rs))) (listed-line .text)
-      ∙ accepts u (paired u s o m) listed (length rs) (listed-line .plain) accepted
+      accepts u (paired u s o m) listed (length rs) (text-plain s o m taken (r-known .2)) accepted
       ∙ ap (between (paired u s o m)) (sym (length-append rs (r ∷ [])))
 
 -- ---- the whole listing

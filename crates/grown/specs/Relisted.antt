@@ -9,8 +9,8 @@ use Rattle.store.specs.Table.{Table, fresh, labelNumbered, ruleNumbered}
 use Rattle.store.specs.Layout.{Store, tableOf}
 use Rattle.lists.specs.Reader.{Totals, Call, piece, end-call, done, report, startOn, afterAll, saysAll}
 use Rattle.listing.specs.Listing.{ruleText, listing, listAnswer, listOut}
-use Rattle.listing.specs.declared.Listed.{Listed}
-use Rattle.listing.specs.declared.Listed.the-variants as l
+use Rattle.output.specs.declared.Output.{Output}
+use Rattle.output.specs.declared.Output.the-variants as l
 use Rattle.grown.specs.Grown.{Grown}
 
 -- a rule by the bytes of its labels, and its modes
@@ -42,7 +42,7 @@ pub record LoadsBack (t : Table) (text : List ℕ) : Type 0 where
 -- ---- the same of what the listing call writes, which is asked for one rule at a time, by its number, and is lent a buffer
 
 -- what a call puts at the front of its buffer: as many bytes as it answers, and none where it is refused
-abbrev pub front : Listed → List ℕ → List ℕ
+abbrev pub front : Output → List ℕ → List ℕ
 front (l.Length n) out = take n out
 front (l.Refused n) out = []
 

@@ -18,7 +18,7 @@ use Rattle.lookups.specs.Lookups.{byLabelOf, byLevelOf}
 use Rattle.lookups.specs.declared.Lookup.the-variants as lookup
 use Rattle.lookups.specs.declared.Label.the-variants as label
 use Rattle.listing.specs.Listing.{listAnswer, listOut, labelGiven, labelAnswer}
-use Rattle.listing.specs.declared.Listed.the-variants as listed
+use Rattle.output.specs.declared.Output.the-variants as listed
 use Rattle.access.specs.Access.{shown, questionOf}
 use Rattle.access.specs.declared.Answer.the-variants as a
 use Rattle.load.specs.Loader.{Load, load}
