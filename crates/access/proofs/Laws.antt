@@ -21,10 +21,11 @@ use Rattle.store.specs.declared.Rule.{Rule}
 use Rattle.store.specs.declared.Mapping.{Mapping}
 use Rattle.store.specs.Table.{Table, labelIn, isPair, pairIn, soundRule, soundMapping, soundTable}
 use Rattle.store.specs.Layout.{store, tableOf, ruleAt}
-use Rattle.access.specs.Rules.{holds, bringUp, ruleBetween, modesAt, pairHas, Line, line, firstOf, labelRules, tableRules, sevenRules}
-use Rattle.access.specs.Access.{listed, effective, denied, answered, byTable, decide, byRequest, answer, denialNumber}
+use Rattle.access.specs.Rules.{holds, bringUp, ruleBetween, has-modes, modesFound, modesBetween, modesPass, Clause, rule6, rule7, firstOf, sevenRules, denialNumber}
+use Rattle.access.specs.Access.{listed, effective, denied, answered, decide, byRequest, answer}
+use Rattle.access.specs.Within.{labelRules, tableRules, byTable}
 use Rattle.access.specs.declared.Denial.{Denial}
-use Rattle.access.specs.declared.Denial.the-variants.{NoRule}
+use Rattle.access.specs.declared.Denial.the-variants.{AnyOther}
 use Rattle.access.specs.declared.Verdict.{Verdict}
 use Rattle.access.specs.declared.Verdict.the-variants.{Grants, Denies, Undecided}
 use Rattle.access.specs.declared.Answer.the-variants.{Granted}
@@ -47,9 +48,9 @@ and-with b v p q = sym (ap (λ (x : Bool). x && b) p) ∙ q
 -- ---- what a store holds
 
 -- the modes of a stored rule
-pub stored-modes : (e : List ℕ) (n k : ℕ) → k < n → modesAt (entries (ruleAt e) n) k ≡ getD e (512 + k) 0
+pub stored-modes : (e : List ℕ) (n k : ℕ) → k < n → modesFound (entries (ruleAt e) n) (At k) ≡ has-modes (getD e (512 + k) 0)
 unfolding ruleAt
-stored-modes e n k h = ap (λ (r : Rule). r .modes) (entries-at (ruleAt e) (record { subject = 0; object = 0; modes = 0 }) n k h)
+stored-modes e n k h = ap (λ (r : Rule). has-modes (r .modes)) (entries-at (ruleAt e) (record { subject = 0; object = 0; modes = 0 }) n k h)
 
 -- a search of a table's entries finds one of them
 pub found-below : {A : Type 0} (p : A → Bool) (f : ℕ → A) (n k : ℕ) → first p (entries f n) ≡ At k → k < n
@@ -96,12 +97,12 @@ decides (Grants n b) = true
 decides (Denies by) = true
 decides Undecided = false
 
-abbrev pub allDecide : List Line → Bool
+abbrev pub allDecide : List Clause → Bool
 allDecide [] = true
 allDecide (l ∷ ls) = decides (l .says) && allDecide ls
 
 -- of two runs of rules, each of which decides where it applies, the second is asked where the first says nothing
-pub first-then : (ls rest : List Line) → allDecide ls ≡ true → firstOf (ls ++ rest) ≡ after (firstOf ls) (firstOf rest)
+pub first-then : (ls rest : List Clause) → allDecide ls ≡ true → firstOf (ls ++ rest) ≡ after (firstOf ls) (firstOf rest)
 first-then [] rest e = refl
 first-then (l ∷ ls) rest e =
     let h = and-both (decides (l .says)) (allDecide ls) e in
@@ -118,23 +119,27 @@ first-then (l ∷ ls) rest e =
     by-test false v h ih = ih
 
 module _ (t : Table) (s o : List ℕ) (wanted : ℕ) (capable : Bool) where
-  pub decide-is : (v : Verdict) → firstOf (labelRules s o wanted) ≡ v → decide t s o wanted capable ≡ answered (effective t (labelIn t s) capable) (after v (firstOf (tableRules t (labelIn t s) (labelIn t o) wanted)))
+  pub decide-is : (v : Verdict) → firstOf (labelRules s o wanted) ≡ v → decide t s o wanted capable ≡ answered (effective t (labelIn t s) capable) (after v (firstOf (tableRules s o (modesBetween t s o) wanted)))
   unfolding decide
-  decide-is v e = rw (first-then (labelRules s o wanted) (tableRules t (labelIn t s) (labelIn t o) wanted) refl, e)
+  decide-is v e = rw (first-then (labelRules s o wanted) (tableRules s o (modesBetween t s o) wanted) refl, e)
 
   -- rules 6 and 7, by the place of the pair's rule
-  pub table-none : ruleBetween t (labelIn t s) (labelIn t o) ≡ Nothing → byTable t s o wanted capable ≡ denied (effective t (labelIn t s) capable) NoRule
-  unfolding byTable
+  pub table-none : ruleBetween t (labelIn t s) (labelIn t o) ≡ Nothing → byTable t s o wanted capable ≡ denied (effective t (labelIn t s) capable) AnyOther
+  unfolding byTable modesBetween
   table-none e = rw e
 
-  module _ (k : ℕ) (there : ruleBetween t (labelIn t s) (labelIn t o) ≡ At k) (m : ℕ) (is : modesAt (t .rules) k ≡ m) where
+  module _ (k : ℕ) (there : ruleBetween t (labelIn t s) (labelIn t o) ≡ At k) (m : ℕ) (is : modesFound (t .rules) (At k) ≡ has-modes m) where
+    pair : modesBetween t s o ≡ has-modes m
+    unfolding modesBetween
+    pair = ap (modesFound (t .rules)) there ∙ is
+
     pub table-grants : holds wanted m ≡ true → byTable t s o wanted capable ≡ Granted 6 (bringUp m)
     unfolding byTable
-    table-grants e = rw (there, is, e)
+    table-grants e = rw (pair, e)
 
-    pub table-denies : holds wanted m ≡ false → byTable t s o wanted capable ≡ denied (effective t (labelIn t s) capable) NoRule
+    pub table-denies : holds wanted m ≡ false → byTable t s o wanted capable ≡ denied (effective t (labelIn t s) capable) AnyOther
     unfolding byTable
-    table-denies e = rw (there, is, e)
+    table-denies e = rw (pair, e)
 
 -- ---- override, and where a rule stands, look at no label of the store
 
@@ -167,10 +172,10 @@ shown-as kind n m e = rw e
 -- ---- 01's order, said once more in other words
 
 -- what the first that applies says
-pub first-says : (d : Line) (ls : List Line) (k : ℕ) → first (λ (l : Line). l .applies) ls ≡ At k → firstOf ls ≡ getD ls k d .says
+pub first-says : (d : Clause) (ls : List Clause) (k : ℕ) → first (λ (l : Clause). l .applies) ls ≡ At k → firstOf ls ≡ getD ls k d .says
 unfolding first
 first-says d [] k e = let z : _≡_ {A = ℕ} 0 1 = cc in absurd (omega arith)
-first-says d (l ∷ ls) k e = by-test (l .applies) (first (λ (m : Line). m .applies) ls) (first-says d ls) k e
+first-says d (l ∷ ls) k e = by-test (l .applies) (first (λ (m : Clause). m .applies) ls) (first-says d ls) k e
   where
     by-test :
         (b : Bool) (f : Found) →
@@ -188,16 +193,16 @@ numberOf (Denies by) = denialNumber by
 numberOf Undecided = 0
 
 -- the rules' numbers are their places in the order, from 1
-pub in-order : (t : Table) (s o : List ℕ) (wanted : ℕ) → map (λ (l : Line). numberOf (l .says)) (sevenRules t s o wanted) ≡ 1 ∷ 2 ∷ 3 ∷ 4 ∷ 5 ∷ 6 ∷ 7 ∷ []
+pub in-order : (t : Table) (s o : List ℕ) (wanted : ℕ) → map (λ (l : Clause). numberOf (l .says)) (sevenRules t s o wanted) ≡ 1 ∷ 2 ∷ 3 ∷ 4 ∷ 5 ∷ 6 ∷ 7 ∷ []
 in-order t s o wanted = refl
 
 -- the seventh applies to every question, so none is left undecided
 pub all-decided : (t : Table) (s o : List ℕ) (wanted : ℕ) → decides (firstOf (sevenRules t s o wanted)) ≡ true
 all-decided t s o wanted =
-    let six : List Line = labelRules s o wanted ++ (line (pairHas t (labelIn t s) (labelIn t o) (holds wanted)) (Grants 6 (pairHas t (labelIn t s) (labelIn t o) bringUp)) ∷ []) in
-    ap decides (first-then six (line true (Denies NoRule) ∷ []) refl) ∙ then-decides (firstOf six)
+    let six : List Clause = labelRules s o wanted ++ (rule6 (modesBetween t s o) wanted ∷ []) in
+    ap decides (first-then six (rule7 ∷ []) refl) ∙ then-decides (firstOf six)
   where
-    then-decides : (v : Verdict) → decides (after v (Denies NoRule)) ≡ true
+    then-decides : (v : Verdict) → decides (after v (Denies AnyOther)) ≡ true
     then-decides (Grants n b) = refl
     then-decides (Denies by) = refl
     then-decides Undecided = refl
@@ -329,7 +334,7 @@ module _ (t : Table) (l : List ℕ) (unknown : labelIn t l ≡ Nothing) where
     between-grown s s′ o o′ (inr e) f = rw (e .0, e .1) (new-subject o′)
 
     grown-decide : (s o : List ℕ) (wanted : ℕ) (capable : Bool) → decide (grown t l) s o wanted capable ≡ decide t s o wanted capable
-    unfolding decide
+    unfolding decide modesBetween
     grown-decide s o wanted capable =
         rw (
           effective-grown (labelIn t s) (labelIn (grown t l) s) capable (number-grown s),

@@ -12,27 +12,31 @@ use Rattle.alphabet.specs.Alphabet.{wellFormed}
 use Rattle.modes.specs.Modes.{readModes, requestLetters}
 use Rattle.modes.specs.declared.Access.{Access}
 use Rattle.modes.specs.declared.Access.the-variants.{Modes, Bad}
+use Rattle.refusals.specs.Refusals.{damaged, badLabel, badRequest}
 use Rattle.store.specs.Table.{Table, labelIn}
 use Rattle.store.specs.Layout.{Store, tableOf, undamagedOf}
-use Rattle.access.specs.Rules.{firstOf, tableRules, sevenRules}
+use Rattle.access.specs.Rules.{firstOf, sevenRules, denialNumber}
 use Rattle.access.specs.declared.Denial.{Denial}
-use Rattle.access.specs.declared.Denial.the-variants.{StarSubject, NoRule}
+use Rattle.access.specs.declared.Denial.the-variants.{AnyOther}
 use Rattle.access.specs.declared.Verdict.{Verdict}
 use Rattle.access.specs.declared.Verdict.the-variants.{Grants, Denies, Undecided}
 use Rattle.access.specs.declared.Answer.{Answer}
 use Rattle.access.specs.declared.Answer.the-variants.{Granted, Denied, Override, Refused}
 use Rattle.access.specs.declared.Shown.{Shown}
 
--- whether the onlycap list holds a label, by its first number; a label that is not in the table is on no list
+-- ---- override
+
+-- whether a search found something
 abbrev pub isFound : Found → Bool
 isFound (At k) = true
 isFound Nothing = false
 
+-- whether the onlycap list (01: the override list) holds a label, by its first number; a label that is not in the table is on no list
 abbrev pub listed : List ℕ → Found → Bool
 listed onlycap (At i) = isFound (first (eqb i) onlycap)
 listed onlycap Nothing = false
 
--- override counts only if the asker has it and the list is empty or holds the subject
+-- 01: override counts only if the asker has it and the list is empty or holds the subject
 unfoldable pub effective : Table → Found → Bool → Bool
 effective t s capable = capable && (eqb (length (t .onlycap)) 0 || listed (t .onlycap) s)
 
@@ -40,41 +44,36 @@ effective t s capable = capable && (eqb (length (t .onlycap)) 0 || listed (t .on
 abbrev pub denied : Bool → Denial → Answer
 denied override by = cond override (Override by) (Denied by)
 
--- (the seven rules leave nothing undecided, since the seventh applies to every question)
+-- the answer by what the rules say. (They leave nothing undecided, since the seventh applies to every question)
 abbrev pub answered : Bool → Verdict → Answer
 answered override (Grants n b) = Granted n b
 answered override (Denies by) = denied override by
-answered override Undecided = denied override NoRule
+answered override Undecided = denied override AnyOther
 
+-- a question that is not refused: the first of the seven rules that applies decides
 unfoldable pub decide : Table → List ℕ → List ℕ → ℕ → Bool → Answer
 decide t s o wanted capable = answered (effective t (labelIn t s) capable) (firstOf (sevenRules t s o wanted))
 
--- (the part of it where rules 1 to 5 say nothing)
-unfoldable pub byTable : Table → List ℕ → List ℕ → ℕ → Bool → Answer
-byTable t s o wanted capable = answered (effective t (labelIn t s) capable) (firstOf (tableRules t (labelIn t s) (labelIn t o) wanted))
+-- ---- the refusals: 3 and then 8
 
 -- 8 the request is empty or has another byte than r w x a, either case
 abbrev pub byRequest : Table → List ℕ → List ℕ → Bool → Access → Answer
 byRequest t s o capable (Modes wanted) = decide t s o wanted capable
-byRequest t s o capable Bad = Refused 8
+byRequest t s o capable Bad = Refused badRequest
 
--- 3 a label is not well formed, and then 8
+-- 3 a label is not well formed
 unfoldable pub answer : Table → List ℕ → List ℕ → List ℕ → Bool → Answer
 answer t s o request capable =
     cond (wellFormed s && wellFormed o)
-    (cond (eqb (length request) 0) (Refused 8) (byRequest t s o capable (readModes requestLetters false request)))
-    (Refused 3)
+    (cond (eqb (length request) 0) (Refused badRequest) (byRequest t s o capable (readModes requestLetters false request)))
+    (Refused badLabel)
 
 -- of a lent state: 0 before every other where it is damaged
 unfoldable pub questionOf : Store → List ℕ → List ℕ → List ℕ → Bool → Answer
-questionOf st s o request capable = cond (undamagedOf st) (answer (tableOf st) s o request capable) (Refused 0)
+questionOf st s o request capable = cond (undamagedOf st) (answer (tableOf st) s o request capable) (Refused damaged)
 
 -- 01's number and values for each case. The kinds are numbered here and not by 01: 0 is granted, 1 denied, 2 granted by override, 3 refused; the number is the rule's, or the
 -- refusal's
-abbrev pub denialNumber : Denial → ℕ
-denialNumber StarSubject = 1
-denialNumber NoRule = 7
-
 abbrev pub shown : Answer → Shown
 shown (Granted n b) = record { kind = 0; number = n; bringup = b }
 shown (Denied by) = record { kind = 1; number = denialNumber by; bringup = false }

@@ -1,8 +1,8 @@
--- 01, Questions: the seven rules of the Smack text (source documents 000, 001 and 004, 'Access Rules'), in their order. The first that
--- applies decides, by the whole request. Assumes nothing.
+-- 01, Questions: the seven rules, in the paper's order. Above each stand its sentence of the Smack text (source document 000, section 'Access Rules'; 001 and
+-- 004 have the same words) and 01's. The first that applies decides, by the whole request. Assumes nothing.
 use Prim.Native.Nat.{ℕ}
 use mathlib.Core.Bool.{Bool, true, false, cond, _&&_}
-use mathlib.Core.List.{List, [], _∷_, _++_}
+use mathlib.Core.List.{List, [], _∷_}
 use lib.ListN.{getD}
 use lib.Dec.{eqb}
 use lib.Bits.{bitAnd}
@@ -12,9 +12,12 @@ use Rattle.search.specs.declared.Found.the-variants.{At, Nothing}
 use Rattle.modes.specs.Modes.{readExecute, bringUpLetter}
 use Rattle.store.specs.declared.Rule.{Rule}
 use Rattle.store.specs.Table.{Table, floor, hat, star, labelIn, pairIn}
-use Rattle.access.specs.declared.Denial.the-variants.{StarSubject, NoRule}
+use Rattle.access.specs.declared.Denial.{Denial}
+use Rattle.access.specs.declared.Denial.the-variants.{StarSubject, AnyOther}
 use Rattle.access.specs.declared.Verdict.{Verdict}
 use Rattle.access.specs.declared.Verdict.the-variants.{Grants, Denies, Undecided}
+
+-- ---- what the rules look at: the two labels by their bytes, the request, and the modes of the pair
 
 -- whether modes hold every letter of a request
 abbrev pub holds : ℕ → ℕ → Bool
@@ -34,47 +37,76 @@ ruleBetween t (At i) (At j) = pairIn t i j
 ruleBetween t (At i) Nothing = Nothing
 ruleBetween t Nothing o = Nothing
 
--- the modes of rule k
-abbrev pub modesAt : List Rule → ℕ → ℕ
-modesAt rules k = getD rules k (record { subject = 0; object = 0; modes = 0 }) .modes
+-- the modes of a pair: those of its rule, or that it has none
+pub data PairModes : Type 0 where
+  has-modes : ℕ → PairModes
+  no-rule : PairModes
+
+abbrev pub modesFound : List Rule → Found → PairModes
+modesFound rules (At k) = has-modes (getD rules k (record { subject = 0; object = 0; modes = 0 }) .modes)
+modesFound rules Nothing = no-rule
+
+-- of two labels in a table: each by its first number, and the first rule that names both
+unfoldable pub modesBetween : Table → List ℕ → List ℕ → PairModes
+modesBetween t s o = modesFound (t .rules) (ruleBetween t (labelIn t s) (labelIn t o))
 
 -- whether there is a rule and its modes pass a test
-abbrev pub ruleHas : List Rule → Found → (ℕ → Bool) → Bool
-ruleHas rules (At k) test = test (modesAt rules k)
-ruleHas rules Nothing test = false
+abbrev pub modesPass : PairModes → (ℕ → Bool) → Bool
+modesPass (has-modes m) test = test m
+modesPass no-rule test = false
 
-abbrev pub pairHas : Table → Found → Found → (ℕ → Bool) → Bool
-pairHas t s o test = ruleHas (t .rules) (ruleBetween t s o) test
+-- ---- the seven, of a subject s, an object o, the pair's modes and what is wanted
 
--- a line of the order: when it applies, and what it then says
-pub record Line : Type 0 where
+-- one of them: when it applies, and what it then says
+pub record Clause : Type 0 where
   pub applies : Bool
   pub says : Verdict
 
-abbrev pub line : Bool → Verdict → Line
-line applies says = record { applies = applies; says = says }
+abbrev pub clause : Bool → Verdict → Clause
+clause applies says = record { applies = applies; says = says }
 
--- the first that applies decides
-abbrev pub firstOf : List Line → Verdict
+-- 'Any access requested by a task labeled "*" is denied.' 01: Subject is *: denied.
+abbrev pub rule1 : List ℕ → Clause
+rule1 s = clause (sameBytes s star) (Denies StarSubject)
+
+-- 'A read or execute access requested by a task labeled "^" is permitted.' 01: Subject is ^ and the request has only r and x: granted.
+abbrev pub rule2 : List ℕ → ℕ → Clause
+rule2 s wanted = clause (sameBytes s hat && onlyReadExecute wanted) (Grants 2 false)
+
+-- 'A read or execute access requested on an object labeled "_" is permitted.' 01: Object is _ and the request has only r and x: granted.
+abbrev pub rule3 : List ℕ → ℕ → Clause
+rule3 o wanted = clause (sameBytes o floor && onlyReadExecute wanted) (Grants 3 false)
+
+-- 'Any access requested on an object labeled "*" is permitted.' 01: Object is *: granted.
+abbrev pub rule4 : List ℕ → Clause
+rule4 o = clause (sameBytes o star) (Grants 4 false)
+
+-- 'Any access requested by a task on an object with the same label is permitted.' 01: Subject equals object: granted.
+abbrev pub rule5 : List ℕ → List ℕ → Clause
+rule5 s o = clause (sameBytes s o) (Grants 5 false)
+
+-- 'Any access requested that is explicitly defined in the loaded rule set is permitted.' 01: The pair has a rule whose modes hold every requested
+-- letter: granted. The answer then says whether the rule has b
+abbrev pub rule6 : PairModes → ℕ → Clause
+rule6 pair wanted = clause (modesPass pair (holds wanted)) (Grants 6 (modesPass pair bringUp))
+
+-- 'Any other access is denied.' 01: Denied.
+abbrev pub rule7 : Clause
+rule7 = clause true (Denies AnyOther)
+
+-- in their order
+abbrev pub rulesFor : List ℕ → List ℕ → PairModes → ℕ → List Clause
+rulesFor s o pair wanted = rule1 s ∷ rule2 s wanted ∷ rule3 o wanted ∷ rule4 o ∷ rule5 s o ∷ rule6 pair wanted ∷ rule7 ∷ []
+
+abbrev pub sevenRules : Table → List ℕ → List ℕ → ℕ → List Clause
+sevenRules t s o wanted = rulesFor s o (modesBetween t s o) wanted
+
+-- 01: the first that applies decides
+abbrev pub firstOf : List Clause → Verdict
 firstOf [] = Undecided
-firstOf (l ∷ ls) = cond (l .applies) (l .says) (firstOf ls)
+firstOf (c ∷ cs) = cond (c .applies) (c .says) (firstOf cs)
 
--- 1 to 5 look at the two labels and the request alone
-abbrev pub labelRules : List ℕ → List ℕ → ℕ → List Line
-labelRules s o wanted =
-    line (sameBytes s star) (Denies StarSubject)
-    ∷ line (sameBytes s hat && onlyReadExecute wanted) (Grants 2 false)
-    ∷ line (sameBytes o floor && onlyReadExecute wanted) (Grants 3 false)
-    ∷ line (sameBytes o star) (Grants 4 false)
-    ∷ line (sameBytes s o) (Grants 5 false)
-    ∷ []
-
--- 6 looks at the table, by the numbers of the two labels, and 7 applies to every question
-abbrev pub tableRules : Table → Found → Found → ℕ → List Line
-tableRules t s o wanted =
-    line (pairHas t s o (holds wanted)) (Grants 6 (pairHas t s o bringUp))
-    ∷ line true (Denies NoRule)
-    ∷ []
-
-abbrev pub sevenRules : Table → List ℕ → List ℕ → ℕ → List Line
-sevenRules t s o wanted = labelRules s o wanted ++ tableRules t (labelIn t s) (labelIn t o) wanted
+-- the number of the rule that denies
+abbrev pub denialNumber : Denial → ℕ
+denialNumber StarSubject = 1
+denialNumber AnyOther = 7

@@ -10,13 +10,14 @@ ghost use Rattle.search.specs.Search.{placeOf};
 ghost use Rattle.search.specs.Bytes.{sameBytes};
 ghost use Rattle.store.specs.Layout.{store, tableOf, Sizes};
 ghost use Rattle.store.specs.Within.{Counts};
-ghost use Rattle.access.specs.Rules.{firstOf, labelRules, ruleBetween};
+ghost use Rattle.access.specs.Rules as rules;
 ghost use Rattle.access.specs.Access as access;
+ghost use Rattle.access.specs.Within as within;
 
-// The rule that denies: 1, the subject is *; or 7, nothing grants.
+// The rule that denies: 1, the subject is *; or 7, any other access.
 pub enum Denial {
     StarSubject,
-    NoRule,
+    AnyOther,
 }
 
 // What a run of the rules says: granted, with the rule's number and whether rule 6 found the bring-up mode; denied, with the rule that
@@ -45,11 +46,11 @@ pub struct Shown {
 }
 
 // The labels that have a rule of their own: _ ^ *.
-const FLOOR: u8 = 95;
+const FLOOR: u8 = b'_';
 
-const HAT: u8 = 94;
+const HAT: u8 = b'^';
 
-const STAR: u8 = 42;
+const STAR: u8 = b'*';
 
 // The bits of r and x, of b, and of the letters that a request may have, r w x a.
 const READ_EXECUTE: u8 = 40;
@@ -71,7 +72,7 @@ fn is_mark(label: &[u8], mark: u8) -> bool
 
 // Rules 1 to 5, the first that applies.
 fn by_labels(subject: &[u8], object: &[u8], wanted: u8) -> Verdict
-    ensures { λ r. ⌜ r ≡ firstOf (labelRules (now (subject .entry)) (now (object .entry)) wanted) ⌝ }
+    ensures { λ r. ⌜ r ≡ rules.firstOf (within.labelRules (now (subject .entry)) (now (object .entry)) wanted) ⌝ }
 {
     if is_mark(subject, STAR) {
         return Verdict::Denies(Denial::StarSubject);
@@ -95,7 +96,7 @@ fn by_labels(subject: &[u8], object: &[u8], wanted: u8) -> Verdict
 // tested the store.
 fn find_rule(entries: &[u8], words: &[u64], subject: Found, object: Found) -> Found
     requires { ⌜ (length (now entries) ≡ 840) × (length (now words) ≡ 36) × Counts (now words) × (placeOf subject 0 < 64) × (placeOf object 0 < 64) ⌝ }
-    ensures { λ r. ⌜ r ≡ ruleBetween (tableOf (store [] (now (entries .entry)) (now (words .entry)))) subject object ⌝ }
+    ensures { λ r. ⌜ r ≡ rules.ruleBetween (tableOf (store [] (now (entries .entry)) (now (words .entry)))) subject object ⌝ }
 {
     let Found::At(s) = subject else {
         return Found::Nothing;
@@ -162,19 +163,19 @@ fn by_table(
     capable: bool,
 ) -> Answer
     requires { ⌜ Sizes (now labels) (now entries) (now words) × Counts (now words) ⌝ }
-    ensures { λ r. ⌜ r ≡ access.byTable (tableOf (store (now (labels .entry)) (now (entries .entry)) (now (words .entry)))) (now (subject .entry)) (now (object .entry)) wanted capable ⌝ }
+    ensures { λ r. ⌜ r ≡ within.byTable (tableOf (store (now (labels .entry)) (now (entries .entry)) (now (words .entry)))) (now (subject .entry)) (now (object .entry)) wanted capable ⌝ }
 {
     let count = words[0] as usize;
     let s = places::find_label(labels, count, subject);
     let o = places::find_label(labels, count, object);
     let Found::At(k) = find_rule(entries, words, s, o) else {
-        return denied(entries, words, s, Denial::NoRule, capable);
+        return denied(entries, words, s, Denial::AnyOther, capable);
     };
     let modes = entries[512 + k];
     if wanted & modes == wanted {
         return Answer::Granted(6, BRING_UP & modes == BRING_UP);
     }
-    denied(entries, words, s, Denial::NoRule, capable)
+    denied(entries, words, s, Denial::AnyOther, capable)
 }
 
 // The first of the seven rules that applies decides. Who calls it has tested the store.
@@ -213,30 +214,30 @@ pub fn question(
     ensures { λ r. ⌜ r ≡ access.questionOf (store (now (labels .entry)) (now (entries .entry)) (now (words .entry))) (now (subject .entry)) (now (object .entry)) (now (request .entry)) capable ⌝ }
 {
     if !damage::undamaged(labels, entries, words) {
-        return Answer::Refused(0);
+        return Answer::Refused(refusals::DAMAGED);
     }
     let Found::Nothing = alphabet::label_fault(subject) else {
-        return Answer::Refused(3);
+        return Answer::Refused(refusals::BAD_LABEL);
     };
     let Found::Nothing = alphabet::label_fault(object) else {
-        return Answer::Refused(3);
+        return Answer::Refused(refusals::BAD_LABEL);
     };
     if request.len() == 0 {
-        return Answer::Refused(8);
+        return Answer::Refused(refusals::BAD_REQUEST);
     }
     let Access::Modes(wanted) = modes::read_modes(request, REQUEST, false) else {
-        return Answer::Refused(8);
+        return Answer::Refused(refusals::BAD_REQUEST);
     };
     decide(labels, entries, words, subject, object, wanted, capable)
 }
 
 // The number of the rule that denies.
 fn denial_number(by: Denial) -> u8
-    ensures { λ r. ⌜ r ≡ access.denialNumber by ⌝ }
+    ensures { λ r. ⌜ r ≡ rules.denialNumber by ⌝ }
 {
     match by {
         Denial::StarSubject => 1,
-        Denial::NoRule => 7,
+        Denial::AnyOther => 7,
     }
 }
 

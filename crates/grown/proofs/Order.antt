@@ -11,10 +11,10 @@ use Rattle.search.specs.declared.Found.{Found}
 use Rattle.search.specs.declared.Found.the-variants.{At, Nothing}
 use Rattle.search.proofs.Laws.{no, first-is, first-at, first-before}
 use Rattle.store.specs.Table.{Table, labelIn}
-use Rattle.access.specs.Rules.{Line, line, firstOf, sevenRules}
-use Rattle.access.specs.Access.{effective, answered, answer, denialNumber}
+use Rattle.access.specs.Rules.{Clause, clause, firstOf, sevenRules, denialNumber}
+use Rattle.access.specs.Access.{effective, answered, answer}
 use Rattle.access.specs.declared.Denial.{Denial}
-use Rattle.access.specs.declared.Denial.the-variants.{StarSubject, NoRule}
+use Rattle.access.specs.declared.Denial.the-variants.{StarSubject, AnyOther}
 use Rattle.access.specs.declared.Verdict.{Verdict}
 use Rattle.access.specs.declared.Verdict.the-variants.{Grants, Denies, Undecided}
 use Rattle.access.specs.declared.Answer.the-variants.{Granted, Denied}
@@ -23,13 +23,13 @@ use Rattle.grown.specs.Order.{Asks, FirstSays, ByFirst}
 
 -- ---- a run of rules
 
-abbrev none : Line
-none = line false Undecided
+abbrev none : Clause
+none = clause false Undecided
 
-abbrev applying : List Line → Found
-applying ls = first (λ (l : Line). l .applies) ls
+abbrev applying : List Clause → Found
+applying ls = first (λ (l : Clause). l .applies) ls
 
-none-applies : (ls : List Line) → applying ls ≡ Nothing → firstOf ls ≡ Undecided
+none-applies : (ls : List Clause) → applying ls ≡ Nothing → firstOf ls ≡ Undecided
 unfolding first
 none-applies [] e = refl
 none-applies (l ∷ ls) e = by-test (l .applies) (applying ls) (none-applies ls) e
@@ -40,9 +40,9 @@ none-applies (l ∷ ls) e = by-test (l .applies) (applying ls) (none-applies ls)
     by-test false Nothing ih e = ih refl
 
 -- what the first that applies says, by its number
-pub says-first : (ls : List Line) (k : ℕ) (v : Verdict) → applying ls ≡ At k → firstOf ls ≡ v → FirstSays ls (suc k) v
+pub says-first : (ls : List Clause) (k : ℕ) (v : Verdict) → applying ls ≡ At k → firstOf ls ≡ v → FirstSays ls (suc k) v
 says-first ls k v e q =
-    let h = first-is (λ (l : Line). l .applies) none ls k e in
+    let h = first-is (λ (l : Clause). l .applies) none ls k e in
     record {
       from-one = omega arith;
       among = h .0;
@@ -53,12 +53,12 @@ says-first ls k v e q =
   where
     earlier : (j : ℕ) → 1 ≤ j → j < suc k → Rattle.grown.specs.Order.publishedRule ls j .applies ≡ false
     earlier zero a b = refl
-    earlier (suc j) a b = first-before (λ (l : Line). l .applies) none ls k e j (le-of-suc-le-suc b)
+    earlier (suc j) a b = first-before (λ (l : Clause). l .applies) none ls k e j (le-of-suc-le-suc b)
 
-pub first-told : (ls : List Line) (n : ℕ) (v : Verdict) → FirstSays ls n v → firstOf ls ≡ v
+pub first-told : (ls : List Clause) (n : ℕ) (v : Verdict) → FirstSays ls n v → firstOf ls ≡ v
 first-told ls zero v f = absurd (omega (arith, f .from-one))
 first-told ls (suc k) v f =
-    first-says none ls k (first-at (λ (l : Line). l .applies) none ls k (f .among) (λ j h. f .none-earlier (suc j) (omega arith) (suc-le-suc h)) (f .applies))
+    first-says none ls k (first-at (λ (l : Clause). l .applies) none ls k (f .among) (λ j h. f .none-earlier (suc j) (omega arith) (suc-le-suc h)) (f .applies))
     ∙ f .says
 
 -- ---- the seven
@@ -82,7 +82,7 @@ module _ (t : Table) (s o : List ℕ) (wanted : ℕ) where
   denied-number (suc (suc (suc zero))) h by e = let z : _≡_ {A = ℕ} 0 1 = cc in absurd (omega arith)
   denied-number (suc (suc (suc (suc zero)))) h by e = let z : _≡_ {A = ℕ} 0 1 = cc in absurd (omega arith)
   denied-number (suc (suc (suc (suc (suc zero))))) h by e = let z : _≡_ {A = ℕ} 0 1 = cc in absurd (omega arith)
-  denied-number (suc (suc (suc (suc (suc (suc zero)))))) h by e = let z : by ≡ NoRule = cc in rw z
+  denied-number (suc (suc (suc (suc (suc (suc zero)))))) h by e = let z : by ≡ AnyOther = cc in rw z
   denied-number (suc (suc (suc (suc (suc (suc (suc k))))))) h by e = absurd (omega arith)
 
   -- the number of a verdict that is one of theirs

@@ -27,12 +27,10 @@ use Rattle.lines.specs.Lines.{Said, refused, rule, change, ruleOf, changeOf, ru
 use Rattle.lines.proofs.Laws.{Taken, Sound, rule-sound, change-sound}
 use Rattle.writes.specs.Writes.{ruleJudged, judged, changed}
 use Rattle.store.specs.Judged.{Judged, is-skipped, is-refused, is-accepted, tableAfter}
-use Rattle.access.specs.Rules.{Line, line, ruleBetween, ruleHas, holds, bringUp, firstOf, labelRules, sevenRules}
+use Rattle.access.specs.Rules.{ruleBetween, PairModes, has-modes, no-rule, modesFound, modesBetween, rulesFor, firstOf, sevenRules}
 use Rattle.access.specs.Access.{effective, answered, decide, byRequest, answer}
-use Rattle.access.specs.declared.Denial.the-variants.{NoRule}
-use Rattle.access.specs.declared.Verdict.the-variants.{Grants, Denies}
 use Rattle.access.proofs.Laws.{not-listed, not-subject, not-object}
-use Rattle.grown.specs.Pairs.{SoundTable, Triple, PairModes, has-modes, no-rule, modesFound, modesBetween, modesSoFar, newLabels, hasRule, hasRoom, isAccepted, SetsPair}
+use Rattle.grown.specs.Pairs.{SoundTable, Triple, modesSoFar, newLabels, hasRule, hasRoom, isAccepted, SetsPair}
 use Rattle.grown.proofs.Sane.{subjectAt, objectAt, pairLabels, paired, subject-number, object-number, pair-front, one-label, Paired, rule-paired, change-paired}
 
 -- the table of an undamaged state is sound
@@ -40,23 +38,6 @@ pub undamaged-sound : (st : Store) → undamagedOf st ≡ true → SoundTable (t
 undamaged-sound st u = subst (λ (n : ℕ). soundTable n (tableOf st) ≡ true) (sym (entries-length (labelAt (st .labels)) (getD (st .words) 0 0))) (undamaged-is st u .sound)
 
 -- ---- an answer goes by the pair's modes and the subject's override, and by nothing else of the tables
-
-abbrev pub passes : PairModes → (ℕ → Bool) → Bool
-passes (has-modes m) test = test m
-passes no-rule test = false
-
--- the seven rules, by the pair's modes
-abbrev pub rulesBy : List ℕ → List ℕ → PairModes → ℕ → List Line
-rulesBy s o q wanted = labelRules s o wanted ++ (line (passes q (holds wanted)) (Grants 6 (passes q bringUp)) ∷ line true (Denies NoRule) ∷ [])
-
-has-by : (rules : List Rule) (f : Found) (test : ℕ → Bool) → ruleHas rules f test ≡ passes (modesFound rules f) test
-has-by rules (At k) test = refl
-has-by rules Nothing test = refl
-
-pub seven-by : (t : Table) (s o : List ℕ) (wanted : ℕ) → sevenRules t s o wanted ≡ rulesBy s o (modesBetween t s o) wanted
-unfolding modesBetween
-seven-by t s o wanted =
-    rw (has-by (t .rules) (ruleBetween t (labelIn t s) (labelIn t o)) (holds wanted), has-by (t .rules) (ruleBetween t (labelIn t s) (labelIn t o)) bringUp)
 
 module _
     (t t′ : Table) (s o : List ℕ) (modes : modesBetween t′ s o ≡ modesBetween t s o)
@@ -66,8 +47,7 @@ module _
     unfolding decide
     decide-same wanted capable =
         ap (λ (b : Bool). answered b (firstOf (sevenRules t′ s o wanted))) (override capable)
-        ∙ ap (λ (ls : List Line). answered (effective t (labelIn t s) capable) (firstOf ls))
-        (seven-by t′ s o wanted ∙ ap (λ (q : PairModes). rulesBy s o q wanted) modes ∙ sym (seven-by t s o wanted))
+        ∙ ap (λ (q : PairModes). answered (effective t (labelIn t s) capable) (firstOf (rulesFor s o q wanted))) modes
 
     request-same : (capable : Bool) (a : Access) → byRequest t′ s o capable a ≡ byRequest t s o capable a
     request-same capable (Modes wanted) = decide-same wanted capable
@@ -186,7 +166,7 @@ module _ (t : Table) (s o : List ℕ) (m : ℕ) (taken : Taken s o) (sound : sou
   pair-sets =
       record {
         modes = pair-set;
-        judged-by = λ wanted. seven-by (paired t s o m) s o wanted ∙ ap (λ (q : PairModes). rulesBy s o q wanted) pair-set;
+        judged-by = λ wanted. ap (λ (q : PairModes). rulesFor s o q wanted) pair-set;
         other-answers = λ x y request capable apart. answer-same t (paired t s o m) x y (others-kept x y apart) (override-same x) request capable;
         other-modes = others-kept;
         override = override-same;

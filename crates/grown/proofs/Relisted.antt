@@ -22,14 +22,14 @@ use Rattle.lines.specs.Lines.{rule, ruleOf}
 use Rattle.lines.proofs.Laws.{Taken}
 use Rattle.writes.specs.Writes.{judged}
 use Rattle.store.specs.Judged.{is-accepted, tableAfter}
-use Rattle.access.specs.Rules.{ruleBetween}
+use Rattle.access.specs.Rules.{ruleBetween, no-rule, modesFound, modesBetween}
 use Rattle.access.specs.Access.{isFound}
 use Rattle.lists.specs.Reader.{Reader, Totals, endLine, takeByte, takePiece, finish, limited, limitedTotals, done, report}
 use Rattle.rule_text.specs.RuleText.{lineOf, textOf}
 use Rattle.rule_text.proofs.Laws.{noNewline, text-plain, text-says}
 use Rattle.listing.specs.Listing.{ruleText, textsOf, listing}
 use Rattle.grown.specs.Sane.{twoLabels, Sane}
-use Rattle.grown.specs.Pairs.{no-rule, modesFound, modesBetween, newLabels, hasRoom}
+use Rattle.grown.specs.Pairs.{newLabels, hasRoom}
 use Rattle.grown.specs.Relisted.{Spelled, spell, spelled, allAccepted, LoadsBack}
 use Rattle.grown.proofs.Sane.{same-bytes, sound-parts, enter, enter-once, enter-all, five-front, subjectAt, objectAt, pairLabels, paired, subject-number, object-number, pair-length, pair-front, stored-known, rule-known, paired-sane, rule-paired, fresh-sane}
 use Rattle.grown.proofs.Pairs.{pair-read, rule-accepted, accepted-as, labels-counted}

@@ -10,8 +10,8 @@ use Rattle.alphabet.specs.Alphabet.{wellFormed}
 use Rattle.modes.specs.Modes.{readModes, requestLetters}
 use Rattle.modes.specs.declared.Access.the-variants.{Modes}
 use Rattle.store.specs.Table.{Table}
-use Rattle.access.specs.Rules.{Line, line, sevenRules}
-use Rattle.access.specs.Access.{answer, denialNumber}
+use Rattle.access.specs.Rules.{Clause, clause, sevenRules, denialNumber}
+use Rattle.access.specs.Access.{answer}
 use Rattle.access.specs.declared.Denial.{Denial}
 use Rattle.access.specs.declared.Verdict.{Verdict}
 use Rattle.access.specs.declared.Verdict.the-variants.{Grants, Denies, Undecided}
@@ -25,12 +25,12 @@ pub record Asks (s o request : List ℕ) (wanted : ℕ) : Type 0 where
   pub letters : readModes requestLetters false request ≡ Modes wanted
 
 -- rule number n, from 1
-abbrev pub publishedRule : List Line → ℕ → Line
-publishedRule rules zero = line false Undecided
-publishedRule rules (suc k) = getD rules k (line false Undecided)
+abbrev pub publishedRule : List Clause → ℕ → Clause
+publishedRule rules zero = clause false Undecided
+publishedRule rules (suc k) = getD rules k (clause false Undecided)
 
 -- rule n is the first that applies, and this is what it says
-pub record FirstSays (rules : List Line) (n : ℕ) (v : Verdict) : Type 0 where
+pub record FirstSays (rules : List Clause) (n : ℕ) (v : Verdict) : Type 0 where
   pub from-one : 1 ≤ n
   pub among : n ≤ length rules
   pub applies : publishedRule rules n .applies ≡ true

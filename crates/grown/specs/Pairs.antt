@@ -3,7 +3,7 @@
 use Prim.Native.Nat.{ℕ, _+_, _≤_}
 use mathlib.Core.Bool.{Bool, true, false, _&&_, _||_}
 use mathlib.Core.Path.{_≡_}
-use mathlib.Core.List.{List, [], _∷_, _++_}
+use mathlib.Core.List.{List, [], _∷_}
 use lib.ListN.{length}
 use lib.Dec.{leb, ltb}
 use Rattle.search.specs.declared.Found.{Found}
@@ -11,13 +11,10 @@ use Rattle.search.specs.declared.Found.the-variants.{At, Nothing}
 use Rattle.alphabet.specs.Alphabet.{wellFormed, lineLimit, fields}
 use Rattle.modes.specs.Modes.{readModes, ruleLetters}
 use Rattle.modes.specs.declared.Access.the-variants.{Modes}
-use Rattle.store.specs.declared.Rule.{Rule}
 use Rattle.store.specs.Table.{Table, labelIn, labelLimit, ruleLimit, soundTable}
 use Rattle.store.specs.Judged.{Judged, is-skipped, is-refused, is-accepted}
-use Rattle.access.specs.Rules.{Line, line, ruleBetween, modesAt, holds, bringUp, labelRules, sevenRules}
+use Rattle.access.specs.Rules.{PairModes, has-modes, no-rule, modesBetween, rulesFor, sevenRules}
 use Rattle.access.specs.Access.{effective, answer}
-use Rattle.access.specs.declared.Denial.the-variants.{NoRule}
-use Rattle.access.specs.declared.Verdict.the-variants.{Grants, Denies}
 
 -- what a table has to be for this: every number in it names one of its labels, and no mode or category bit is unknown. Every grown table is so, and so is the
 -- table of every undamaged state
@@ -33,18 +30,6 @@ pub record Triple (text s o : List ℕ) (m : ℕ) : Type 0 where
   pub object : wellFormed o ≡ true
   pub modes : readModes ruleLetters true access ≡ Modes m
   pub different : s ≡ o → ⊥
-
--- the modes of a pair of labels, read as rule 6 reads them: by the first number of each label and the first rule of the two
-pub data PairModes : Type 0 where
-  has-modes : ℕ → PairModes
-  no-rule : PairModes
-
-abbrev pub modesFound : List Rule → Found → PairModes
-modesFound rules (At k) = has-modes (modesAt rules k)
-modesFound rules Nothing = no-rule
-
-unfoldable pub modesBetween : Table → List ℕ → List ℕ → PairModes
-modesBetween t s o = modesFound (t .rules) (ruleBetween t (labelIn t s) (labelIn t o))
 
 -- the modes that a change starts from: those of the pair's rule, or none
 abbrev pub modesSoFar : PairModes → ℕ
@@ -70,15 +55,11 @@ isAccepted is-skipped = false
 isAccepted (is-refused n) = false
 isAccepted (is-accepted t) = true
 
--- the seven rules for a pair with these modes
-abbrev pub rulesFor : List ℕ → List ℕ → ℕ → ℕ → List Line
-rulesFor s o m wanted = labelRules s o wanted ++ (line (holds wanted m) (Grants 6 (bringUp m)) ∷ line true (Denies NoRule) ∷ [])
-
 -- what it does: from table t to table t′
 pub record SetsPair (t t′ : Table) (s o : List ℕ) (m : ℕ) : Type 0 where
   -- it sets the pair's modes, and the pair is from now on judged by them
   pub modes : modesBetween t′ s o ≡ has-modes m
-  pub judged-by : (wanted : ℕ) → sevenRules t′ s o wanted ≡ rulesFor s o m wanted
+  pub judged-by : (wanted : ℕ) → sevenRules t′ s o wanted ≡ rulesFor s o (has-modes m) wanted
   -- no other pair's answer changes, whoever asks for what; nor do its modes
   pub other-answers : (x y request : List ℕ) (capable : Bool) → (x ≡ s → y ≡ o → ⊥) → answer t′ x y request capable ≡ answer t x y request capable
   pub other-modes : (x y : List ℕ) → (x ≡ s → y ≡ o → ⊥) → modesBetween t′ x y ≡ modesBetween t x y

@@ -10,11 +10,12 @@ ghost use Rattle.store.specs.Layout.{Store, tableOf, undamagedOf};
 ghost use Rattle.lines.specs.Lines.{rule, change, ruleOf, changeOf};
 ghost use Rattle.writes.specs.Writes.{judged, changed};
 ghost use Rattle.store.specs.Judged.{is-accepted, tableAfter};
+ghost use Rattle.access.specs.Rules.{modesBetween};
 ghost use Rattle.access.specs.Access.{effective};
 ghost use Rattle.listing.specs.Listing.{listing};
 ghost use Rattle.grown.specs.Grown.{Grown};
 ghost use Rattle.grown.specs.Sane.{Sane};
-ghost use Rattle.grown.specs.Pairs.{SoundTable, Triple, hasRoom, isAccepted, modesBetween, modesSoFar, SetsPair};
+ghost use Rattle.grown.specs.Pairs.{SoundTable, Triple, hasRoom, isAccepted, modesSoFar, SetsPair};
 ghost use Rattle.grown.specs.Order.{Asks, ByFirst};
 ghost use Rattle.grown.specs.Relisted.{LoadsBack, ListedByNumber};
 

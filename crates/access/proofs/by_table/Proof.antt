@@ -9,7 +9,7 @@ use Rattle.search.specs.Bytes.{sameBytes}
 use Rattle.search.specs.declared.Found.the-variants.{At}
 use Rattle.store.specs.Table.{Table, labelIn}
 use Rattle.store.specs.Layout.{store, tableOf, labelAt}
-use Rattle.access.specs.Rules.{ruleBetween, modesAt}
+use Rattle.access.specs.Rules.{ruleBetween, has-modes, modesFound}
 use Rattle.access.proofs.Laws.{place-below, denied-same, between-same, between-below, stored-modes, table-none, table-grants, table-denies}
 use borrow.Author.Needs.{needs}
 use Rattle.access.proofs.by_table.Statement.{statement}
@@ -40,7 +40,7 @@ module _ (c : tie.After-known-told) where
   below : k < getD (S F .args .words .now) 1 0
   below = between-below (S F .args .labels .now) (S F .args .entries .now) (S F .args .words .now) (labelIn (T F) (S F .args .subject .now)) (labelIn (T F) (S F .args .object .now)) k there
 
-  modes : modesAt (T F .rules) k ≡ getD (S F .args .entries .now) (512 + k) 0
+  modes : modesFound (T F .rules) (At k) ≡ has-modes (getD (S F .args .entries .now) (512 + k) 0)
   modes = stored-modes (S F .args .entries .now) (getD (S F .args .words .now) 1 0) k below
 
 shared-slice-read-count : tie.Need-shared-slice-read-count

@@ -2,8 +2,9 @@
 use mathlib.Core.Path.{_≡_, sym, _∙_}
 use Rattle.store.specs.Table.{Table, labelIn}
 use Rattle.store.specs.Layout.{store, tableOf}
-use Rattle.access.specs.Rules.{firstOf, tableRules}
-use Rattle.access.specs.Access.{answered, effective, byTable, decide}
+use Rattle.access.specs.Rules.{modesBetween, firstOf}
+use Rattle.access.specs.Access.{answered, effective, decide}
+use Rattle.access.specs.Within.{tableRules, byTable}
 use Rattle.access.specs.declared.Verdict.{Verdict}
 use Rattle.access.proofs.Laws.{after, denied-same, decide-is}
 use borrow.Author.Needs.{needs}
@@ -22,7 +23,7 @@ module _ (c : tie.After-by-labels) where
       (v : Verdict) →
       c .by-labels .result ≡ v →
       decide T (S .args .subject .now) (S .args .object .now) (S .args .wanted) (S .args .capable)
-      ≡ answered (effective T (labelIn T (S .args .subject .now)) (S .args .capable)) (after v (firstOf (tableRules T (labelIn T (S .args .subject .now)) (labelIn T (S .args .object .now)) (S .args .wanted))))
+      ≡ answered (effective T (labelIn T (S .args .subject .now)) (S .args .capable)) (after v (firstOf (tableRules (S .args .subject .now) (S .args .object .now) (modesBetween T (S .args .subject .now) (S .args .object .now)) (S .args .wanted))))
   decides v e = decide-is T (S .args .subject .now) (S .args .object .now) (S .args .wanted) (S .args .capable) v (sym (c .by-labels .ensures) ∙ e)
 
 by-labels-requires : tie.Need-by-labels-requires
