@@ -1,28 +1,25 @@
 -- Laws of the access check. Assumes nothing.
 use mathlib.Core.Path.{_≡_, refl, sym, ap, _∙_}
 use mathlib.Core.Bool.{Bool, true, false, cond, _&&_, and-true, and-false}
-use mathlib.Core.List.{List, [], _∷_, _++_, map}
-use mathlib.Core.Logic.{_⊎_, inl, inr}
+use mathlib.Core.List.{List, [], _∷_, _++_}
 use Prim.Native.Nat.{ℕ, zero, suc, _+_, _<_, _≤_}
 use native.Mathlib.Omega.{arith}
 use lib.Dec.{eqb, ltb}
-use lib.ListN.{length, getD, length-append}
-use borrow.Author.Tests.{eq-eqb, ne-eqb, lt-ltb, ltb-true}
+use lib.ListN.{length, getD}
+use borrow.Author.Tests.{eq-eqb, ne-eqb, ltb-true}
 use Rattle.search.specs.Search.{first, all, later, entries, placeOf}
 use Rattle.search.specs.Bytes.{sameBytes}
 use Rattle.search.specs.declared.Found.{Found}
 use Rattle.search.specs.declared.Found.the-variants.{At, Nothing}
-use Rattle.search.proofs.Laws.{no, and-both, same-equal, entries-length, entries-at, first-is, first-snoc}
+use Rattle.search.proofs.Laws.{no, and-both, entries-length, entries-at, first-is}
 use Rattle.alphabet.specs.Alphabet.{wellFormed}
 use Rattle.modes.specs.Modes.{readModes, requestLetters}
-use Rattle.modes.specs.declared.Access.{Access}
-use Rattle.modes.specs.declared.Access.the-variants.{Modes, Bad}
+use Rattle.modes.specs.declared.Access.the-variants.{Modes}
 use Rattle.store.specs.declared.Rule.{Rule}
-use Rattle.store.specs.declared.Mapping.{Mapping}
-use Rattle.store.specs.Table.{Table, labelIn, isPair, pairIn, soundRule, soundMapping, soundTable}
+use Rattle.store.specs.Table.{Table, labelIn, isPair, pairIn, soundRule, soundTable}
 use Rattle.store.specs.Layout.{store, tableOf, ruleAt}
-use Rattle.access.specs.Rules.{holds, bringUp, ruleBetween, has-modes, modesFound, modesBetween, modesPass, Clause, rule6, rule7, firstOf, sevenRules, denialNumber}
-use Rattle.access.specs.Access.{listed, effective, denied, answered, decide, byRequest, answer}
+use Rattle.access.specs.Rules.{holds, bringUp, ruleBetween, has-modes, modesFound, modesBetween, Clause, rule6, rule7, firstOf, sevenRules}
+use Rattle.access.specs.Access.{listed, effective, denied, answered, decide, answer}
 use Rattle.access.specs.Within.{labelRules, tableRules, byTable}
 use Rattle.access.specs.declared.Denial.{Denial}
 use Rattle.access.specs.declared.Denial.the-variants.{AnyOther}
@@ -187,15 +184,6 @@ first-says d (l ∷ ls) k e = by-test (l .applies) (first (λ (m : Clause). m .a
     by-test false (At j) ih i q = let z : i ≡ suc j = cc in rw z (ih j refl)
     by-test false Nothing ih i q = let z : _≡_ {A = ℕ} 0 1 = cc in absurd (omega arith)
 
-abbrev numberOf : Verdict → ℕ
-numberOf (Grants n b) = n
-numberOf (Denies by) = denialNumber by
-numberOf Undecided = 0
-
--- the rules' numbers are their places in the order, from 1
-pub in-order : (t : Table) (s o : List ℕ) (wanted : ℕ) → map (λ (l : Clause). numberOf (l .says)) (sevenRules t s o wanted) ≡ 1 ∷ 2 ∷ 3 ∷ 4 ∷ 5 ∷ 6 ∷ 7 ∷ []
-in-order t s o wanted = refl
-
 -- the seventh applies to every question, so none is left undecided
 pub all-decided : (t : Table) (s o : List ℕ) (wanted : ℕ) → decides (firstOf (sevenRules t s o wanted)) ≡ true
 all-decided t s o wanted =
@@ -218,27 +206,7 @@ module _ (t : Table) (s o request : List ℕ) (capable : Bool) (wanted : ℕ) wh
   unfolding answer decide
   answer-is hs ho some read = rw (hs, ho, ne-eqb (length request) 0 some, read)
 
-  -- demand 2: without an effective override it is granted exactly where the first of the seven rules that applies grants it
-  pub first-rule :
-      wellFormed s ≡ true →
-      wellFormed o ≡ true →
-      (length request ≡ 0 → ⊥) →
-      readModes requestLetters false request ≡ Modes wanted →
-      effective t (labelIn t s) capable ≡ false →
-      (n : ℕ) (b : Bool) →
-      (answer t s o request capable ≡ Granted n b → firstOf (sevenRules t s o wanted) ≡ Grants n b)
-      × (firstOf (sevenRules t s o wanted) ≡ Grants n b → answer t s o request capable ≡ Granted n b)
-  first-rule hs ho some read off n b = (λ e. there (firstOf (sevenRules t s o wanted)) (sym (is ∙ rw off) ∙ e), λ e. is ∙ rw e)
-    where
-      is : answer t s o request capable ≡ answered (effective t (labelIn t s) capable) (firstOf (sevenRules t s o wanted))
-      is = answer-is hs ho some read
-
-      there : (v : Verdict) → answered false v ≡ Granted n b → v ≡ Grants n b
-      there (Grants m c) q = let p : m ≡ n = cc in let r : c ≡ b = cc in rw (p, r)
-      there (Denies by) q = let z : _≡_ {A = ℕ} 0 1 = cc in absurd (omega arith)
-      there Undecided q = let z : _≡_ {A = ℕ} 0 1 = cc in absurd (omega arith)
-
--- ---- a label that enters changes no answer
+-- ---- a number that no entry of a sound table names
 
 -- nothing passes a test that fails whatever passes another
 none-pass : {A : Type 0} (p q : A → Bool) (l : List A) → all q l ≡ true → ((x : A) → q x ≡ true → p x ≡ false) → first p l ≡ Nothing
@@ -275,113 +243,3 @@ module _ (t : Table) (n : ℕ) (sound : soundTable n t ≡ true) where
 
   pub not-object : (i : ℕ) → pairIn t i n ≡ Nothing
   not-object i = none-pass (isPair i n) (soundRule n) (t .rules) (sound-parts .0) (λ r h. beyond n i r h .1)
-
--- a table that one more label has entered
-abbrev pub grown : Table → List ℕ → Table
-grown t l = record { labels = t .labels ++ (l ∷ []); rules = t .rules; mappings = t .mappings; onlycap = t .onlycap }
-
--- an entry that passes the test, put last where none does, is found
-first-new : {A : Type 0} (p : A → Bool) (l : List A) (x : A) → first p l ≡ Nothing → p x ≡ true → first p (l ++ (x ∷ [])) ≡ At (length l)
-unfolding first
-first-new p [] x e h = rw h
-first-new p (y ∷ ys) x e h = by-test (p y) (first p ys) (first p (ys ++ (x ∷ []))) (λ q. first-new p ys x q h) e
-  where
-    by-test : (b : Bool) (f g : Found) → (f ≡ Nothing → g ≡ At (length ys)) → cond b (At zero) (later f) ≡ Nothing → cond b (At zero) (later g) ≡ At (suc (length ys))
-    by-test true f g ih q = let z : _≡_ {A = ℕ} 0 1 = cc in absurd (omega arith)
-    by-test false (At j) g ih q = let z : _≡_ {A = ℕ} 0 1 = cc in absurd (omega arith)
-    by-test false Nothing g ih q = rw (ih refl)
-
-module _ (t : Table) (l : List ℕ) (unknown : labelIn t l ≡ Nothing) where
-  -- a label has the number that it had, or it is the one that entered
-  pub number-grown : (s : List ℕ) → (labelIn (grown t l) s ≡ labelIn t s) ⊎ ((labelIn t s ≡ Nothing) × (labelIn (grown t l) s ≡ At (length (t .labels))))
-  number-grown s = by-test (sameBytes s l) refl
-    where
-      by-test : (b : Bool) → sameBytes s l ≡ b → (labelIn (grown t l) s ≡ labelIn t s) ⊎ ((labelIn t s ≡ Nothing) × (labelIn (grown t l) s ≡ At (length (t .labels))))
-      by-test false e = inl (first-snoc (sameBytes s) (t .labels) l e)
-      by-test true e =
-          let n : labelIn t s ≡ Nothing = rw (same-equal s l e) unknown in
-          inr (n, first-new (sameBytes s) (t .labels) l n e)
-
-  module _ (sound : soundTable (length (t .labels)) t ≡ true) where
-    effective-grown :
-        (f f′ : Found) (capable : Bool) →
-        (f′ ≡ f) ⊎ ((f ≡ Nothing) × (f′ ≡ At (length (t .labels)))) →
-        effective (grown t l) f′ capable ≡ effective t f capable
-    unfolding effective
-    effective-grown f f′ capable (inl e) = rw e
-    effective-grown f f′ capable (inr e) = rw (e .0, e .1, not-listed t (length (t .labels)) sound)
-
-    same-between : (s o : Found) → ruleBetween (grown t l) s o ≡ ruleBetween t s o
-    same-between (At i) (At j) = refl
-    same-between (At i) Nothing = refl
-    same-between Nothing o = refl
-
-    new-subject : (o : Found) → ruleBetween (grown t l) (At (length (t .labels))) o ≡ Nothing
-    new-subject (At j) = not-subject t (length (t .labels)) sound j
-    new-subject Nothing = refl
-
-    new-object : (s : Found) → ruleBetween (grown t l) s (At (length (t .labels))) ≡ ruleBetween t s Nothing
-    new-object (At i) = not-object t (length (t .labels)) sound i
-    new-object Nothing = refl
-
-    between-grown :
-        (s s′ o o′ : Found) →
-        (s′ ≡ s) ⊎ ((s ≡ Nothing) × (s′ ≡ At (length (t .labels)))) →
-        (o′ ≡ o) ⊎ ((o ≡ Nothing) × (o′ ≡ At (length (t .labels)))) →
-        ruleBetween (grown t l) s′ o′ ≡ ruleBetween t s o
-    between-grown s s′ o o′ (inl e) (inl f) = rw (e, f) (same-between s o)
-    between-grown s s′ o o′ (inl e) (inr f) = rw (e, f .0, f .1) (new-object s)
-    between-grown s s′ o o′ (inr e) f = rw (e .0, e .1) (new-subject o′)
-
-    grown-decide : (s o : List ℕ) (wanted : ℕ) (capable : Bool) → decide (grown t l) s o wanted capable ≡ decide t s o wanted capable
-    unfolding decide modesBetween
-    grown-decide s o wanted capable =
-        rw (
-          effective-grown (labelIn t s) (labelIn (grown t l) s) capable (number-grown s),
-          between-grown (labelIn t s) (labelIn (grown t l) s) (labelIn t o) (labelIn (grown t l) o) (number-grown s) (number-grown o),
-        )
-
-    grown-request : (s o : List ℕ) (capable : Bool) (a : Access) → byRequest (grown t l) s o capable a ≡ byRequest t s o capable a
-    grown-request s o capable (Modes wanted) = grown-decide s o wanted capable
-    grown-request s o capable Bad = refl
-
-    pub grown-answer : (s o request : List ℕ) (capable : Bool) → answer (grown t l) s o request capable ≡ answer t s o request capable
-    unfolding answer
-    grown-answer s o request capable = rw (grown-request s o capable (readModes requestLetters false request))
-
--- and the table stays sound
-all-more : {A : Type 0} (p q : A → Bool) (l : List A) → ((x : A) → p x ≡ true → q x ≡ true) → all p l ≡ true → all q l ≡ true
-unfolding all
-all-more p q [] h e = refl
-all-more p q (x ∷ xs) h e =
-    let b = and-both (p x) (all p xs) e in
-    rw (h x (b .0), all-more p q xs h (b .1))
-
-ltb-more : (k n m : ℕ) → n ≤ m → ltb k n ≡ true → ltb k m ≡ true
-ltb-more k n m h e = lt-ltb k m (omega (arith, ltb-true k n e))
-
-pub sound-more : (t : Table) (n m : ℕ) → n ≤ m → soundTable n t ≡ true → soundTable m t ≡ true
-unfolding soundTable soundRule soundMapping
-sound-more t n m h e =
-    let a = and-both _ _ e in
-    let b = and-both _ _ (a .0) in
-    rw (
-      all-more (soundRule n) (soundRule m) (t .rules) rule (b .0),
-      all-more (soundMapping n) (soundMapping m) (t .mappings) mapping (b .1),
-    )
-    (all-more (λ (k : ℕ). ltb k n) (λ (k : ℕ). ltb k m) (t .onlycap) (λ k q. ltb-more k n m h q) (a .1))
-  where
-    rule : (r : Rule) → soundRule n r ≡ true → soundRule m r ≡ true
-    rule r q =
-        let a = and-both _ _ q in
-        let b = and-both _ _ (a .0) in
-        rw (ltb-more (r .subject) n m h (b .0), ltb-more (r .object) n m h (b .1)) (a .1)
-
-    mapping : (p : Mapping) → soundMapping n p ≡ true → soundMapping m p ≡ true
-    mapping p q =
-        let a = and-both _ _ q in
-        rw (ltb-more (p .label) n m h (a .0)) (a .1)
-
-pub grown-sound : (t : Table) (l : List ℕ) → soundTable (length (t .labels)) t ≡ true → soundTable (length (grown t l .labels)) (grown t l) ≡ true
-unfolding soundTable
-grown-sound t l e = sound-more t (length (t .labels)) (length (t .labels ++ (l ∷ []))) (omega (arith, length-append (t .labels) (l ∷ []))) e

@@ -1,6 +1,6 @@
 -- Laws of the host's interface. The loader that a host goes on with is the one that the callee's contract speaks of, and a
 -- label stands in its place where the interface says. Assumes nothing.
-use mathlib.Core.Path.{_≡_, refl, sym, ap, _∙_}
+use mathlib.Core.Path.{_≡_, refl, ap, _∙_}
 use Rattle.reports.specs.declared.Loader.{Loader}
 use Rattle.load.specs.declared.Fed.{Fed}
 use Rattle.load.specs.declared.Fed.the-variants as fed

@@ -1,26 +1,26 @@
 -- Laws of the look-ups, and of the lowest label of a run. Assumes nothing.
-use mathlib.Core.Path.{_≡_, refl, sym, ap, _∙_, subst}
-use mathlib.Core.Bool.{Bool, true, false, cond, _&&_, and-false}
+use mathlib.Core.Path.{_≡_, refl, sym, ap, _∙_}
+use mathlib.Core.Bool.{Bool, true, false, cond, _&&_}
 use mathlib.Core.List.{List, [], _∷_, foldl, List·Memᴰ, List·Memᴰ·head, List·Memᴰ·tail, List·Memᴰ·not-nil, List·Memᴰ·cases-cons}
 use mathlib.Core.Logic.{_⊎_, inl, inr, ⊎-elim}
-use Prim.Native.Nat.{ℕ, _+_, _*_, _%_, _<_, _≤_}
+use Prim.Native.Nat.{ℕ, _+_, _%_, _<_, _≤_}
 use native.Mathlib.Omega.{arith}
 use lib.Dec.{eqb, leb, ltb}
-use borrow.Author.Tests.{eqb-true, eq-eqb, ne-eqb, leb-true, le-leb, lt-leb, ltb-true, ltb-false, lt-ltb, le-ltb}
+use borrow.Author.Tests.{eqb-true, eq-eqb, ne-eqb, le-leb, lt-leb, ltb-true, ltb-false}
 use lib.ListN.{length, getD}
 use Rattle.search.specs.Search.{first, all, entries}
 use Rattle.search.specs.Bytes.{sameBytes}
 use Rattle.search.specs.declared.Found.{Found}
 use Rattle.search.specs.declared.Found.the-variants.{At, Nothing}
 use Rattle.search.proofs.Laws.{no, and-both, all-at, first-is, entries-length, entries-at, found-at, found-none}
-use Rattle.alphabet.specs.Alphabet.{wellFormed, faultOf}
+use Rattle.alphabet.specs.Alphabet.{faultOf}
 use Rattle.alphabet.proofs.Laws.{fault-formed, fault-unformed}
 use Rattle.numbers.specs.Categories.{categories}
 use Rattle.store.specs.declared.Mapping.{Mapping}
-use Rattle.store.specs.Table.{Table, labelIn, soundRule, soundMapping, soundTable}
+use Rattle.store.specs.Table.{soundRule, soundMapping, soundTable}
 use Rattle.store.specs.Layout.{Store, store, labelAt, ruleAt, mappingAt, onlycapAt, tableOf, undamagedOf}
-use Rattle.store.proofs.Laws.{Undamaged, undamaged-is, is-undamaged}
-use Rattle.cipso.specs.Cipso.{noCategories, isLevel, names, mappingIn}
+use Rattle.store.proofs.Laws.{undamaged-is}
+use Rattle.cipso.specs.Cipso.{noCategories, names}
 use Rattle.lookups.specs.Lowest.{Lowest, Unmatched}
 use Rattle.lookups.specs.Lookups.{mappedAs, lookedUp, lookupBy, labelLookup, byLabelOf, bothEqual, mappedTo, foundAt, hasBoth, numbered, levelLookup, byLevelOf, matches, lowerLabel, lowerOf, lowestOf}
 use Rattle.lookups.specs.declared.Lookup.the-variants as lookup

@@ -2,7 +2,7 @@
 -- records is made of. Refusals 0, 3 and 9. Assumes nothing.
 use Prim.Native.Nat.{ℕ}
 use mathlib.Core.Bool.{Bool, false, cond, _&&_}
-use mathlib.Core.List.{List, [], _∷_, foldl}
+use mathlib.Core.List.{List, foldl}
 use lib.ListN.{length, getD}
 use lib.Dec.{eqb, ltb}
 use Rattle.search.specs.Search.{first, entries}

@@ -1,14 +1,14 @@
 -- `host::bq_label` meets its contract: where the check says done the number names a stored label, and that stands in its place. Assumes nothing.
 use Prim.Native.Nat.{ℕ, _*_, _+_, _<_}
-use mathlib.Core.Path.{_≡_, sym, ap, _∙_}
-use mathlib.Core.List.{List, []}
+use mathlib.Core.Path.{sym, ap, _∙_}
+use mathlib.Core.List.{List}
 use borrow.Author.Needs.{needs}
 use native.Mathlib.Omega.{arith}
 use lib.ListN.{getD, length, take, drop}
-use Rattle.store.specs.Layout.{Store, store, labelAt}
+use Rattle.store.specs.Layout.{Store, store}
 use Rattle.store.proofs.Laws.{Undamaged}
 use Rattle.store.specs.declared.Done.the-variants as d
-use Rattle.listing.specs.Listing.{labelGiven, labelAnswer}
+use Rattle.listing.specs.Listing.{labelGiven}
 use Rattle.listing.proofs.Laws.{label-done, label-is, label-refused}
 use Rattle.answers.specs.Answers.{partShown}
 use Rattle.host.proofs.Laws.{label-stands}

@@ -1,7 +1,7 @@
 -- `places::block_holds` meets its contract: after i turns `any` tells of the first i places of the block. Assumes nothing.
-use Prim.Native.Nat.{ℕ, _+_, _≤_, _<_, _-_}
+use Prim.Native.Nat.{_≤_, _-_}
 use mathlib.Core.Path.{_≡_}
-use mathlib.Core.Bool.{Bool, false}
+use mathlib.Core.Bool.{false}
 use borrow.Author.Count.{below-more}
 use native.Mathlib.Omega.{arith}
 use Rattle.store.specs.Table.{isPair}

@@ -1,7 +1,7 @@
 -- `places::find_pair` meets its contract: no rule passed is the pair's. Assumes nothing.
-use Prim.Native.Nat.{ℕ, _≤_, _<_, _-_}
+use Prim.Native.Nat.{ℕ, _<_, _-_}
 use mathlib.Core.Path.{_≡_, sym}
-use mathlib.Core.Bool.{true, false}
+use mathlib.Core.Bool.{false}
 use borrow.Author.Count.{below-more}
 use Rattle.search.proofs.Laws.{found-at, found-none}
 use Rattle.store.specs.Table.{isPair}
