@@ -4,11 +4,12 @@ use modes::Access;
 use search::Found;
 ghost use mathlib.Core.Path.{_≡_};
 ghost use mathlib.Core.List.{[], _∷_};
-ghost use Prim.Native.Nat.{_<_};
+ghost use Prim.Native.Nat.{_+_, _<_, _≤_};
 ghost use lib.ListN.{length};
 ghost use Rattle.search.specs.Search.{placeOf};
 ghost use Rattle.search.specs.Bytes.{sameBytes};
-ghost use Rattle.store.specs.Layout.{store, tableOf, Sizes};
+ghost use Rattle.store.specs.Table.{labelLimit, ruleLimit, onlycapLimit};
+ghost use Rattle.store.specs.Layout.{store, lent, modesFrom, onlycapFrom, setsFrom, tableOf, Sizes};
 ghost use Rattle.store.specs.Within.{Counts};
 ghost use Rattle.access.specs.Rules as rules;
 ghost use Rattle.access.specs.Access as access;
@@ -95,7 +96,8 @@ fn by_labels(subject: &[u8], object: &[u8], wanted: u8) -> Verdict
 // Where the rule of two labels that were sought stands: only numbers are compared, and nothing where a label has none. Who calls it has
 // tested the store.
 fn find_rule(entries: &[u8], words: &[u64], subject: Found, object: Found) -> Found
-    requires { ⌜ (length (now entries) ≡ 840) × (length (now words) ≡ 36) × Counts (now words) × (placeOf subject 0 < 64) × (placeOf object 0 < 64) ⌝ }
+    requires { ⌜ (modesFrom + ruleLimit ≤ length (now entries)) × (setsFrom ≤ length (now words)) × Counts (now words) ⌝ }
+    requires { ⌜ (placeOf subject 0 < labelLimit) × (placeOf object 0 < labelLimit) ⌝ }
     ensures { λ r. ⌜ r ≡ rules.ruleBetween (tableOf (store [] (now (entries .entry)) (now (words .entry)))) subject object ⌝ }
 {
     let Found::At(s) = subject else {
@@ -104,21 +106,21 @@ fn find_rule(entries: &[u8], words: &[u64], subject: Found, object: Found) -> Fo
     let Found::At(o) = object else {
         return Found::Nothing;
     };
-    places::find_pair(entries, words[1] as usize, s as u8, o as u8)
+    places::find_pair(entries, words[store::RULE_COUNT] as usize, s as u8, o as u8)
 }
 
 // Whether the onlycap list holds a label, by its number. Who calls it has tested the store.
 fn listed(entries: &[u8], words: &[u64], subject: Found) -> bool
-    requires { ⌜ (length (now entries) ≡ 840) × (length (now words) ≡ 36) × Counts (now words) ⌝ }
+    requires { ⌜ (onlycapFrom + onlycapLimit ≤ length (now entries)) × (setsFrom ≤ length (now words)) × Counts (now words) ⌝ }
     ensures { λ r. ⌜ r ≡ access.listed (tableOf (store [] (now (entries .entry)) (now (words .entry))) .onlycap) subject ⌝ }
 {
     let Found::At(s) = subject else {
         return false;
     };
-    let count = words[3] as usize;
+    let count = words[store::ONLYCAP_COUNT] as usize;
     let mut i = 0;
     while i < count {
-        if s == entries[832 + i] as usize {
+        if s == entries[store::ONLYCAP_FROM + i] as usize {
             return true;
         }
         i += 1;
@@ -129,13 +131,13 @@ fn listed(entries: &[u8], words: &[u64], subject: Found) -> bool
 // Whether override counts after a denial: the asker has it, and the onlycap list is empty or holds the subject. Who calls it has tested the
 // store.
 fn effective(entries: &[u8], words: &[u64], subject: Found, capable: bool) -> bool
-    requires { ⌜ (length (now entries) ≡ 840) × (length (now words) ≡ 36) × Counts (now words) ⌝ }
+    requires { ⌜ (onlycapFrom + onlycapLimit ≤ length (now entries)) × (setsFrom ≤ length (now words)) × Counts (now words) ⌝ }
     ensures { λ r. ⌜ r ≡ access.effective (tableOf (store [] (now (entries .entry)) (now (words .entry)))) subject capable ⌝ }
 {
     if !capable {
         return false;
     }
-    if words[3] == 0 {
+    if words[store::ONLYCAP_COUNT] == 0 {
         return true;
     }
     listed(entries, words, subject)
@@ -143,7 +145,7 @@ fn effective(entries: &[u8], words: &[u64], subject: Found, capable: bool) -> bo
 
 // The answer after a denial. Who calls it has tested the store.
 fn denied(entries: &[u8], words: &[u64], subject: Found, by: Denial, capable: bool) -> Answer
-    requires { ⌜ (length (now entries) ≡ 840) × (length (now words) ≡ 36) × Counts (now words) ⌝ }
+    requires { ⌜ (onlycapFrom + onlycapLimit ≤ length (now entries)) × (setsFrom ≤ length (now words)) × Counts (now words) ⌝ }
     ensures { λ r. ⌜ r ≡ access.denied (access.effective (tableOf (store [] (now (entries .entry)) (now (words .entry)))) subject capable) by ⌝ }
 {
     if effective(entries, words, subject, capable) {
@@ -163,15 +165,15 @@ fn by_table(
     capable: bool,
 ) -> Answer
     requires { ⌜ Sizes (now labels) (now entries) (now words) × Counts (now words) ⌝ }
-    ensures { λ r. ⌜ r ≡ within.byTable (tableOf (store (now (labels .entry)) (now (entries .entry)) (now (words .entry)))) (now (subject .entry)) (now (object .entry)) wanted capable ⌝ }
+    ensures { λ r. ⌜ r ≡ within.byTable (tableOf (lent labels entries words)) (now (subject .entry)) (now (object .entry)) wanted capable ⌝ }
 {
-    let count = words[0] as usize;
+    let count = words[store::LABEL_COUNT] as usize;
     let s = places::find_label(labels, count, subject);
     let o = places::find_label(labels, count, object);
     let Found::At(k) = find_rule(entries, words, s, o) else {
         return denied(entries, words, s, Denial::AnyOther, capable);
     };
-    let modes = entries[512 + k];
+    let modes = entries[store::MODES_FROM + k];
     if wanted & modes == wanted {
         return Answer::Granted(6, BRING_UP & modes == BRING_UP);
     }
@@ -189,12 +191,12 @@ fn decide(
     capable: bool,
 ) -> Answer
     requires { ⌜ Sizes (now labels) (now entries) (now words) × Counts (now words) ⌝ }
-    ensures { λ r. ⌜ r ≡ access.decide (tableOf (store (now (labels .entry)) (now (entries .entry)) (now (words .entry)))) (now (subject .entry)) (now (object .entry)) wanted capable ⌝ }
+    ensures { λ r. ⌜ r ≡ access.decide (tableOf (lent labels entries words)) (now (subject .entry)) (now (object .entry)) wanted capable ⌝ }
 {
     match by_labels(subject, object, wanted) {
         Verdict::Grants(rule, b) => Answer::Granted(rule, b),
         Verdict::Denies(by) => {
-            let s = places::find_label(labels, words[0] as usize, subject);
+            let s = places::find_label(labels, words[store::LABEL_COUNT] as usize, subject);
             denied(entries, words, s, by, capable)
         }
         Verdict::Undecided => by_table(labels, entries, words, subject, object, wanted, capable),
@@ -211,7 +213,7 @@ pub fn question(
     request: &[u8],
     capable: bool,
 ) -> Answer
-    ensures { λ r. ⌜ r ≡ access.questionOf (store (now (labels .entry)) (now (entries .entry)) (now (words .entry))) (now (subject .entry)) (now (object .entry)) (now (request .entry)) capable ⌝ }
+    ensures { λ r. ⌜ r ≡ access.questionOf (lent labels entries words) (now (subject .entry)) (now (object .entry)) (now (request .entry)) capable ⌝ }
 {
     if !damage::undamaged(labels, entries, words) {
         return Answer::Refused(refusals::DAMAGED);

@@ -15,7 +15,7 @@ use Rattle.store.specs.declared.Mapping.{Mapping}
 use Rattle.store.specs.Table.{soundRule, soundMapping, soundTable}
 use Rattle.store.specs.Layout.{store, ruleAt, mappingAt, onlycapAt, tableOf}
 use Rattle.store.specs.Within.{Counts}
-use Rattle.damage.specs.Bounds.{Within}
+use Rattle.damage.specs.Within.{Bounded}
 
 -- two tests in one pass are the two passes
 pub all-and : {A : Type 0} (p q : A → Bool) (l : List A) → all (λ (x : A). p x && q x) l ≡ (all p l && all q l)
@@ -57,7 +57,7 @@ all-entries p f zero h = refl
 all-entries p f (suc n) h = all-snoc p (entries f n) (f n) ∙ rw (all-entries p f n (λ k kh. h k (omega arith)), h n (omega arith))
 
 -- the test of the rules: three runs of numbers
-module _ (n m : ℕ) (e : List ℕ) (size : length e ≡ 840) (few : m ≤ 256) where
+module _ (n m : ℕ) (e : List ℕ) (size : 768 ≤ length e) (few : m ≤ 256) where
   pub rule-runs :
       all (soundRule n) (entries (ruleAt e) m)
       ≡ ((all (λ (x : ℕ). ltb x n) (take m (take 256 (drop 0 e))) && all (λ (x : ℕ). ltb x n) (take m (take 256 (drop 256 e))))
@@ -73,7 +73,7 @@ module _ (n m : ℕ) (e : List ℕ) (size : length e ≡ 840) (few : m ≤ 256) 
       )
 
 -- rules are sound where none exceeds numbers that are small enough
-pub rules-within : (n m label modes : ℕ) (e : List ℕ) → ((k : ℕ) → k < m → Within e k label modes) → label < n → modes < 64 → all (soundRule n) (entries (ruleAt e) m) ≡ true
+pub rules-within : (n m label modes : ℕ) (e : List ℕ) → ((k : ℕ) → k < m → Bounded e k label modes) → label < n → modes < 64 → all (soundRule n) (entries (ruleAt e) m) ≡ true
 unfolding soundRule ruleAt
 rules-within n m label modes e h few known =
     all-entries (soundRule n) (ruleAt e) m
@@ -84,8 +84,8 @@ rules-within n m label modes e h few known =
 -- the test of the damage check: the rules, two runs of numbers and one of sets
 pub sound-runs :
     (n : ℕ) (e w : List ℕ) →
-    length e ≡ 840 →
-    length w ≡ 36 →
+    840 ≤ length e →
+    36 ≤ length w →
     Counts w →
     soundTable n (tableOf (store [] e w))
     ≡ ((all (soundRule n) (entries (ruleAt e) (getD w 1 0))

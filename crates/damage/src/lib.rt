@@ -1,14 +1,22 @@
 // The damage test (01: refusal 0): every call makes it first, of the whole lent state.
 ghost use mathlib.Core.Path.{_≡_};
-ghost use Prim.Native.Nat.{ℕ, _%_, _<_, _≤_};
+ghost use Prim.Native.Nat.{ℕ, _+_, _%_, _<_, _≤_};
 ghost use lib.ListN.{length, getD, take};
 ghost use lib.Dec.{eqb};
 ghost use mathlib.Core.List.{[]};
 ghost use Rattle.search.specs.Search.{all, entries as listed};
-ghost use Rattle.store.specs.Table.{soundRule, soundTable};
-ghost use Rattle.store.specs.Layout.{store, ruleAt, tableOf, undamagedOf};
+ghost use Rattle.store.specs.Table.{soundRule, soundTable, ruleLimit, mappingLimit, onlycapLimit};
+ghost use Rattle.store.specs.Layout.{store, lent, modesFrom, onlycapFrom, setsFrom, ruleAt, tableOf, undamagedOf};
 ghost use Rattle.store.specs.Within.{Counts};
-ghost use Rattle.damage.specs.Bounds.{Within};
+ghost use Rattle.damage.specs.Within.{Bounded};
+
+// What no known modes reach: there are six letters, each a bit.
+const MODES_END: u8 = 64;
+
+// Where the mappings' sets and the onlycap list end.
+const SETS_TO: usize = store::SETS_FROM + store::MAPPING_LIMIT;
+
+const ONLYCAP_TO: usize = store::ONLYCAP_FROM + store::ONLYCAP_LIMIT;
 
 // Whether the first `count` words of a run are all even: no set has the bit that names no category. It reads all of them, so that the
 // compiler can take many at a time. Who calls it has made sure that the run has that many.
@@ -41,15 +49,15 @@ struct Bounds {
 // The largest numbers of the first `count` rules. It reads all of them, so that the compiler can take many at a time. Its contract says that no rule
 // exceeds them, which is all that is needed where they are small enough. Who calls it has tested the sizes.
 fn largest(entries: &[u8], count: usize) -> Bounds
-    requires { ⌜ (length (now entries) ≡ 840) × (count ≤ 256) ⌝ }
-    ensures { λ r. ⌜ ((k : ℕ) → k < count → Within (now (entries .entry)) k (r .label) (r .modes)) ⌝ }
+    requires { ⌜ (modesFrom + ruleLimit ≤ length (now entries)) × (count ≤ ruleLimit) ⌝ }
+    ensures { λ r. ⌜ ((k : ℕ) → k < count → Bounded (now (entries .entry)) k (r .label) (r .modes)) ⌝ }
 {
     let mut label = 0;
     let mut modes = 0;
     let mut i = 0;
     while i < count {
-        label = larger(label, larger(entries[i], entries[256 + i]));
-        modes = larger(modes, entries[512 + i]);
+        label = larger(label, larger(entries[i], entries[store::OBJECTS_FROM + i]));
+        modes = larger(modes, entries[store::MODES_FROM + i]);
         i += 1;
     }
     Bounds { label, modes }
@@ -58,58 +66,70 @@ fn largest(entries: &[u8], count: usize) -> Bounds
 // Whether each stored rule names stored labels and known modes. The largest numbers of whole blocks of 32 places decide most calls; they may be
 // those of places that hold no rule, and where they are too large the rules alone are read. Who calls it has tested the sizes.
 fn rules_sound(entries: &[u8], rules: usize, labels: u8) -> bool
-    requires { ⌜ (length (now entries) ≡ 840) × (rules ≤ 256) ⌝ }
+    requires { ⌜ (modesFrom + ruleLimit ≤ length (now entries)) × (rules ≤ ruleLimit) ⌝ }
     ensures { λ r. ⌜ r ≡ all (soundRule labels) (listed (ruleAt (now (entries .entry))) rules) ⌝ }
 {
     let most = largest(entries, (rules + 31) / 32 * 32);
-    if (most.label < labels) & (most.modes < 64) {
+    if (most.label < labels) & (most.modes < MODES_END) {
         return true;
     }
-    let subjects = search::all_below(&entries[0..256], rules, labels);
-    let objects = search::all_below(&entries[256..512], rules, labels);
-    let modes = search::all_below(&entries[512..768], rules, 64);
+    let subjects = search::all_below(&entries[0..store::OBJECTS_FROM], rules, labels);
+    let objects = search::all_below(
+        &entries[store::OBJECTS_FROM..store::MODES_FROM],
+        rules,
+        labels,
+    );
+    let modes = search::all_below(
+        &entries[store::MODES_FROM..store::MAPPED_FROM],
+        rules,
+        MODES_END,
+    );
     subjects & objects & modes
 }
 
 // Whether each stored number names a stored label, and each stored mode and category bit is known. `undamaged` has tested the sizes and
 // the counts.
 fn sound(entries: &[u8], words: &[u64]) -> bool
-    requires { ⌜ (length (now entries) ≡ 840) × (length (now words) ≡ 36) × Counts (now words) ⌝ }
+    requires { ⌜ (onlycapFrom + onlycapLimit ≤ length (now entries)) × (setsFrom + mappingLimit ≤ length (now words)) × Counts (now words) ⌝ }
     ensures { λ r. ⌜ r ≡ soundTable (getD (now (words .entry)) 0 0) (tableOf (store [] (now (entries .entry)) (now (words .entry)))) ⌝ }
 {
-    let labels = words[0] as u8;
-    let mappings = words[2] as usize;
-    let onlycap = words[3] as usize;
-    let rules = rules_sound(entries, words[1] as usize, labels);
-    let mapped = search::all_below(&entries[768..800], mappings, labels);
-    let sets = all_even(&words[4..36], mappings);
-    let listed = search::all_below(&entries[832..840], onlycap, labels);
+    let labels = words[store::LABEL_COUNT] as u8;
+    let mappings = words[store::MAPPING_COUNT] as usize;
+    let onlycap = words[store::ONLYCAP_COUNT] as usize;
+    let rules = rules_sound(entries, words[store::RULE_COUNT] as usize, labels);
+    let mapped = search::all_below(
+        &entries[store::MAPPED_FROM..store::LEVELS_FROM],
+        mappings,
+        labels,
+    );
+    let sets = all_even(&words[store::SETS_FROM..SETS_TO], mappings);
+    let listed = search::all_below(&entries[store::ONLYCAP_FROM..ONLYCAP_TO], onlycap, labels);
     rules & (mapped & sets) & listed
 }
 
 // Whether the lent state is undamaged: refusal 0 otherwise.
 pub fn undamaged(labels: &[u8], entries: &[u8], words: &[u64]) -> bool
-    ensures { λ r. ⌜ r ≡ undamagedOf (store (now (labels .entry)) (now (entries .entry)) (now (words .entry))) ⌝ }
+    ensures { λ r. ⌜ r ≡ undamagedOf (lent labels entries words) ⌝ }
 {
-    if labels.len() != 16384 {
+    if labels.len() != store::LABELS_SIZE {
         return false;
     }
-    if entries.len() != 840 {
+    if entries.len() != store::ENTRIES_SIZE {
         return false;
     }
-    if words.len() != 36 {
+    if words.len() != store::WORDS_SIZE {
         return false;
     }
-    if 64 < words[0] {
+    if (store::LABEL_LIMIT as u64) < words[store::LABEL_COUNT] {
         return false;
     }
-    if 256 < words[1] {
+    if (store::RULE_LIMIT as u64) < words[store::RULE_COUNT] {
         return false;
     }
-    if 32 < words[2] {
+    if (store::MAPPING_LIMIT as u64) < words[store::MAPPING_COUNT] {
         return false;
     }
-    if 8 < words[3] {
+    if (store::ONLYCAP_LIMIT as u64) < words[store::ONLYCAP_COUNT] {
         return false;
     }
     sound(entries, words)

@@ -12,7 +12,7 @@ use Rattle.search.specs.Bytes.{sameBytes}
 use Rattle.search.proofs.Laws.{no, same-equal}
 use Rattle.store.specs.Table.{isPair}
 use Rattle.store.specs.Layout.{labelAt, ruleAt}
-use Rattle.places.specs.Places.{Unlike, NoPair, wordAt, NoWord, NotHeld}
+use Rattle.places.specs.Within.{Unlike, NoPair, wordAt, NoWord, NotHeld}
 
 -- ---- a label told by its length and its last byte
 

@@ -8,16 +8,16 @@ ghost use Prim.Native.Nat.{ℕ, _+_, _<_, _≤_};
 ghost use lib.ListN.{length, getD};
 ghost use Rattle.search.specs.Search.{first, entries as listed};
 ghost use Rattle.search.specs.Bytes.{sameBytes};
-ghost use Rattle.store.specs.Table.{isPair};
-ghost use Rattle.store.specs.Layout.{labelAt, ruleAt};
-ghost use Rattle.places.specs.Places.{Unlike, NoPair, wordAt, NoWord, NotHeld};
+ghost use Rattle.store.specs.Table.{isPair, labelLimit, ruleLimit};
+ghost use Rattle.store.specs.Layout.{labelsSize, modesFrom, labelAt, ruleAt};
+ghost use Rattle.places.specs.Within.{Unlike, NoPair, wordAt, NoWord, NotHeld};
 
 // The very part of the label store that holds label k. Who calls it has tested the store.
 pub fn label_at(labels: &[u8], k: usize) -> &[u8]
-    requires { ⌜ (length (now labels) ≡ 16384) × (k < 64) ⌝ }
+    requires { ⌜ (length (now labels) ≡ labelsSize) × (k < labelLimit) ⌝ }
     ensures { λ r. ⌜ now r ≡ labelAt (now (labels .entry)) k ⌝ }
 {
-    let at = k * 256;
+    let at = k * store::LABEL_PLACE;
     let start = at + 1;
     let end = start + labels[at] as usize;
     &labels[start..end]
@@ -35,17 +35,17 @@ fn last_byte(label: &[u8]) -> u8
 // fewer than four bytes. Its contract speaks of the places that it passes alone, as do those of the four that follow: the place that it stops at is
 // compared whole. Who calls it has tested the store and the length.
 fn next_short(labels: &[u8], from: usize, count: usize, n: usize, last: u8) -> usize
-    requires { ⌜ (length (now labels) ≡ 16384) × (from ≤ 64) × (count ≤ 64) × (n ≤ 255) ⌝ }
+    requires { ⌜ (length (now labels) ≡ labelsSize) × (from ≤ labelLimit) × (count ≤ labelLimit) × (n ≤ 255) ⌝ }
     ensures { λ r. ⌜ (from ≤ r) × ((k : ℕ) → from ≤ k → k < r → Unlike (now (labels .entry)) k n last) ⌝ }
 {
     let mut i = from;
-    let mut at = from * 256;
+    let mut at = from * store::LABEL_PLACE;
     while i < count {
         if (labels[at + n] == last) & (labels[at] as usize == n) {
             return i;
         }
         i += 1;
-        at += 256;
+        at += store::LABEL_PLACE;
     }
     i
 }
@@ -62,13 +62,13 @@ fn word_at(bytes: &[u8], at: usize) -> u32
 // Whether one of the eight places from an index on has this word at that offset. It reads all of them, so that nothing is done between them.
 // Its contract speaks of "no" alone: after a "yes" they are looked at one by one. Who calls it has tested the store.
 fn eight_have(labels: &[u8], from: usize, offset: usize, word: u32) -> bool
-    requires { ⌜ (length (now labels) ≡ 16384) × (from ≤ 56) × (offset ≤ 252) ⌝ }
+    requires { ⌜ (length (now labels) ≡ labelsSize) × (from ≤ 56) × (offset ≤ 252) ⌝ }
     ensures { λ r. ⌜ (r ≡ false → NoWord (now (labels .entry)) offset word from (from + 8)) ⌝ }
 {
     let mut any = false;
     let mut i = 0;
     while i < 8 {
-        any = any | (word_at(labels, (from + i) * 256 + offset) == word);
+        any = any | (word_at(labels, (from + i) * store::LABEL_PLACE + offset) == word);
         i += 1;
     }
     any
@@ -77,7 +77,7 @@ fn eight_have(labels: &[u8], from: usize, offset: usize, word: u32) -> bool
 // An index up to which no place from another on has this word at that offset: the first eight places that may have it, or fewer than eight
 // that are left of the first `count`. Who calls it has tested the store.
 fn pass_eights(labels: &[u8], from: usize, count: usize, offset: usize, word: u32) -> usize
-    requires { ⌜ (length (now labels) ≡ 16384) × (from ≤ 64) × (count ≤ 64) × (offset ≤ 252) ⌝ }
+    requires { ⌜ (length (now labels) ≡ labelsSize) × (from ≤ labelLimit) × (count ≤ labelLimit) × (offset ≤ 252) ⌝ }
     ensures { λ r. ⌜ (from ≤ r) × NoWord (now (labels .entry)) offset word from r ⌝ }
 {
     let mut i = from;
@@ -92,12 +92,12 @@ fn pass_eights(labels: &[u8], from: usize, count: usize, offset: usize, word: u3
 
 // The next place from an index on, of the first `count`, that has this word at that offset, or one past them. Who calls it has tested the store.
 fn next_with(labels: &[u8], from: usize, count: usize, offset: usize, word: u32) -> usize
-    requires { ⌜ (length (now labels) ≡ 16384) × (from ≤ 64) × (count ≤ 64) × (offset ≤ 252) ⌝ }
+    requires { ⌜ (length (now labels) ≡ labelsSize) × (from ≤ labelLimit) × (count ≤ labelLimit) × (offset ≤ 252) ⌝ }
     ensures { λ r. ⌜ (from ≤ r) × NoWord (now (labels .entry)) offset word from r ⌝ }
 {
     let mut i = pass_eights(labels, from, count, offset, word);
     while i < count {
-        if word_at(labels, i * 256 + offset) == word {
+        if word_at(labels, i * store::LABEL_PLACE + offset) == word {
             return i;
         }
         i += 1;
@@ -108,7 +108,7 @@ fn next_with(labels: &[u8], from: usize, count: usize, offset: usize, word: u32)
 // The next place from an index on, of the first `count`, that is like a label, or one past them: it ends in the same four bytes. Few others
 // do, whatever they begin with. A shorter label is told by its length and its last byte. Who calls it has tested the store and the length.
 fn next_like(labels: &[u8], from: usize, count: usize, label: &[u8]) -> usize
-    requires { ⌜ (length (now labels) ≡ 16384) × (from ≤ 64) × (count ≤ 64) × (length (now label) ≤ 255) ⌝ }
+    requires { ⌜ (length (now labels) ≡ labelsSize) × (from ≤ labelLimit) × (count ≤ labelLimit) × (length (now label) ≤ 255) ⌝ }
     ensures { λ r. ⌜ (from ≤ r) × NotHeld (now (labels .entry)) (now (label .entry)) from r ⌝ }
 {
     let n = label.len();
@@ -120,7 +120,7 @@ fn next_like(labels: &[u8], from: usize, count: usize, label: &[u8]) -> usize
 
 // The number of a label among the first `count`: the first that has its bytes. Who calls it has tested the store.
 pub fn find_label(labels: &[u8], count: usize, label: &[u8]) -> Found
-    requires { ⌜ (length (now labels) ≡ 16384) × (count ≤ 64) ⌝ }
+    requires { ⌜ (length (now labels) ≡ labelsSize) × (count ≤ labelLimit) ⌝ }
     ensures { λ r. ⌜ r ≡ first (sameBytes (now (label .entry))) (listed (labelAt (now (labels .entry))) count) ⌝ }
 {
     if 255 < label.len() {
@@ -144,14 +144,14 @@ pub fn find_label(labels: &[u8], count: usize, label: &[u8]) -> Found
 // Whether one of the 32 places from an index on holds the pair. It reads all of them, stored or not, so that the compiler can take many at a
 // time. Its contract speaks of "no" alone: after a "yes" they are looked at one by one. Who calls it has tested the store.
 fn block_holds(entries: &[u8], from: usize, subject: u8, object: u8) -> bool
-    requires { ⌜ (length (now entries) ≡ 840) × (from ≤ 224) ⌝ }
+    requires { ⌜ (modesFrom + ruleLimit ≤ length (now entries)) × (from ≤ 224) ⌝ }
     ensures { λ r. ⌜ (r ≡ false → NoPair subject object (now (entries .entry)) from 32) ⌝ }
 {
     let mut any = false;
     let mut i = 0;
     while i < 32 {
         let at = from + i;
-        any = any | ((entries[at] == subject) & (entries[256 + at] == object));
+        any = any | ((entries[at] == subject) & (entries[store::OBJECTS_FROM + at] == object));
         i += 1;
     }
     any
@@ -160,7 +160,7 @@ fn block_holds(entries: &[u8], from: usize, subject: u8, object: u8) -> bool
 // An index before which no place holds the pair: the first block of 32 that may hold it, or where the blocks of the stored ones
 // end. Its contract speaks of the places before it alone: from there on they are looked at one by one. Who calls it has tested the store.
 fn pass_blocks(entries: &[u8], count: usize, subject: u8, object: u8) -> usize
-    requires { ⌜ (length (now entries) ≡ 840) × (count ≤ 256) ⌝ }
+    requires { ⌜ (modesFrom + ruleLimit ≤ length (now entries)) × (count ≤ ruleLimit) ⌝ }
     ensures { λ r. ⌜ NoPair subject object (now (entries .entry)) 0 r ⌝ }
 {
     let mut block = 0;
@@ -175,12 +175,12 @@ fn pass_blocks(entries: &[u8], count: usize, subject: u8, object: u8) -> usize
 
 // The place of a pair's rule among the first `count`: only numbers are compared. Who calls it has tested the store.
 pub fn find_pair(entries: &[u8], count: usize, subject: u8, object: u8) -> Found
-    requires { ⌜ (length (now entries) ≡ 840) × (count ≤ 256) ⌝ }
+    requires { ⌜ (modesFrom + ruleLimit ≤ length (now entries)) × (count ≤ ruleLimit) ⌝ }
     ensures { λ r. ⌜ r ≡ first (isPair subject object) (listed (ruleAt (now (entries .entry))) count) ⌝ }
 {
     let mut i = pass_blocks(entries, count, subject, object);
     while i < count {
-        if (entries[i] == subject) & (entries[256 + i] == object) {
+        if (entries[i] == subject) & (entries[store::OBJECTS_FROM + i] == object) {
             return Found::At(i);
         }
         i += 1;

@@ -59,7 +59,7 @@ find-rule-requires c κs =
     let n = getD (a .words .now) 0 0 in
     let s : placeOf (c .before .find-label .result) 0 < 64 = place-below (sameBytes (a .subject .now)) (labelAt (a .labels .now)) n 64 _ (c .before .find-label .ensures) (p .1 .labels) (omega arith) in
     let o : placeOf (c .find-label2 .result) 0 < 64 = place-below (sameBytes (a .object .now)) (labelAt (a .labels .now)) n 64 _ (c .find-label2 .ensures) (p .1 .labels) (omega arith) in
-    (p .0 .entries, p .0 .words, p .1, s, o)
+    ((omega (arith, p .0 .entries), omega (arith, p .0 .words), p .1), (s, o))
 
 enum-known-k : tie.Need-enum-known-k
 enum-known-k c = search needs

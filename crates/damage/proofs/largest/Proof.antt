@@ -3,12 +3,12 @@ use Prim.Native.Nat.{ℕ, _≤_, _<_, _-_}
 use borrow.Author.Count.{below-more}
 use borrow.Author.Needs.{needs}
 use native.Mathlib.Omega.{arith}
-use Rattle.damage.specs.Bounds.{Within}
+use Rattle.damage.specs.Within.{Bounded}
 use Rattle.damage.proofs.largest.Statement.{statement}
 use Rattle.damage.proofs.largest.Tie as tie
 
 abbrev Inv-loop : tie.InvT-loop
-Inv-loop entries count label₀ modes₀ i₀ label modes i = (i ≤ count) × ((k : ℕ) → k < i → Within entries k label modes)
+Inv-loop entries count label₀ modes₀ i₀ label modes i = (i ≤ count) × ((k : ℕ) → k < i → Bounded entries k label modes)
 
 abbrev μ-loop : tie.MeasureT-loop
 μ-loop entries count label₀ modes₀ i₀ label modes i = count - i

@@ -6,7 +6,7 @@ use borrow.Author.Count.{below-more}
 use native.Mathlib.Omega.{arith}
 use Rattle.store.specs.Table.{isPair}
 use Rattle.store.specs.Layout.{ruleAt}
-use Rattle.places.specs.Places.{NoPair}
+use Rattle.places.specs.Within.{NoPair}
 use Rattle.places.proofs.Laws.{or-false}
 use Rattle.places.proofs.block_holds.Statement.{statement}
 use Rattle.places.proofs.block_holds.Tie as tie

@@ -5,7 +5,7 @@ use mathlib.Core.Bool.{false}
 use lib.Dec.{eqb}
 use borrow.Author.Count.{below-more}
 use native.Mathlib.Omega.{arith}
-use Rattle.places.specs.Places.{wordAt}
+use Rattle.places.specs.Within.{wordAt}
 use Rattle.places.proofs.Laws.{or-false, no-word-from}
 use Rattle.places.proofs.eight_have.Statement.{statement}
 use Rattle.places.proofs.eight_have.Tie as tie

@@ -4,7 +4,7 @@ use mathlib.Core.Path.{_∙_}
 use borrow.Author.Needs.{needs}
 use borrow.Author.Tests.{ne-eqb}
 use native.Mathlib.Omega.{arith}
-use Rattle.places.specs.Places.{wordAt, NoWord}
+use Rattle.places.specs.Within.{wordAt, NoWord}
 use Rattle.places.proofs.Laws.{no-word-more, no-word-one}
 use Rattle.places.proofs.next_with.Statement.{statement}
 use Rattle.places.proofs.next_with.Tie as tie

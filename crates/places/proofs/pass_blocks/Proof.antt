@@ -1,7 +1,7 @@
 -- `places::pass_blocks` meets its contract: no block passed holds the pair. Assumes nothing.
 use Prim.Native.Nat.{_*_, _-_, _≤_}
 use native.Mathlib.Omega.{arith}
-use Rattle.places.specs.Places.{NoPair}
+use Rattle.places.specs.Within.{NoPair}
 use Rattle.places.proofs.Laws.{no-pair-more}
 use Rattle.places.proofs.pass_blocks.Statement.{statement}
 use Rattle.places.proofs.pass_blocks.Tie as tie

@@ -1,7 +1,7 @@
 -- `places::pass_eights` meets its contract: none of the eights passed has the word. Assumes nothing.
 use Prim.Native.Nat.{_+_, _≤_, _-_}
 use native.Mathlib.Omega.{arith}
-use Rattle.places.specs.Places.{NoWord}
+use Rattle.places.specs.Within.{NoWord}
 use Rattle.places.proofs.Laws.{no-word-more}
 use Rattle.places.proofs.pass_eights.Statement.{statement}
 use Rattle.places.proofs.pass_eights.Tie as tie

@@ -1,4 +1,4 @@
--- What the searches know of places that they passed. Assumes nothing.
+-- What the searches know of places that they passed. No public contract names these. Assumes nothing.
 use Prim.Native.Nat.{ℕ, _+_, _*_, _<_, _≤_}
 use lib.ListN.{getD}
 use lib.Dec.{eqb}
@@ -6,7 +6,7 @@ use mathlib.Core.Bool.{false, _&&_}
 use mathlib.Core.Path.{_≡_}
 use mathlib.Core.List.{List}
 use Rattle.search.specs.Bytes.{sameBytes}
-use Rattle.store.specs.Table.{isPair}
+use Rattle.store.specs.Table.{isPair, labelLimit}
 use Rattle.store.specs.Layout.{labelAt, ruleAt}
 
 -- place k differs from labels of length n with that last byte in one of the two
@@ -23,7 +23,7 @@ NoWord labels offset word from to = (k : ℕ) → from ≤ k → k < to → eqb 
 
 -- no place from an index on, before another, holds the label
 abbrev pub NotHeld : List ℕ → List ℕ → ℕ → ℕ → Type 0
-NotHeld labels label from to = (k : ℕ) → from ≤ k → k < to → k < 64 → sameBytes label (labelAt labels k) ≡ false
+NotHeld labels label from to = (k : ℕ) → from ≤ k → k < to → k < labelLimit → sameBytes label (labelAt labels k) ≡ false
 
 -- none of the n places from an index on holds the pair's rule
 abbrev pub NoPair : ℕ → ℕ → List ℕ → ℕ → ℕ → Type 0

@@ -1,11 +1,11 @@
--- What the damage test knows of rules that it has looked at. Assumes nothing.
+-- What the damage test knows of rules that it has looked at. No public contract names it. Assumes nothing.
 use Prim.Native.Nat.{ℕ, _+_, _≤_}
 use mathlib.Core.List.{List}
 use lib.ListN.{getD}
 use Rattle.store.specs.Layout.{objectsFrom, modesFrom}
 
 -- no number of a label in rule k is above `label`, and its modes are not above `modes`
-pub record Within (e : List ℕ) (k label modes : ℕ) : Type 0 where
+pub record Bounded (e : List ℕ) (k label modes : ℕ) : Type 0 where
   pub subject : getD e k 0 ≤ label
   pub object : getD e (objectsFrom + k) 0 ≤ label
   pub modes-of : getD e (modesFrom + k) 0 ≤ modes
