@@ -26,7 +26,6 @@ use Rattle.access.specs.declared.Denial.the-variants.{AnyOther}
 use Rattle.access.specs.declared.Verdict.{Verdict}
 use Rattle.access.specs.declared.Verdict.the-variants.{Grants, Denies, Undecided}
 use Rattle.access.specs.declared.Answer.the-variants.{Granted}
-use Rattle.access.specs.declared.Shown.{Shown}
 
 -- ---- a label of one byte
 
@@ -160,11 +159,6 @@ module _ (l e w : List ℕ) where
   between-below (At i) (At j) k q = found-below (isPair i j) (ruleAt e) (getD w 1 0) k q
   between-below (At i) Nothing k q = let z : _≡_ {A = ℕ} 0 1 = cc in absurd (omega arith)
   between-below Nothing o k q = let z : _≡_ {A = ℕ} 0 1 = cc in absurd (omega arith)
-
--- ---- an answer in 01's numbers
-
-pub shown-as : (kind : ℕ) (n m : ℕ) → n ≡ m → _≡_ {A = Shown} (record { kind = kind; number = n; bringup = false }) (record { kind = kind; number = m; bringup = false })
-shown-as kind n m e = rw e
 
 -- ---- 01's order, said once more in other words
 

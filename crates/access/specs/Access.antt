@@ -1,5 +1,5 @@
 -- 01, Questions: the answer to a question. The seven rules stand in specs/Rules.antt; here are the override capability (CAP_MAC_OVERRIDE,
--- with the onlycap list), the refusals, and the number and values of each answer. Assumes nothing.
+-- with the onlycap list), and the refusals. Assumes nothing.
 use Prim.Native.Nat.{ℕ}
 use mathlib.Core.Bool.{Bool, true, false, cond, _&&_, _||_}
 use mathlib.Core.List.{List}
@@ -15,14 +15,13 @@ use Rattle.modes.specs.declared.Access.the-variants.{Modes, Bad}
 use Rattle.refusals.specs.Refusals.{damaged, badLabel, badRequest}
 use Rattle.store.specs.Table.{Table, labelIn}
 use Rattle.store.specs.Layout.{Store, tableOf, undamagedOf}
-use Rattle.access.specs.Rules.{firstOf, sevenRules, denialNumber}
+use Rattle.access.specs.Rules.{firstOf, sevenRules}
 use Rattle.access.specs.declared.Denial.{Denial}
 use Rattle.access.specs.declared.Denial.the-variants.{AnyOther}
 use Rattle.access.specs.declared.Verdict.{Verdict}
 use Rattle.access.specs.declared.Verdict.the-variants.{Grants, Denies, Undecided}
 use Rattle.access.specs.declared.Answer.{Answer}
 use Rattle.access.specs.declared.Answer.the-variants.{Granted, Denied, Override, Refused}
-use Rattle.access.specs.declared.Shown.{Shown}
 
 -- ---- override
 
@@ -71,11 +70,3 @@ answer t s o request capable =
 -- of a lent state: 0 before every other where it is damaged
 unfoldable pub questionOf : Store → List ℕ → List ℕ → List ℕ → Bool → Answer
 questionOf st s o request capable = cond (undamagedOf st) (answer (tableOf st) s o request capable) (Refused damaged)
-
--- 01's number and values for each case. The kinds are numbered here and not by 01: 0 is granted, 1 denied, 2 granted by override, 3 refused; the number is the rule's, or the
--- refusal's
-abbrev pub shown : Answer → Shown
-shown (Granted n b) = record { kind = 0; number = n; bringup = b }
-shown (Denied by) = record { kind = 1; number = denialNumber by; bringup = false }
-shown (Override by) = record { kind = 2; number = denialNumber by; bringup = false }
-shown (Refused n) = record { kind = 3; number = n; bringup = false }

@@ -38,14 +38,6 @@ pub enum Answer {
     Refused(u8),
 }
 
-// An answer in 01's numbers. Kind 0 is granted, 1 denied, 2 granted by override, 3 refused; the number is the rule's, or the refusal's.
-#[repr(C)]
-pub struct Shown {
-    pub kind: u8,
-    pub number: u8,
-    pub bringup: bool,
-}
-
 // The labels that have a rule of their own: _ ^ *.
 const FLOOR: u8 = b'_';
 
@@ -231,42 +223,4 @@ pub fn question(
         return Answer::Refused(refusals::BAD_REQUEST);
     };
     decide(labels, entries, words, subject, object, wanted, capable)
-}
-
-// The number of the rule that denies.
-fn denial_number(by: Denial) -> u8
-    ensures { λ r. ⌜ r ≡ rules.denialNumber by ⌝ }
-{
-    match by {
-        Denial::StarSubject => 1,
-        Denial::AnyOther => 7,
-    }
-}
-
-// An answer in 01's numbers, for a host or a program to show.
-pub fn show(answer: Answer) -> Shown
-    ensures { λ r. ⌜ r ≡ access.shown answer ⌝ }
-{
-    match answer {
-        Answer::Granted(rule, b) => Shown {
-            kind: 0,
-            number: rule,
-            bringup: b,
-        },
-        Answer::Denied(rule) => Shown {
-            kind: 1,
-            number: denial_number(rule),
-            bringup: false,
-        },
-        Answer::Override(rule) => Shown {
-            kind: 2,
-            number: denial_number(rule),
-            bringup: false,
-        },
-        Answer::Refused(number) => Shown {
-            kind: 3,
-            number,
-            bringup: false,
-        },
-    }
 }

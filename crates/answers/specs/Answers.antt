@@ -1,10 +1,13 @@
 -- 01's number and values for each case of each answer that is an enum: what a host gets for it, as plain numbers. The promises of the
--- exported functions use these definitions; for a question it is `shown` of the crate access. Where an answer is refused the number is the
--- refusal's, and otherwise 0; what a case has no value for is 0. Assumes nothing.
+-- exported functions use these definitions. Where an answer is refused the number is the refusal's, and otherwise 0 (but for a question); what a
+-- case has no value for is 0. Assumes nothing.
 use Prim.Native.Nat.{ℕ, _+_, _*_}
 use mathlib.Core.Bool.{true, false}
 use Rattle.store.specs.declared.Done.{Done}
 use Rattle.store.specs.declared.Done.the-variants as done
+use Rattle.access.specs.Rules.{denialNumber}
+use Rattle.access.specs.declared.Answer.{Answer}
+use Rattle.access.specs.declared.Answer.the-variants as answer
 use Rattle.revoke.specs.declared.Revoked.{Revoked}
 use Rattle.revoke.specs.declared.Revoked.the-variants as revoked
 use Rattle.lookups.specs.declared.Lookup.{Lookup}
@@ -18,6 +21,7 @@ use Rattle.load.specs.declared.Fed.{Fed}
 use Rattle.load.specs.declared.Fed.the-variants as fed
 use Rattle.load.specs.declared.Ended.{Ended}
 use Rattle.load.specs.declared.Ended.the-variants as ended
+use Rattle.answers.specs.declared.Shown.{Shown}
 use Rattle.answers.specs.declared.Written.{Written}
 use Rattle.answers.specs.declared.Counted.{Counted}
 use Rattle.answers.specs.declared.Taken.{Taken}
@@ -26,6 +30,13 @@ use Rattle.answers.specs.declared.Length.{Length}
 use Rattle.answers.specs.declared.Mapped.{Mapped}
 use Rattle.answers.specs.declared.Lowest.{Lowest}
 use Rattle.answers.specs.declared.Part.{Part}
+
+-- a question: kind 0 granted, 1 denied, 2 granted by override, 3 refused; the number is the rule's, or the refusal's. (01 does not number the kinds)
+abbrev pub shown : Answer → Shown
+shown (answer.Granted n b) = record { kind = 0; number = n; bringup = b }
+shown (answer.Denied by) = record { kind = 1; number = denialNumber by; bringup = false }
+shown (answer.Override by) = record { kind = 2; number = denialNumber by; bringup = false }
+shown (answer.Refused n) = record { kind = 3; number = n; bringup = false }
 
 -- a write, and the call beside the label of a number: done, or refused with its number
 abbrev pub writeShown : Done → Written

@@ -1,5 +1,7 @@
 // What each call answers, in 01's numbers: an exported function can't answer an enum, so a host gets a struct of plain numbers for it. Which
 // number and values each case has, specs/Answers.antt says once for each answer.
+use access::Answer;
+use access::Denial;
 use load::Ended;
 use load::Fed;
 use lookups::Label;
@@ -10,7 +12,16 @@ use reports::Report;
 use revoke::Revoked;
 use store::Done;
 ghost use mathlib.Core.Path.{_≡_};
-ghost use Rattle.answers.specs.Answers.{writeShown, revokeShown, pieceShown, endShown, listShown, lookupShown, searchShown};
+ghost use Rattle.access.specs.Rules.{denialNumber};
+ghost use Rattle.answers.specs.Answers.{shown, writeShown, revokeShown, pieceShown, endShown, listShown, lookupShown, searchShown};
+
+// What a question answers. Kind 0 is granted, 1 denied, 2 granted by override, 3 refused; the number is the rule's, or the refusal's.
+#[repr(C)]
+pub struct Shown {
+    pub kind: u8,
+    pub number: u8,
+    pub bringup: bool,
+}
 
 // What a write answers. `number` is the refusal's number where `refused` is true and 0 otherwise; so in all that follow.
 #[repr(C)]
@@ -79,7 +90,45 @@ pub struct Part {
     pub length: usize,
 }
 
-// A write's answer in 01's numbers.
+// The number of the rule that denies.
+fn denial_number(by: Denial) -> u8
+    ensures { λ r. ⌜ r ≡ denialNumber by ⌝ }
+{
+    match by {
+        Denial::StarSubject => 1,
+        Denial::AnyOther => 7,
+    }
+}
+
+// The answer to a question in 01's numbers, for a host or a program to show.
+pub fn show(answer: Answer) -> Shown
+    ensures { λ r. ⌜ r ≡ shown answer ⌝ }
+{
+    match answer {
+        Answer::Granted(rule, b) => Shown {
+            kind: 0,
+            number: rule,
+            bringup: b,
+        },
+        Answer::Denied(rule) => Shown {
+            kind: 1,
+            number: denial_number(rule),
+            bringup: false,
+        },
+        Answer::Override(rule) => Shown {
+            kind: 2,
+            number: denial_number(rule),
+            bringup: false,
+        },
+        Answer::Refused(number) => Shown {
+            kind: 3,
+            number,
+            bringup: false,
+        },
+    }
+}
+
+// So for a write.
 pub fn write_shown(answer: Done) -> Written
     ensures { λ r. ⌜ r ≡ writeShown answer ⌝ }
 {

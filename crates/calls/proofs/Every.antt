@@ -70,7 +70,8 @@ use Rattle.onlycap.specs.Onlycap.{onlycapAnswer, onlycapStore}
 use Rattle.cipso.specs.Cipso.{mapAnswer, mapStored}
 use Rattle.lookups.specs.Lookups.{byLabelOf, byLevelOf}
 use Rattle.listing.specs.Listing.{listAnswer, listOut, labelGiven, labelAnswer}
-use Rattle.access.specs.Access.{questionOf, shown}
+use Rattle.access.specs.Access.{questionOf}
+use Rattle.answers.specs.Answers.{shown}
 use Rattle.reports.specs.declared.Loader.{Loader}
 use Rattle.reports.specs.Report.{freshLoader, reportOf}
 use Rattle.load.specs.declared.Fed.the-variants as f

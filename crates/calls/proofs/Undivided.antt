@@ -15,7 +15,8 @@ use Rattle.revoke.specs.declared.Revoked.the-variants as v
 use Rattle.onlycap.specs.Onlycap.{onlycapAnswer}
 use Rattle.cipso.specs.Cipso.{mapAnswer}
 use Rattle.listing.specs.Listing.{labelAnswer}
-use Rattle.access.specs.Access.{answer, shown}
+use Rattle.access.specs.Access.{answer}
+use Rattle.answers.specs.Answers.{shown}
 use Rattle.reports.specs.declared.Loader.{Loader}
 use Rattle.load.specs.declared.Fed.{Fed}
 use Rattle.load.specs.declared.Fed.the-variants as f

@@ -9,7 +9,7 @@ use Rattle.store.specs.Layout.{tableOf}
 use Rattle.lines.specs.Lines.{change, ruleOf, changeOf}
 use Rattle.writes.specs.Writes.{judged, changed}
 use Rattle.store.specs.Judged.{is-skipped, is-refused, is-accepted}
-use Rattle.access.specs.Access.{shown}
+use Rattle.answers.specs.Answers.{shown}
 use Rattle.access.specs.declared.Answer.the-variants as answer
 use Rattle.lookups.specs.declared.Lookup.the-variants as lookup
 use Rattle.lookups.specs.declared.Label.the-variants as label

@@ -40,14 +40,14 @@ use Rattle.revoke.specs.declared.Revoked.the-variants as r
 use Rattle.onlycap.specs.Onlycap.{loneDash, different, labelsWith, onlycapFields, onlycapWrite, onlycapAnswer}
 use Rattle.cipso.specs.Cipso as cipso
 use Rattle.cipso.proofs.Laws.{categoriesFrom, categories-start}
-use Rattle.lookups.specs.Lookups.{lookupBy, lookedUp, labelLookup, hasBoth, levelLookup, numbered, byLabelOf, byLevelOf, lowestOf}
+use Rattle.lookups.specs.Lookups.{lookupBy, lookedUp, labelLookup, hasBoth, sought, levelLookup, numbered, byLabelOf, byLevelOf}
 use Rattle.lookups.specs.declared.Lookup.{Lookup}
 use Rattle.lookups.specs.declared.Lookup.the-variants as lookup
 use Rattle.lookups.specs.declared.Label.{Label}
 use Rattle.lookups.specs.declared.Label.the-variants as label
-use Rattle.lookups.specs.declared.Record.{Record}
-use Rattle.lookups.specs.declared.Best.{Best}
-use Rattle.lookups.specs.declared.Best.the-variants as best
+use Rattle.run.specs.declared.Record.{Record}
+use Rattle.run.specs.declared.Best.{Best}
+use Rattle.run.specs.declared.Best.the-variants as best
 use Rattle.run.specs.Run as run
 use Rattle.access.specs.Access.{effective, answer, answered, decide, byRequest, questionOf}
 use Rattle.access.specs.Rules.{firstOf, sevenRules}
@@ -391,7 +391,7 @@ by-level-listed st level set =
     of-state label.Refused byLevelNumbers (undamagedOf st) _ refl
     (λ n.
     of-label byLevelNumbers _ n
-    (either (label-or byLevelNumbers) (cipso.isLevel level && knownSet set)
+    (either (label-or byLevelNumbers) (sought level set)
     (numbered-label (first (hasBoth (tableOf st) level set) (entries (λ (k : ℕ). k) (length (tableOf st .labels))))) refl))
 
 best-label : (b : Best) → label-or (9 ∷ []) (run.said b) ≡ true
@@ -400,7 +400,7 @@ best-label best.Nothing = refl
 
 run-listed : (records : List Record) (level set n : ℕ) → run.runOf records level set ≡ label.Refused n → Among n (9 ∷ [])
 unfolding run.runOf run.settledOf isAmong
-run-listed records level set n = of-label (9 ∷ []) _ n (either (label-or (9 ∷ [])) (run.sought level set) (best-label (lowestOf records level set)) refl)
+run-listed records level set n = of-label (9 ∷ []) _ n (either (label-or (9 ∷ [])) (sought level set) (best-label (run.lowestOf records level set)) refl)
 
 -- ---- a question
 

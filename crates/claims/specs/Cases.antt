@@ -11,8 +11,9 @@ use Rattle.rules.specs.Rules.{modesOfRule}
 use Rattle.writes.specs.Writes.{judged, changeWrite}
 use Rattle.store.specs.Judged.{tableAfter}
 use Rattle.access.specs.Rules.{ruleBetween}
-use Rattle.access.specs.Access.{answer, shown}
-use Rattle.access.specs.declared.Shown.{Shown}
+use Rattle.access.specs.Access.{answer}
+use Rattle.answers.specs.Answers.{shown}
+use Rattle.answers.specs.declared.Shown.{Shown}
 use Rattle.cipso.specs.Cipso.{mappingWrite}
 use Rattle.lookups.specs.Lookups.{labelLookup}
 use Rattle.lookups.specs.declared.Lookup.{Lookup}

@@ -54,7 +54,8 @@ use Rattle.onlycap.specs.Onlycap.{onlycapAnswer, onlycapStore}
 use Rattle.cipso.specs.Cipso.{mapAnswer, mapStored}
 use Rattle.lookups.specs.Lookups.{byLabelOf, byLevelOf}
 use Rattle.run.specs.Run.{runOf, recordsOf}
-use Rattle.access.specs.Access.{questionOf, shown}
+use Rattle.access.specs.Access.{questionOf}
+use Rattle.answers.specs.Answers.{shown}
 use Rattle.listing.specs.Listing.{listAnswer, listOut, labelGiven, labelAnswer}
 use Rattle.reports.specs.Report.{freshLoader}
 use Rattle.load.specs.Loader.{pieceAnswer, pieceAfter, endAnswer, endAfter}

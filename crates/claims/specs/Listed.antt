@@ -21,7 +21,7 @@ use Rattle.cipso.specs.Cipso.{mapAnswer}
 use Rattle.lookups.specs.Lookups.{byLabelOf, byLevelOf}
 use Rattle.lookups.specs.declared.Lookup.the-variants as lookup
 use Rattle.lookups.specs.declared.Label.the-variants as label
-use Rattle.lookups.specs.declared.Record.{Record}
+use Rattle.run.specs.declared.Record.{Record}
 use Rattle.run.specs.Run.{runOf}
 use Rattle.access.specs.Access.{questionOf}
 use Rattle.access.specs.declared.Answer.the-variants as a

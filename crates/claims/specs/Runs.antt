@@ -4,11 +4,11 @@ use mathlib.Core.Bool.{true, false}
 use mathlib.Core.Path.{_≡_}
 use mathlib.Core.List.{List}
 use lib.ListN.{length, getD}
-use Rattle.lookups.specs.declared.Record.{Record}
+use Rattle.run.specs.declared.Record.{Record}
 use Rattle.lookups.specs.declared.Label.the-variants as label
-use Rattle.lookups.specs.Lowest.{Lowest, Unmatched}
-use Rattle.run.specs.Run.{sought, runOf, recordsOf}
-use Rattle.run.specs.Within.{Shortest}
+use Rattle.run.specs.Lowest.{Lowest, Unmatched}
+use Rattle.lookups.specs.Lookups.{sought}
+use Rattle.run.specs.Run.{runOf, recordsOf, Shortest}
 
 pub record SearchesTheRun : Type 0 where
   -- a number that is answered is the lowest of those whose level and set both match

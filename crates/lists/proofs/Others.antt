@@ -19,7 +19,8 @@ use Rattle.lookups.specs.declared.Lookup.the-variants as lookup
 use Rattle.lookups.specs.declared.Label.the-variants as label
 use Rattle.listing.specs.Listing.{listAnswer, listOut, labelGiven, labelAnswer}
 use Rattle.output.specs.declared.Output.the-variants as listed
-use Rattle.access.specs.Access.{shown, questionOf}
+use Rattle.access.specs.Access.{questionOf}
+use Rattle.answers.specs.Answers.{shown}
 use Rattle.access.specs.declared.Answer.the-variants as a
 use Rattle.load.specs.Loader.{Load, load}
 use Rattle.answers.specs.Answers.{listShown, lookupShown, searchShown, partShown}

@@ -21,8 +21,9 @@ use Rattle.onlycap.specs.Onlycap.{onlycapWrite}
 use Rattle.cipso.specs.Cipso.{mappingWrite}
 use Rattle.lookups.specs.Lookups.{labelLookup, levelLookup}
 use Rattle.listing.specs.Listing.{listRule, listRuleOut}
-use Rattle.access.specs.Access.{answer, shown}
-use Rattle.access.specs.declared.Shown.{Shown}
+use Rattle.access.specs.Access.{answer}
+use Rattle.answers.specs.Answers.{shown}
+use Rattle.answers.specs.declared.Shown.{Shown}
 use Rattle.answers.specs.Answers.{lookupShown, searchShown, listShown}
 use Rattle.answers.specs.declared.Mapped.{Mapped}
 use Rattle.answers.specs.declared.Lowest.{Lowest}

@@ -1,13 +1,13 @@
--- 01, Single writes, the paragraph after them: a mapping looked up by label, and by level and set; and the comparison that the search of a run of
--- records is made of. Refusals 0, 3 and 9. Assumes nothing.
+-- 01, Single writes, the paragraph after them: a mapping looked up by label, and by level and set. Refusals 0, 3 and 9. Assumes nothing.
 use Prim.Native.Nat.{ℕ}
 use mathlib.Core.Bool.{Bool, false, cond, _&&_}
-use mathlib.Core.List.{List, foldl}
+use mathlib.Core.List.{List}
 use lib.ListN.{length, getD}
-use lib.Dec.{eqb, ltb}
+use lib.Dec.{eqb}
 use Rattle.search.specs.Search.{first, entries}
 use Rattle.search.specs.declared.Found.{Found}
 use Rattle.search.specs.declared.Found.the-variants.{At, Nothing}
+use Rattle.refusals.specs.Refusals.{damaged, badLabel, badNumber}
 use Rattle.alphabet.specs.Alphabet.{wellFormed}
 use Rattle.numbers.specs.Categories.{categories}
 use Rattle.store.specs.declared.Mapping.{Mapping}
@@ -18,9 +18,6 @@ use Rattle.lookups.specs.declared.Lookup.{Lookup}
 use Rattle.lookups.specs.declared.Lookup.the-variants as lookup
 use Rattle.lookups.specs.declared.Label.{Label}
 use Rattle.lookups.specs.declared.Label.the-variants as label
-use Rattle.lookups.specs.declared.Record.{Record}
-use Rattle.lookups.specs.declared.Best.{Best}
-use Rattle.lookups.specs.declared.Best.the-variants as best
 
 -- ---- looked up by label: level, set and how many categories are in the set; an unmapped label gives none
 
@@ -40,13 +37,17 @@ lookupBy t Nothing = lookup.Unmapped
 
 -- 3 the label is not well formed
 unfoldable pub labelLookup : Table → List ℕ → Lookup
-labelLookup t l = cond (wellFormed l) (lookupBy t (labelIn t l)) (lookup.Refused 3)
+labelLookup t l = cond (wellFormed l) (lookupBy t (labelIn t l)) (lookup.Refused badLabel)
 
 -- of a lent state: 0 before every other where it is damaged
 unfoldable pub byLabelOf : Store → List ℕ → Lookup
-byLabelOf st l = cond (undamagedOf st) (labelLookup (tableOf st) l) (lookup.Refused 0)
+byLabelOf st l = cond (undamagedOf st) (labelLookup (tableOf st) l) (lookup.Refused damaged)
 
 -- ---- looked up by level and set: the lowest-numbered label whose both are equal, or none
+
+-- a level and a set that can be looked up: the level is 0 to 255, and the set has no bit that is no category
+unfoldable pub sought : ℕ → ℕ → Bool
+sought level s = isLevel level && knownSet s
 
 -- a mapping has this level and this set
 abbrev pub bothEqual : ℕ → ℕ → Mapping → Bool
@@ -71,32 +72,13 @@ abbrev pub numbered : Found → Label
 numbered (At n) = label.Number n
 numbered Nothing = label.Nothing
 
--- the first of the numbers 0, 1, .. of the labels that has both; 9 the level is over 255, or the set has a bit that is no category
+-- the first of the numbers 0, 1, .. of the labels that has both; 9 a level or a set that cannot be looked up
 unfoldable pub levelLookup : Table → ℕ → ℕ → Label
 levelLookup t level s =
-    cond (isLevel level && knownSet s)
+    cond (sought level s)
     (numbered (first (hasBoth t level s) (entries (λ (n : ℕ). n) (length (t .labels)))))
-    (label.Refused 9)
+    (label.Refused badNumber)
 
 -- of a lent state: 0 before every other where it is damaged
 unfoldable pub byLevelOf : Store → ℕ → ℕ → Label
-byLevelOf st level s = cond (undamagedOf st) (levelLookup (tableOf st) level s) (label.Refused 0)
-
--- ---- a run of records, each a label number, a level and a set: the lowest label number whose level and set both match, or none
-
--- a record's level and set both match
-abbrev pub matches : ℕ → ℕ → Record → Bool
-matches level s r = eqb (r .level) level && sameSet (r .set) s
-
--- the lower of a label number and the best so far
-abbrev pub lowerLabel : ℕ → Best → Best
-lowerLabel n (best.Label k) = best.Label (cond (ltb n k) n k)
-lowerLabel n best.Nothing = best.Label n
-
--- the best so far and one record more
-unfoldable pub lowerOf : ℕ → ℕ → Best → Record → Best
-lowerOf level s b r = cond (matches level s r) (lowerLabel (r .label) b) b
-
--- the best of a run
-unfoldable pub lowestOf : List Record → ℕ → ℕ → Best
-lowestOf run level s = foldl (lowerOf level s) best.Nothing run
+byLevelOf st level s = cond (undamagedOf st) (levelLookup (tableOf st) level s) (label.Refused damaged)

@@ -1,12 +1,11 @@
-// Mappings looked up, by label and by level and set, and the comparison that the search of a run of records is made of (01, Single writes, the
-// paragraph after them). Nothing is changed.
+// Mappings looked up, by label and by level and set (01, Single writes, the paragraph after them). Nothing is changed.
 use search::Found;
 ghost use mathlib.Core.Path.{_≡_};
 ghost use Prim.Native.Nat.{_<_};
 ghost use lib.ListN.{getD};
-ghost use Rattle.store.specs.Layout.{store, tableOf, Sizes};
+ghost use Rattle.store.specs.Layout.{lent, tableOf, Sizes};
 ghost use Rattle.store.specs.Within.{Counts};
-ghost use Rattle.lookups.specs.Lookups.{byLabelOf, byLevelOf, hasBoth, lowerOf};
+ghost use Rattle.lookups.specs.Lookups.{sought, byLabelOf, byLevelOf, hasBoth};
 
 // What a look-up by label answers: the mapping's level, its set and how many categories are in it; that the label is unmapped; or a
 // refusal's number.
@@ -23,40 +22,26 @@ pub enum Label {
     Refused(u8),
 }
 
-// A record of a run: a label number, a level and a set, of any content.
-#[repr(C)]
-pub struct Record {
-    pub label: u64,
-    pub level: u64,
-    pub set: u64,
-}
-
-// The lowest label number of the records so far that match, or none.
-pub enum Best {
-    Label(u64),
-    Nothing,
-}
-
 // The mapping of a label: its level, its set and how many categories are in it.
 pub fn by_label(labels: &[u8], entries: &[u8], words: &[u64], label: &[u8]) -> Lookup
-    ensures { λ r. ⌜ r ≡ byLabelOf (store (now (labels .entry)) (now (entries .entry)) (now (words .entry))) (now (label .entry)) ⌝ }
+    ensures { λ r. ⌜ r ≡ byLabelOf (lent labels entries words) (now (label .entry)) ⌝ }
 {
     if !damage::undamaged(labels, entries, words) {
-        return Lookup::Refused(0);
+        return Lookup::Refused(refusals::DAMAGED);
     }
     let Found::Nothing = alphabet::label_fault(label) else {
-        return Lookup::Refused(3);
+        return Lookup::Refused(refusals::BAD_LABEL);
     };
-    let stored = words[0] as usize;
-    let mappings = words[2] as usize;
+    let stored = words[store::LABEL_COUNT] as usize;
+    let mappings = words[store::MAPPING_COUNT] as usize;
     let Found::At(n) = places::find_label(labels, stored, label) else {
         return Lookup::Unmapped;
     };
     let Found::At(k) = cipso::find_mapping(entries, mappings, n) else {
         return Lookup::Unmapped;
     };
-    let level = entries[800 + k];
-    let set = words[4 + k];
+    let level = entries[store::LEVELS_FROM + k];
+    let set = words[store::SETS_FROM + k];
     let count = numbers::category_count(set);
     Lookup::Mapped { level, set, count }
 }
@@ -65,17 +50,17 @@ pub fn by_label(labels: &[u8], entries: &[u8], words: &[u64], label: &[u8]) -> L
 // calls it has tested the store.
 fn has_both(labels: &[u8], entries: &[u8], words: &[u64], n: usize, level: u64, set: u64) -> bool
     requires { ⌜ Sizes (now labels) (now entries) (now words) × Counts (now words) × (n < getD (now words) 0 0) ⌝ }
-    ensures { λ r. ⌜ r ≡ hasBoth (tableOf (store (now (labels .entry)) (now (entries .entry)) (now (words .entry)))) level set n ⌝ }
+    ensures { λ r. ⌜ r ≡ hasBoth (tableOf (lent labels entries words)) level set n ⌝ }
 {
-    let stored = words[0] as usize;
-    let mappings = words[2] as usize;
+    let stored = words[store::LABEL_COUNT] as usize;
+    let mappings = words[store::MAPPING_COUNT] as usize;
     let Found::At(k) = cipso::find_mapping(entries, mappings, n) else {
         return false;
     };
-    if entries[800 + k] as u64 != level {
+    if entries[store::LEVELS_FROM + k] as u64 != level {
         return false;
     }
-    if words[4 + k] != set {
+    if words[store::SETS_FROM + k] != set {
         return false;
     }
     let held = places::label_at(labels, n);
@@ -85,20 +70,27 @@ fn has_both(labels: &[u8], entries: &[u8], words: &[u64], n: usize, level: u64, 
     i == n
 }
 
+// Whether a level and a set can be looked up: the level is 0 to 255, and the set has no bit that is no category.
+pub fn known(level: u64, set: u64) -> bool
+    ensures { λ r. ⌜ r ≡ sought level set ⌝ }
+{
+    if 255 < level {
+        return false;
+    }
+    set % 2 == 0
+}
+
 // The lowest-numbered label whose level and set are these.
 pub fn by_level(labels: &[u8], entries: &[u8], words: &[u64], level: u64, set: u64) -> Label
-    ensures { λ r. ⌜ r ≡ byLevelOf (store (now (labels .entry)) (now (entries .entry)) (now (words .entry))) level set ⌝ }
+    ensures { λ r. ⌜ r ≡ byLevelOf (lent labels entries words) level set ⌝ }
 {
     if !damage::undamaged(labels, entries, words) {
-        return Label::Refused(0);
+        return Label::Refused(refusals::DAMAGED);
     }
-    if 255 < level {
-        return Label::Refused(9);
+    if !known(level, set) {
+        return Label::Refused(refusals::BAD_NUMBER);
     }
-    if set % 2 != 0 {
-        return Label::Refused(9);
-    }
-    let stored = words[0] as usize;
+    let stored = words[store::LABEL_COUNT] as usize;
     let mut n = 0;
     while n < stored {
         if has_both(labels, entries, words, n, level, set) {
@@ -107,26 +99,4 @@ pub fn by_level(labels: &[u8], entries: &[u8], words: &[u64], level: u64, set: u
         n += 1;
     }
     Label::Nothing
-}
-
-// The lower of the best label so far and a record's, where the record's level and set both match.
-pub fn lower(best: Best, entry: Record, level: u64, set: u64) -> Best
-    ensures { λ r. ⌜ r ≡ lowerOf level set best entry ⌝ }
-{
-    if entry.level != level {
-        return best;
-    }
-    if entry.set != set {
-        return best;
-    }
-    match best {
-        Best::Label(n) => {
-            if entry.label < n {
-                Best::Label(entry.label)
-            } else {
-                Best::Label(n)
-            }
-        }
-        Best::Nothing => Best::Label(entry.label),
-    }
 }

@@ -16,8 +16,8 @@ use Rattle.alphabet.specs.Within.{fieldAt, part}
 use Rattle.alphabet.specs.declared.Field.the-variants.{Part, End}
 use Rattle.alphabet.proofs.Laws.{field-some, field-none}
 use Rattle.lines.proofs.Answers.{One, Two, Three, Four}
-use Rattle.access.specs.Access.{shown}
-use Rattle.access.specs.declared.Shown.{Shown}
+use Rattle.answers.specs.Answers.{shown}
+use Rattle.answers.specs.declared.Shown.{Shown}
 use Rattle.access.specs.declared.Answer.{Answer}
 use Rattle.access.specs.declared.Answer.the-variants.{Refused}
 use Rattle.replies.specs.Replies.{digits, decimal, wordOf, endingOf, answerLine, asked, answerTo}

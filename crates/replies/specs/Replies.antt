@@ -6,7 +6,7 @@ use lib.ListN.{length}
 use lib.Dec.{ltb}
 use Rattle.search.specs.Bytes.{sameBytes}
 use Rattle.alphabet.specs.Alphabet.{lineLimit, fields}
-use Rattle.access.specs.Access.{shown}
+use Rattle.answers.specs.Answers.{shown}
 use Rattle.access.specs.declared.Answer.{Answer}
 use Rattle.access.specs.declared.Answer.the-variants.{Granted, Denied, Override, Refused}
 use Rattle.reports.specs.declared.Report.{Report}

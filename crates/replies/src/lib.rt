@@ -86,7 +86,7 @@ pub fn write_answer(out: &mut [u8], at: usize, answer: Answer) -> usize
     requires { ⌜ at + 66 ≤ length (now out) ⌝ }
     ensures { λ r. ⌜ Put 66 (now (out .entry)) at (answerLine answer) (now (out .exit)) r ⌝ }
 {
-    let shown = access::show(answer);
+    let shown = answers::show(answer);
     let word = write_word(out, at, answer);
     let end = write_number(out, word, shown.number as u32);
     if shown.bringup {

@@ -1,21 +1,37 @@
 -- 01, the paragraph after the single writes: a lent run of records, each a label number, a level and a set, of any length and content,
--- searched for the lowest label number whose level and set both match, or none. Refusal 9 comes first. `lowestOf` of the crate lookups is
--- the best of a run; that it is the lowest of those that match is shown there. Assumes nothing.
-use Prim.Native.Nat.{ℕ}
+-- searched for the lowest label number whose level and set both match, or none. Refusal 9 comes first. That the best of a run is the lowest of
+-- those that match is shown: specs/Lowest.antt. Assumes nothing.
+use Prim.Native.Nat.{ℕ, _≤_, _<_}
 use mathlib.Core.Bool.{Bool, cond, _&&_}
-use mathlib.Core.List.{List, [], _∷_}
-use Rattle.store.specs.Table.{knownSet}
-use Rattle.cipso.specs.Cipso.{isLevel}
-use Rattle.lookups.specs.Lookups.{lowestOf}
-use Rattle.lookups.specs.declared.Record.{Record}
-use Rattle.lookups.specs.declared.Best.{Best}
-use Rattle.lookups.specs.declared.Best.the-variants as best
+use mathlib.Core.List.{List, [], _∷_, foldl}
+use lib.Dec.{eqb, ltb}
+use Rattle.refusals.specs.Refusals.{badNumber}
+use Rattle.cipso.specs.Cipso.{sameSet}
+use Rattle.lookups.specs.Lookups.{sought}
 use Rattle.lookups.specs.declared.Label.{Label}
 use Rattle.lookups.specs.declared.Label.the-variants as label
+use Rattle.run.specs.declared.Record.{Record}
+use Rattle.run.specs.declared.Best.{Best}
+use Rattle.run.specs.declared.Best.the-variants as best
 
--- a level and a set that can be searched for
-unfoldable pub sought : ℕ → ℕ → Bool
-sought level s = isLevel level && knownSet s
+-- a record's level and set both match
+abbrev pub matches : ℕ → ℕ → Record → Bool
+matches level s r = eqb (r .level) level && sameSet (r .set) s
+
+-- the lower of a label number and the best so far
+abbrev pub lowerLabel : ℕ → Best → Best
+lowerLabel n (best.Label k) = best.Label (cond (ltb n k) n k)
+lowerLabel n best.Nothing = best.Label n
+
+-- the best so far and one record more
+unfoldable pub lowerOf : ℕ → ℕ → Best → Record → Best
+lowerOf level s b r = cond (matches level s r) (lowerLabel (r .label) b) b
+
+-- the best of a run
+unfoldable pub lowestOf : List Record → ℕ → ℕ → Best
+lowestOf run level s = foldl (lowerOf level s) best.Nothing run
+
+-- ---- the search
 
 -- the answer by the best of a run
 abbrev pub said : Best → Label
@@ -24,7 +40,7 @@ said best.Nothing = label.Nothing
 
 -- 9 the level is over 255, or the set has a bit that is no category; then the answer
 unfoldable pub settledOf : Best → ℕ → ℕ → Label
-settledOf b level s = cond (sought level s) (said b) (label.Refused 9)
+settledOf b level s = cond (sought level s) (said b) (label.Refused badNumber)
 
 -- the search of a run
 unfoldable pub runOf : List Record → ℕ → ℕ → Label
@@ -36,3 +52,10 @@ recordsOf [] levels sets = []
 recordsOf (a ∷ labels) [] sets = []
 recordsOf (a ∷ labels) (b ∷ levels) [] = []
 recordsOf (a ∷ labels) (b ∷ levels) (c ∷ sets) = record { label = a; level = b; set = c } ∷ recordsOf labels levels sets
+
+-- r is the shortest of three lengths: no longer than any, and not shorter than all
+pub record Shortest (a b c r : ℕ) : Type 0 where
+  pub first : r ≤ a
+  pub second : r ≤ b
+  pub third : r ≤ c
+  pub one : r < a → r < b → r < c → ⊥

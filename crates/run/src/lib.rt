@@ -1,35 +1,59 @@
 // A run of records that the host lends, searched for the lowest label number whose level and set both match (01, Single writes, the
 // paragraph after them). A run may have any length and content. It is no part of the state, so no search of it gets 0.
-use lookups::Best;
 use lookups::Label;
-use lookups::Record;
 ghost use mathlib.Core.Path.{_≡_};
-ghost use Rattle.run.specs.Run.{sought, settledOf, runOf, recordsOf};
-ghost use Rattle.run.specs.Within.{searched, Shortest};
+ghost use Rattle.run.specs.Run.{lowerOf, settledOf, runOf, Shortest, recordsOf};
+ghost use Rattle.run.specs.Within.{searched};
 
-// Whether a level and a set can be searched for: the level is 0 to 255, and the set has no bit that is no category.
-fn known(level: u64, set: u64) -> bool
-    ensures { λ r. ⌜ r ≡ sought level set ⌝ }
+// A record of a run: a label number, a level and a set, of any content.
+#[repr(C)]
+pub struct Record {
+    pub label: u64,
+    pub level: u64,
+    pub set: u64,
+}
+
+// The lowest label number of the records so far that match, or none.
+pub enum Best {
+    Label(u64),
+    Nothing,
+}
+
+// The lower of the best label so far and a record's, where the record's level and set both match.
+fn lower(best: Best, entry: Record, level: u64, set: u64) -> Best
+    ensures { λ r. ⌜ r ≡ lowerOf level set best entry ⌝ }
 {
-    if 255 < level {
-        return false;
+    if entry.level != level {
+        return best;
     }
-    set % 2 == 0
+    if entry.set != set {
+        return best;
+    }
+    match best {
+        Best::Label(n) => {
+            if entry.label < n {
+                Best::Label(entry.label)
+            } else {
+                Best::Label(n)
+            }
+        }
+        Best::Nothing => Best::Label(entry.label),
+    }
 }
 
 // How many of a run's records are looked at: all, or none where the level or the set is refused.
 fn reach(count: usize, level: u64, set: u64) -> usize
     ensures { λ r. ⌜ r ≡ searched count level set ⌝ }
 {
-    if known(level, set) { count } else { 0 }
+    if lookups::known(level, set) { count } else { 0 }
 }
 
 // What a search answers by the best that it found.
 fn settled(best: Best, level: u64, set: u64) -> Label
     ensures { λ r. ⌜ r ≡ settledOf best level set ⌝ }
 {
-    if !known(level, set) {
-        return Label::Refused(9);
+    if !lookups::known(level, set) {
+        return Label::Refused(refusals::BAD_NUMBER);
     }
     match best {
         Best::Label(n) => Label::Number(n as usize),
@@ -60,13 +84,13 @@ pub fn lowest_of(labels: &[u64], levels: &[u64], sets: &[u64], level: u64, set: 
             level: levels[i],
             set: sets[i],
         };
-        best = lookups::lower(best, entry, level, set);
+        best = lower(best, entry, level, set);
         i += 1;
     }
     settled(best, level, set)
 }
 
-// The search of a run of records. It reads a record whole, and `lookups::lower` compares it by value.
+// The search of a run of records. It reads a record whole, and `lower` compares it by value.
 pub fn lowest(run: &[Record], level: u64, set: u64) -> Label
     ensures { λ r. ⌜ r ≡ runOf (now (run .entry)) level set ⌝ }
 {
@@ -74,7 +98,7 @@ pub fn lowest(run: &[Record], level: u64, set: u64) -> Label
     let mut best = Best::Nothing;
     let mut i = 0;
     while i < count {
-        best = lookups::lower(best, run[i], level, set);
+        best = lower(best, run[i], level, set);
         i += 1;
     }
     settled(best, level, set)

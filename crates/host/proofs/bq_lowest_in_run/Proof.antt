@@ -37,9 +37,9 @@ use denote.Triple.Table.{entered, cited}
 use denote.Triple.Walked.{says, Stays, stay-none-slice, stay-none, walkOf, Walks, ends-at, walked, goes-none-slice, goes-none, walk-meets}
 use denote.Triple.Clauses.{ensured, lasts}
 use denote.Exit.{yes}
-use Rattle.lookups.specs.declared.Record.{Record}
+use Rattle.run.specs.declared.Record.{Record}
 use Rattle.lookups.specs.declared.Label.{Label}
-use Rattle.lookups.proofs.Record as T
+use Rattle.run.proofs.Record as T
 use Rattle.lookups.proofs.Label as R
 use Rattle.lookups.proofs.Label.Laws as R′
 use Rattle.run.specs.Run.{runOf}

@@ -1,8 +1,6 @@
 -- `host::bq_question` meets its contract: its callee's answer in numbers. Assumes nothing.
 use mathlib.Core.Path.{_∙_, ap}
-use Rattle.access.specs.Access.{shown}
-use Rattle.access.specs.Access.{shown}
-use Rattle.access.specs.Access.{shown}
+use Rattle.answers.specs.Answers.{shown}
 use borrow.Author.Needs.{needs}
 use Rattle.host.proofs.bq_question.Statement.{statement}
 use Rattle.host.proofs.bq_question.Tie as tie

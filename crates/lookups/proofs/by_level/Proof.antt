@@ -7,9 +7,9 @@ use borrow.Author.Tests.{not-true, not-false}
 use borrow.Author.Count.{below-more}
 use Rattle.store.specs.Layout.{store, tableOf, undamagedOf}
 use Rattle.store.proofs.Laws.{Undamaged, undamaged-is}
-use Rattle.lookups.specs.Lookups.{hasBoth}
+use Rattle.lookups.specs.Lookups.{sought, hasBoth}
 use borrow.Author.Needs.{needs}
-use Rattle.lookups.proofs.Laws.{level-damaged, level-high, level-unknown, level-found, level-none}
+use Rattle.lookups.proofs.Laws.{level-damaged, level-refused, level-found, level-none}
 use Rattle.lookups.proofs.by_level.Statement.{statement}
 use Rattle.lookups.proofs.by_level.Tie as tie
 
@@ -26,6 +26,9 @@ tested c = sym (c .before .undamaged .ensures) ∙ not-false (c .before .undamag
 whole : (c : tie.Else1 Inv-loop μ-loop) → Undamaged (store (c .before .before .before .before .before .args .labels .now) (c .before .before .before .before .before .args .entries .now) (c .before .before .before .before .before .args .words .now))
 whole c = undamaged-is _ (tested c)
 
+searched : (c : tie.Else2 Inv-loop μ-loop) → sought (c .before .before .before .before .before .before .before .args .level) (c .before .before .before .before .before .before .before .args .set) ≡ true
+searched c = sym (c .before .known .ensures) ∙ not-false (c .before .known .result) (c .if2 .left)
+
 undamaged-requires : tie.Need-undamaged-requires Inv-loop μ-loop
 undamaged-requires c κs = search needs
 
@@ -34,15 +37,13 @@ returns c =
     let a = c .before .before .before .before .before .args in
     sym (level-damaged (a .labels .now) (a .entries .now) (a .words .now) (a .level) (a .set) (sym (c .before .undamaged .ensures) ∙ not-true (c .before .undamaged .result) (c .if1 .taken)))
 
+known-requires : tie.Need-known-requires Inv-loop μ-loop
+known-requires c κs = search needs
+
 returns-2 : tie.Need-returns-2 Inv-loop μ-loop
 returns-2 c =
-    let a = c .before .before .before .before .before .before .args in
-    sym (level-high (a .labels .now) (a .entries .now) (a .words .now) (a .level) (a .set) (tested (c .before)) (c .if2 .taken))
-
-returns-3 : tie.Need-returns-3 Inv-loop μ-loop
-returns-3 c =
     let a = c .before .before .before .before .before .before .before .args in
-    sym (level-unknown (a .labels .now) (a .entries .now) (a .words .now) (a .level) (a .set) (tested (c .before .before)) (c .before .if2 .left) (c .if3 .taken))
+    sym (level-refused (a .labels .now) (a .entries .now) (a .words .now) (a .level) (a .set) (tested (c .before .before)) (sym (c .before .known .ensures) ∙ not-true (c .before .known .result) (c .if2 .taken)))
 
 shared-slice-read-stored : tie.Need-shared-slice-read-stored Inv-loop μ-loop
 shared-slice-read-stored c = omega (arith, whole (c .before .before .before) .sizes .words)
@@ -53,11 +54,11 @@ loop-holds c = (omega arith, λ j h. absurd (omega arith))
 has-both-requires : tie.Need-has-both-requires Inv-loop μ-loop
 has-both-requires c κs = (whole (c .before .before .before .before .before) .sizes, whole (c .before .before .before .before .before) .counts, c .loop-test .taken)
 
-returns-4 : tie.Need-returns-4 Inv-loop μ-loop
-returns-4 c =
+returns-3 : tie.Need-returns-3 Inv-loop μ-loop
+returns-3 c =
     let a = c .before .before .before .before .before .before .before .before .before .before .before .before .args in
     let l = c .before .before .before .loop in
-    sym (level-found (a .labels .now) (a .entries .now) (a .words .now) (a .level) (a .set) (tested (c .before .before .before .before .before .before .before)) (c .before .before .before .before .before .before .if2 .left) (c .before .before .before .before .before .if3 .left) (l .n) (c .before .before .loop-test .taken) (l .inv .1) (sym (c .before .has-both .ensures) ∙ c .if4 .taken))
+    sym (level-found (a .labels .now) (a .entries .now) (a .words .now) (a .level) (a .set) (tested (c .before .before .before .before .before .before .before)) (searched (c .before .before .before .before .before)) (l .n) (c .before .before .loop-test .taken) (l .inv .1) (sym (c .before .has-both .ensures) ∙ c .if3 .taken))
 
 add-n : tie.Need-add-n Inv-loop μ-loop
 add-n c = omega (arith, c .before .before .loop-test .taken, whole (c .before .before .before .before .before .before .before) .counts .labels)
@@ -66,13 +67,13 @@ loop-less : tie.Need-loop-less Inv-loop μ-loop
 loop-less c = omega arith
 
 loop-again : tie.Need-loop-again Inv-loop μ-loop
-loop-again c = (omega arith, below-more _ _ (c .before .before .before .loop .inv .1) (sym (c .before .has-both .ensures) ∙ c .if4 .left))
+loop-again c = (omega arith, below-more _ _ (c .before .before .before .loop .inv .1) (sym (c .before .has-both .ensures) ∙ c .if3 .left))
 
-returns-5 : tie.Need-returns-5 Inv-loop μ-loop
-returns-5 c =
+returns-4 : tie.Need-returns-4 Inv-loop μ-loop
+returns-4 c =
     let a = c .before .before .before .before .before .before .before .before .before .before .args in
     let l = c .before .loop in
-    sym (level-none (a .labels .now) (a .entries .now) (a .words .now) (a .level) (a .set) (tested (c .before .before .before .before .before)) (c .before .before .before .before .if2 .left) (c .before .before .before .if3 .left) (λ j h. l .inv .1 j (omega arith)))
+    sym (level-none (a .labels .now) (a .entries .now) (a .words .now) (a .level) (a .set) (tested (c .before .before .before .before .before)) (searched (c .before .before .before)) (λ j h. l .inv .1 j (omega arith)))
 
 pub by-level-spec : {M : Type 1} → statement M
 by-level-spec =
@@ -82,13 +83,13 @@ by-level-spec =
     μ-loop
     undamaged-requires
     returns
+    known-requires
     returns-2
-    returns-3
     shared-slice-read-stored
     loop-holds
     has-both-requires
-    returns-4
+    returns-3
     add-n
     loop-less
     loop-again
-    returns-5)
+    returns-4)

@@ -1,4 +1,4 @@
--- `run::lowest` meets its contract: a walk of its MIR, by hand. A turn reads the record at i whole, and calls `lookups::lower` with it and
+-- `run::lowest` meets its contract: a walk of its MIR, by hand. A turn reads the record at i whole, and calls `lower` with it and
 -- with the best so far, which is an enum. The invariant: the best so far with the records that are left makes the best of the run. The
 -- variant is what is left to look at. Assumes nothing.
 use mathlib.Core.Path.{_≡_, refl, sym, _∙_, subst}
@@ -49,20 +49,19 @@ use denote.Triple.Walked.{says, Stays, stay-none-slice, stay-none, walkOf, Walks
 use denote.Triple.Clauses.{ensured, lasts}
 use denote.Exit.{yes}
 use borrow.Author.Needs.{scaled-fits}
-use Rattle.lookups.specs.Lookups.{lowerOf}
-use Rattle.lookups.specs.declared.Record.{Record}
-use Rattle.lookups.specs.declared.Best.{Best}
-use Rattle.lookups.specs.declared.Best.the-variants.{Nothing}
-use Rattle.lookups.proofs.Record as T
-use Rattle.lookups.proofs.Record.Laws as T′
-use Rattle.lookups.proofs.Best as B
-use Rattle.lookups.proofs.Best.Laws as B′
-use Rattle.lookups.proofs.lower as lower
-use Rattle.lookups.proofs.lower.Symbol as lower-def
-use Rattle.lookups.proofs.lower.Symbol.{name as #lookups·lower}
-use Rattle.lookups.proofs.lower.Met as lower-thm
+use Rattle.run.specs.declared.Record.{Record}
+use Rattle.run.specs.declared.Best.{Best}
+use Rattle.run.specs.declared.Best.the-variants.{Nothing}
+use Rattle.run.proofs.Record as T
+use Rattle.run.proofs.Record.Laws as T′
+use Rattle.run.proofs.Best as B
+use Rattle.run.proofs.Best.Laws as B′
+use Rattle.run.proofs.lower as lower
+use Rattle.run.proofs.lower.Symbol as lower-def
+use Rattle.run.proofs.lower.Symbol.{name as #run·lower}
+use Rattle.run.proofs.lower.Met as lower-thm
 use Rattle.lookups.specs.declared.Label.{Label}
-use Rattle.run.specs.Run.{settledOf, runOf}
+use Rattle.run.specs.Run.{lowerOf, settledOf, runOf}
 use Rattle.run.specs.Within.{searched}
 use Rattle.run.proofs.Laws.{Left, left-start, left-next, left-settled, searched-within}
 use Rattle.lookups.proofs.Label as R
@@ -230,7 +229,7 @@ module _ {M : Type 1} (𝓤 : URA M) (H : Heap 𝓤) (A : Atoms 𝓤) (W : Given
       left = left-next ys lv st zero (t .best) r (t .i) (omega (arith, few)) e (t .left);
     }
 
-  module _ (𝓣 : Tables 𝓤 H) (fm : FmC 𝓤 H (W .laws) (𝓣 .C)) (known-lower : Triple 𝓤 (𝓣 .C #lookups·lower) (Lower 𝓤 H A mem run)) (known-reach : Triple 𝓤 (𝓣 .C #run·reach) (Reach 𝓤 H A mem run)) (known-settled : Triple 𝓤 (𝓣 .C #run·settled) (Settled 𝓤 H A mem run)) (gn : Room T.the-row (length ys)) where
+  module _ (𝓣 : Tables 𝓤 H) (fm : FmC 𝓤 H (W .laws) (𝓣 .C)) (known-lower : Triple 𝓤 (𝓣 .C #run·lower) (Lower 𝓤 H A mem run)) (known-reach : Triple 𝓤 (𝓣 .C #run·reach) (Reach 𝓤 H A mem run)) (known-settled : Triple 𝓤 (𝓣 .C #run·settled) (Settled 𝓤 H A mem run)) (gn : Room T.the-row (length ys)) where
     module _ (l₀ l₁ l₂ l₃ l₄ l₅ l₆ l₇ l₈ l₉ l₁₀ l₁₁ : ℕ) where
       abbrev C : Calls 𝓤 H
       C = 𝓣 .C
@@ -338,7 +337,7 @@ module _ {M : Type 1} (𝓤 : URA M) (H : Heap 𝓤) (A : Atoms 𝓤) (W : Given
         pass1 ! (init ! 20 refl (tt, (tt, (record { fits = gn .0 }, tt)))) $ pass1 ! (init ! 18 refl (tt, record { fits = gl })) $ pass1 ! (init ! 16 refl (tt, record { fits = gs })) $ pass0 ! $
         body-runs l₀ l₁ l₂ l₃ l₄ l₅ l₆ l₇ l₈ l₉ l₁₀ l₁₁))))))))))))
 
-module _ {M : Type 1} (𝓤 : URA M) (H : Heap 𝓤) (A : Atoms 𝓤) (W : Given 𝓤 H A) (mem : Memory → SProp 𝓤) (run : Routine → Fun 𝓤) (𝓣 : Tables 𝓤 H) (known-lower : Triple 𝓤 (𝓣 .C #lookups·lower) (Lower 𝓤 H A mem run)) (known-reach : Triple 𝓤 (𝓣 .C #run·reach) (Reach 𝓤 H A mem run)) (known-settled : Triple 𝓤 (𝓣 .C #run·settled) (Settled 𝓤 H A mem run)) where
+module _ {M : Type 1} (𝓤 : URA M) (H : Heap 𝓤) (A : Atoms 𝓤) (W : Given 𝓤 H A) (mem : Memory → SProp 𝓤) (run : Routine → Fun 𝓤) (𝓣 : Tables 𝓤 H) (known-lower : Triple 𝓤 (𝓣 .C #run·lower) (Lower 𝓤 H A mem run)) (known-reach : Triple 𝓤 (𝓣 .C #run·reach) (Reach 𝓤 H A mem run)) (known-settled : Triple 𝓤 (𝓣 .C #run·settled) (Settled 𝓤 H A mem run)) where
   walks : Walks 𝓤 H A fn.ended stayed (WpFn 𝓤 H (𝓣 .C) (𝓣 .Λ) code.function) (fn.clauses 𝓤 H A mem run)
   walks = walked 𝓤 H A fn.ended stayed (fn.clauses 𝓤 H A mem run) (WpFn 𝓤 H (𝓣 .C) (𝓣 .Λ) code.function) (λ κs. (slice-vals, (uint-vals w64, (uint-vals w64, tt)))) (λ κs. (shr-slice-tells (named 0) (κs .0) T.the-row, (uint-tells w64, (uint-tells w64, tt))))
       (λ κs qs bounds a g are. via 𝓤 _ (fst∗ 𝓤 _ (emp 𝓤))
@@ -353,6 +352,6 @@ lowest-spec 𝓤 H 𝓜 𝓖 𝓡 =
     entered 𝓤 H (tripleOf 𝓤 H (𝓖 .A) fn.signature (fn.spec 𝓤 H (𝓖 .A) (𝓜 .mem) (𝓡 .run)))
     (tables 𝓤 H 𝓜 𝓡 code.env .C) (tables 𝓤 H 𝓜 𝓡 code.env .Λ) #run·lowest code.function (code.unfolded 𝓤 H 𝓜 𝓡)
     (meets 𝓤 H (𝓖 .A) (givenOf 𝓤 H 𝓜 𝓖) (𝓜 .mem) (𝓡 .run) (tablesOf 𝓤 H 𝓜 (tables 𝓤 H 𝓜 𝓡 code.env))
-    (cited 𝓤 H (Lower 𝓤 H (𝓖 .A) (𝓜 .mem) (𝓡 .run)) 𝓜 𝓡 code.env #lookups·lower lower-def.routine code.calls-lookups·lower (lower-thm.met 𝓤 H 𝓜 𝓖 𝓡))
+    (cited 𝓤 H (Lower 𝓤 H (𝓖 .A) (𝓜 .mem) (𝓡 .run)) 𝓜 𝓡 code.env #run·lower lower-def.routine code.calls-run·lower (lower-thm.met 𝓤 H 𝓜 𝓖 𝓡))
     (cited 𝓤 H (Reach 𝓤 H (𝓖 .A) (𝓜 .mem) (𝓡 .run)) 𝓜 𝓡 code.env #run·reach reach-def.routine code.calls-run·reach (reach-thm.met 𝓤 H 𝓜 𝓖 𝓡))
     (cited 𝓤 H (Settled 𝓤 H (𝓖 .A) (𝓜 .mem) (𝓡 .run)) 𝓜 𝓡 code.env #run·settled settled-def.routine code.calls-run·settled (settled-thm.met 𝓤 H 𝓜 𝓖 𝓡)))

@@ -6,7 +6,7 @@ use mathlib.Core.List.{List}
 use native.Mathlib.Omega.{arith}
 use borrow.Author.Needs.{needs}
 use lib.ListN.{length}
-use Rattle.lookups.specs.declared.Record.{Record}
+use Rattle.run.specs.declared.Record.{Record}
 use Rattle.run.specs.Run.{recordsOf}
 use Rattle.run.proofs.Laws.{Left, left-start, left-settled, searched-within, records-length, records-next, shortest-same}
 use Rattle.run.proofs.lowest_of.Statement.{statement}

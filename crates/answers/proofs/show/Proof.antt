@@ -1,10 +1,16 @@
--- `access::show` meets its contract: a case for each case. Assumes nothing.
-use mathlib.Core.Path.{sym, ap, _∙_}
-use Rattle.access.specs.Access.{shown}
-use Rattle.access.proofs.Laws.{shown-as}
+-- `answers::show` meets its contract: a case for each case. Assumes nothing.
+use Prim.Native.Nat.{ℕ}
+use mathlib.Core.Path.{_≡_, sym, ap, _∙_}
+use mathlib.Core.Bool.{false}
+use Rattle.answers.specs.declared.Shown.{Shown}
+use Rattle.answers.specs.Answers.{shown}
 use borrow.Author.Needs.{needs}
-use Rattle.access.proofs.show.Statement.{statement}
-use Rattle.access.proofs.show.Tie as tie
+use Rattle.answers.proofs.show.Statement.{statement}
+use Rattle.answers.proofs.show.Tie as tie
+
+-- by the rule's number
+shown-as : (kind : ℕ) (n m : ℕ) → n ≡ m → _≡_ {A = Shown} (record { kind = kind; number = n; bringup = false }) (record { kind = kind; number = m; bringup = false })
+shown-as kind n m e = rw e
 
 enum-known-answer : tie.Need-enum-known-answer
 enum-known-answer c = search needs

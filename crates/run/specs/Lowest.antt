@@ -3,8 +3,8 @@ use Prim.Native.Nat.{ℕ, _≤_}
 use mathlib.Core.Bool.{true, false}
 use mathlib.Core.Path.{_≡_}
 use mathlib.Core.List.{List, List·Memᴰ}
-use Rattle.lookups.specs.declared.Record.{Record}
-use Rattle.lookups.specs.Lookups.{matches}
+use Rattle.run.specs.declared.Record.{Record}
+use Rattle.run.specs.Run.{matches}
 
 -- n is the lowest label of the records that match: one of them has it, and none has a lower one
 pub record Lowest (run : List Record) (level s n : ℕ) : Type 0 where

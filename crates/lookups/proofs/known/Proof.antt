@@ -1,8 +1,8 @@
--- `run::known` meets its contract: it makes the definition's tests in their order. Assumes nothing.
+-- `lookups::known` meets its contract: it makes the definition's tests in their order. Assumes nothing.
 use borrow.Author.Tests.{lt-leb, le-leb}
-use Rattle.run.specs.Run.{sought}
-use Rattle.run.proofs.known.Statement.{statement}
-use Rattle.run.proofs.known.Tie as tie
+use Rattle.lookups.specs.Lookups.{sought}
+use Rattle.lookups.proofs.known.Statement.{statement}
+use Rattle.lookups.proofs.known.Tie as tie
 
 returns : tie.Need-returns
 unfolding sought

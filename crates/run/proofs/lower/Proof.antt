@@ -1,9 +1,9 @@
--- `lookups::lower` meets its contract: it makes the definition's tests in their order. Assumes nothing.
+-- `run::lower` meets its contract: it makes the definition's tests in their order. Assumes nothing.
 use borrow.Author.Tests.{eq-eqb, ne-eqb, lt-ltb, le-ltb}
-use Rattle.lookups.specs.Lookups.{lowerOf}
+use Rattle.run.specs.Run.{lowerOf}
 use borrow.Author.Needs.{needs}
-use Rattle.lookups.proofs.lower.Statement.{statement}
-use Rattle.lookups.proofs.lower.Tie as tie
+use Rattle.run.proofs.lower.Statement.{statement}
+use Rattle.run.proofs.lower.Tie as tie
 
 returns : tie.Need-returns
 unfolding lowerOf
