@@ -10,12 +10,14 @@ ghost use Rattle.search.specs.Search.{first, entries as listed};
 ghost use Rattle.search.specs.Bytes.{sameBytes};
 ghost use Rattle.store.specs.Table.{isPair, labelLimit, ruleLimit};
 ghost use Rattle.store.specs.Layout.{labelsSize, modesFrom, labelAt, ruleAt};
+ghost use Rattle.places.specs.Places.{labelStart, PartFrom};
 ghost use Rattle.places.specs.Within.{Unlike, NoPair, wordAt, NoWord, NotHeld};
 
 // The very part of the label store that holds label k. Who calls it has tested the store.
 pub fn label_at(labels: &[u8], k: usize) -> &[u8]
     requires { ⌜ (length (now labels) ≡ labelsSize) × (k < labelLimit) ⌝ }
     ensures { λ r. ⌜ now r ≡ labelAt (now (labels .entry)) k ⌝ }
+    ensures { λ r. ⌜ PartFrom r (labels .entry) (labelStart k) ⌝ }
 {
     let at = k * store::LABEL_PLACE;
     let start = at + 1;

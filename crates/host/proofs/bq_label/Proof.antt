@@ -56,9 +56,9 @@ returns-2 c =
     let k = c .before .before .before .before .before .before .before .args .k in
     let h = done (c .before) in
     let e = sym (c .before .before .before .label-check .ensures) ∙ c .before .enum-told .given .1 in
-    let held = c .label-at .ensures ∙ label-is s k (h .0) (h .1) in (
+    let held = c .label-at .ensures .0 ∙ label-is s k (h .0) (h .1) in (
       ap (λ (l : List ℕ). partShown k (length l) d.Done) held ∙ sym (ap (partShown k (length (labelGiven s k))) e),
-      ap (λ (l : List ℕ). take (length l) (drop (k * 256 + 1) (s .labels))) (c .label-at .ensures) ∙ label-stands (s .labels) k (h .0 .sizes .labels) (few (c .before)) ∙ label-is s k (h .0) (h .1),
+      ap (λ (l : List ℕ). take (length l) (drop (k * 256 + 1) (s .labels))) (c .label-at .ensures .0) ∙ label-stands (s .labels) k (h .0 .sizes .labels) (few (c .before)) ∙ label-is s k (h .0) (h .1),
     )
 
 pub bq-label-spec : {M : Type 1} → statement M

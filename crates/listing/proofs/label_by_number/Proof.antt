@@ -42,7 +42,7 @@ returns : tie.Need-returns
 returns c = label-refused (lent (c .before .before .before .before .before .before .before)) (c .before .before .before .before .before .before .before .args .k) _ (sym (c .before .before .before .label-check .ensures) ∙ c .before .enum-told .given .1)
 
 returns-2 : tie.Need-returns-2
-returns-2 c = let h = done (c .before) in c .label-at .ensures ∙ label-is (lent (c .before .before .before .before .before .before .before)) (c .before .before .before .before .before .before .before .args .k) (h .0) (h .1)
+returns-2 c = let h = done (c .before) in c .label-at .ensures .0 ∙ label-is (lent (c .before .before .before .before .before .before .before)) (c .before .before .before .before .before .before .before .args .k) (h .0) (h .1)
 
 pub label-by-number-spec : {M : Type 1} → statement M
 label-by-number-spec =

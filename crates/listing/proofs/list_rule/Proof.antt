@@ -116,8 +116,8 @@ put-text-requires : tie.Need-put-text-requires
 put-text-requires c κs =
     let a = c .before .before .before .before .before .before .before .before .before .before .before .before .before .before .before .before .before .before .before .args in
     let m = getD (a .entries .now) (512 + a .k) 0 in
-    let e = ap length (c .before .before .before .before .before .before .before .before .before .label-at .ensures) in
-    let f = ap length (c .before .before .before .before .before .before .before .label-at2 .ensures) in
+    let e = ap length (c .before .before .before .before .before .before .before .before .before .label-at .ensures .0) in
+    let f = ap length (c .before .before .before .before .before .before .before .label-at2 .ensures .0) in
     let g = label-short (a .labels .now) (getD (a .entries .now) (a .k) 0) in
     let h = label-short (a .labels .now) (getD (a .entries .now) (256 + a .k) 0) in
     (omega (arith, e, f, g, h), omega (arith, e, f, g, h), rw (text (c .before .before .before .before)) (text-long m))
@@ -132,8 +132,8 @@ returns-3 c =
     let u = whole (c .before .before .before .before .before .before .before .before .before .before .before .before .before .before .before .before) in
     let h = c .before .before .before .before .before .before .before .before .before .before .before .before .before .before .if2 .left in
     let t = tested (c .before .before .before .before .before .before .before .before .before .before .before .before .before .before .before .before) in (
-      c .before .before .put-text .ensures .0 ∙ list-answer s u k h _ _ _ (c .before .before .before .before .before .before .before .before .before .before .before .before .before .before .before .before .before .before .before .before .before .before .args .out .now) (c .before .before .before .before .before .before .before .before .before .before .before .before .label-at .ensures) (c .before .before .before .before .before .before .before .before .before .before .label-at2 .ensures) (text (c .before .before .before .before .before .before .before)) t,
-      c .before .before .put-text .ensures .1 ∙ list-out s u k h _ _ _ (c .before .before .before .before .before .before .before .before .before .before .before .before .before .before .before .before .before .before .before .before .before .before .args .out .now) (c .before .before .before .before .before .before .before .before .before .before .before .before .label-at .ensures) (c .before .before .before .before .before .before .before .before .before .before .label-at2 .ensures) (text (c .before .before .before .before .before .before .before)) t,
+      c .before .before .put-text .ensures .0 ∙ list-answer s u k h _ _ _ (c .before .before .before .before .before .before .before .before .before .before .before .before .before .before .before .before .before .before .before .before .before .before .args .out .now) (c .before .before .before .before .before .before .before .before .before .before .before .before .label-at .ensures .0) (c .before .before .before .before .before .before .before .before .before .before .label-at2 .ensures .0) (text (c .before .before .before .before .before .before .before)) t,
+      c .before .before .put-text .ensures .1 ∙ list-out s u k h _ _ _ (c .before .before .before .before .before .before .before .before .before .before .before .before .before .before .before .before .before .before .before .before .before .before .args .out .now) (c .before .before .before .before .before .before .before .before .before .before .before .before .label-at .ensures .0) (c .before .before .before .before .before .before .before .before .before .before .label-at2 .ensures .0) (text (c .before .before .before .before .before .before .before)) t,
     )
 
 pub list-rule-spec : {M : Type 1} → statement M

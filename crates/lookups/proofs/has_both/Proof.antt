@@ -25,7 +25,7 @@ below c = mapping-below _ _ _ _ _ (found c)
 -- the search for the label's own bytes
 sought : (c : tie.After-find-label) {r : Found} → c .find-label .result ≡ r → first (sameBytes (labelAt (c .before .before .before .before .before .before .before .before .before .before .before .before .before .before .before .args .labels .now) (c .before .before .before .before .before .before .before .before .before .before .before .before .before .before .before .args .n))) (entries (labelAt (c .before .before .before .before .before .before .before .before .before .before .before .before .before .before .before .args .labels .now)) (getD (c .before .before .before .before .before .before .before .before .before .before .before .before .before .before .before .args .words .now) 0 0)) ≡ r
 sought c e =
-    ap (λ (b : List ℕ). first (sameBytes b) (entries (labelAt (c .before .before .before .before .before .before .before .before .before .before .before .before .before .before .before .args .labels .now)) (getD (c .before .before .before .before .before .before .before .before .before .before .before .before .before .before .before .args .words .now) 0 0))) (sym (c .before .label-at .ensures))
+    ap (λ (b : List ℕ). first (sameBytes b) (entries (labelAt (c .before .before .before .before .before .before .before .before .before .before .before .before .before .before .before .args .labels .now)) (getD (c .before .before .before .before .before .before .before .before .before .before .before .before .before .before .before .args .words .now) 0 0))) (sym (c .before .label-at .ensures .0))
     ∙ sym (c .find-label .ensures)
     ∙ e
 
