@@ -19,7 +19,8 @@ use Rattle.load.specs.Loader.{Load}
 use Rattle.lists.specs.Reader as r
 use Rattle.lists.specs.Reader.{startOn, Write, Call, Reply, judgeWrite, afterAll, saysAll, Event, byte, stop, wrote, events}
 use Rattle.grown.specs.Grown.{Grown}
-use Rattle.grown.specs.Pairs.{Triple, modesBetween, modesSoFar, hasRoom, SetsPair}
+use Rattle.access.specs.Rules.{modesBetween}
+use Rattle.grown.specs.Pairs.{Triple, modesSoFar, hasRoom, SetsPair}
 
 -- ---- what acts on the tables: each line that a newline or an end call ends, whole, and each single write, in order. The bytes after the last
 -- newline or end call are no line
