@@ -1,10 +1,11 @@
 -- 01's number and values for each case of each answer that is an enum: what a host gets for it, as plain numbers. The promises of the
 -- exported functions use these definitions. Where an answer is refused the number is the refusal's, and otherwise 0 (but for a question); what a
 -- case has no value for is 0. Assumes nothing.
-use Prim.Native.Nat.{ℕ, _+_, _*_}
+use Prim.Native.Nat.{ℕ}
 use mathlib.Core.Bool.{true, false}
 use Rattle.store.specs.declared.Done.{Done}
 use Rattle.store.specs.declared.Done.the-variants as done
+use Rattle.places.specs.Places.{labelStart}
 use Rattle.access.specs.Rules.{denialNumber}
 use Rattle.access.specs.declared.Answer.{Answer}
 use Rattle.access.specs.declared.Answer.the-variants as answer
@@ -76,7 +77,7 @@ searchShown (label.Number k) = record { kind = 0; number = 0; label = k }
 searchShown label.Nothing = record { kind = 1; number = 0; label = 0 }
 searchShown (label.Refused n) = record { kind = 2; number = n; label = 0 }
 
--- a label by its number, whose length is n: where it stands in the label store, the byte before it being its length
+-- a label by its number, whose length is n: where it stands in the label store
 abbrev pub partShown : ℕ → ℕ → Done → Part
-partShown k n done.Done = record { refused = false; number = 0; start = k * 256 + 1; length = n }
+partShown k n done.Done = record { refused = false; number = 0; start = labelStart k; length = n }
 partShown k n (done.Refused number) = record { refused = true; number = number; start = 0; length = 0 }

@@ -56,7 +56,8 @@ use Rattle.lookups.specs.Lookups.{byLabelOf, byLevelOf}
 use Rattle.run.specs.Run.{runOf, recordsOf}
 use Rattle.access.specs.Access.{questionOf}
 use Rattle.answers.specs.Answers.{shown}
-use Rattle.listing.specs.Listing.{listAnswer, listOut, labelGiven, labelAnswer}
+use Rattle.places.specs.Places.{PartFrom}
+use Rattle.listing.specs.Listing.{listAnswer, listOut, labelGiven, labelAnswer, labelFrom}
 use Rattle.reports.specs.Report.{freshLoader}
 use Rattle.load.specs.Loader.{pieceAnswer, pieceAfter, endAnswer, endAfter}
 use Rattle.lists.specs.Called.{first, second, third, fourth, fifth, sixth, seventh, lent, left, loading, loaded}
@@ -152,6 +153,7 @@ pub record ExportedCalls : Type 0 where
   pub label-by-number : Promise label.ended label-reads.Asked label-reads.Learnt
       (λ κs a r l. (r ≡ partShown (fourth a) (length (labelGiven (lent a) (fourth a))) (labelAnswer (lent a) (fourth a)))
       × (take (r .length) (drop (r .start) (now (first a))) ≡ labelGiven (lent a) (fourth a)) × (l ≡ (tt, (tt, (tt, (tt, tt))))))
-  -- the very part of the lent labels, as a host in Rattle gets it
+  -- the very part of the lent labels, as a host in Rattle gets it: its bytes, and where it points
   pub label-part : Promise label-part.ended label-part-reads.Asked label-part-reads.Learnt
-      (λ κs a r l. (now r ≡ labelGiven (lent a) (fourth a)) × (l ≡ (tt, (tt, (tt, (tt, tt))))))
+      (λ κs a r l. (now r ≡ labelGiven (lent a) (fourth a)) × PartFrom r (first a) (labelFrom (labelAnswer (lent a) (fourth a)) (fourth a))
+      × (l ≡ (tt, (tt, (tt, (tt, tt))))))

@@ -7,6 +7,7 @@ use lib.Dec.{ltb}
 use Rattle.refusals.specs.Refusals.{damaged, noSuchNumber}
 use Rattle.modes.specs.Modes.{modesText}
 use Rattle.store.specs.declared.Rule.{Rule}
+use Rattle.places.specs.Places.{labelStart}
 use Rattle.store.specs.declared.Done.{Done}
 use Rattle.store.specs.declared.Done.the-variants as d
 use Rattle.store.specs.Table.{Table, labelNumbered, ruleNumbered}
@@ -54,3 +55,8 @@ labelGiven st k = cond (undamagedOf st) (labelNumbered (tableOf st) k) []
 
 unfoldable pub labelAnswer : Store → ℕ → Done
 labelAnswer st k = cond (undamagedOf st) (cond (ltb k (length (tableOf st .labels))) d.Done (d.Refused noSuchNumber)) (d.Refused damaged)
+
+-- where the part of the label store that is answered begins: behind the label's length; on a refusal it is empty, and begins where the store does
+abbrev pub labelFrom : Done → ℕ → ℕ
+labelFrom d.Done k = labelStart k
+labelFrom (d.Refused n) k = 0

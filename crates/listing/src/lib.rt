@@ -3,7 +3,9 @@ use output::Output;
 use store::Done;
 ghost use mathlib.Core.Path.{_≡_};
 ghost use Rattle.store.specs.Layout.{lent};
-ghost use Rattle.listing.specs.Listing.{listAnswer, listOut, labelGiven, labelAnswer};
+ghost use Rattle.places.specs.Places.{PartFrom};
+ghost use Rattle.listing.specs.Listing.{listAnswer, listOut, labelGiven, labelAnswer, labelFrom};
+
 
 // Rule number k as text.
 pub fn list_rule(labels: &[u8], entries: &[u8], words: &[u64], k: usize, out: &mut [u8]) -> Output
@@ -46,6 +48,7 @@ pub fn label_by_number<'a, 'b, 'c>(
     k: usize,
 ) -> &'a [u8]
     ensures { λ r. ⌜ now r ≡ labelGiven (lent labels entries words) k ⌝ }
+    ensures { λ r. ⌜ PartFrom r (labels .entry) (labelFrom (labelAnswer (lent labels entries words) k) k) ⌝ }
 {
     let answer = label_check(labels, entries, words, k);
     match answer {

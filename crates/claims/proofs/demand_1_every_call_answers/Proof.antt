@@ -22,7 +22,7 @@ returns c =
       listing = record { free = λ κs a. tt; says = λ κs a r l learnt. (learnt .0, learnt .1, refl, refl, refl) };
       label-check = record { free = λ κs a. tt; says = λ κs a r l learnt. (learnt, refl) };
       label-by-number = record { free = λ κs a. tt; says = λ κs a r l learnt. (learnt .0, learnt .1, refl) };
-      label-part = record { free = λ κs a. tt; says = λ κs a r l learnt. (learnt, refl) };
+      label-part = record { free = λ κs a. tt; says = λ κs a r l learnt. (learnt .0, learnt .1, refl) };
     }
 
 pub demand-1-every-call-answers-spec : {M : Type 1} → statement M

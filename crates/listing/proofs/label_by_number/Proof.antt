@@ -1,11 +1,13 @@
 -- `listing::label_by_number` meets its contract: where the check says done the number names a stored label. Assumes nothing.
-use Prim.Native.Nat.{_<_}
-use mathlib.Core.Path.{sym, _∙_}
+use Prim.Native.Nat.{ℕ, _+_, _<_}
+use mathlib.Core.Path.{_≡_, sym, ap, _∙_}
 use borrow.Author.Needs.{needs}
 use native.Mathlib.Omega.{arith}
 use lib.ListN.{getD}
 use Rattle.store.specs.Layout.{Store, store}
+use Rattle.store.specs.declared.Done.{Done}
 use Rattle.store.proofs.Laws.{Undamaged}
+use Rattle.listing.specs.Listing.{labelFrom}
 use Rattle.listing.proofs.Laws.{label-done, label-is, label-refused}
 use Rattle.listing.proofs.label_by_number.Statement.{statement}
 use Rattle.listing.proofs.label_by_number.Tie as tie
@@ -16,6 +18,13 @@ module _ (c : tie.Start) where
 
 done : (c : tie.After-enum-told2) → Undamaged (lent (c .before .before .before .before .before .before)) × (c .before .before .before .before .before .before .args .k < getD (c .before .before .before .before .before .before .args .words .now) 0 0)
 done c = label-done (lent (c .before .before .before .before .before .before)) (c .before .before .before .before .before .before .args .k) (sym (c .before .before .label-check .ensures) ∙ c .enum-told2 .given .1)
+
+-- where the part begins, by the check's answer
+from : (b : ℕ × ℕ) (k : ℕ) {a a′ : Done} → a ≡ a′ → _≡_ {A = ℕ × ℕ} (b .0, b .1 + labelFrom a k) (b .0, b .1 + labelFrom a′ k)
+from b k e = ap (λ (x : Done). (b .0, b .1 + labelFrom x k)) e
+
+begins : (b : ℕ) {o o′ : ℕ} → o ≡ o′ → _≡_ {A = ℕ × ℕ} (b, o) (b, o′)
+begins b e = ap (λ (o : ℕ). (b, o)) e
 
 label-check-requires : tie.Need-label-check-requires
 label-check-requires c κs = search needs
@@ -39,10 +48,17 @@ label-at-requires : tie.Need-label-at-requires
 label-at-requires c κs = let h = done c in (h .0 .sizes .labels, omega (arith, h .0 .counts .labels))
 
 returns : tie.Need-returns
-returns c = label-refused (lent (c .before .before .before .before .before .before .before)) (c .before .before .before .before .before .before .before .args .k) _ (sym (c .before .before .before .label-check .ensures) ∙ c .before .enum-told .given .1)
+returns c =
+    let s = c .before .before .before .before .before .before .before in
+    let e = sym (c .before .before .before .label-check .ensures) ∙ c .before .enum-told .given .1 in
+    (label-refused (lent s) (s .args .k) _ e, begins (s .args .labels .ptr .0) (omega arith) ∙ sym (from (s .args .labels .ptr) (s .args .k) e))
 
 returns-2 : tie.Need-returns-2
-returns-2 c = let h = done (c .before) in c .label-at .ensures .0 ∙ label-is (lent (c .before .before .before .before .before .before .before)) (c .before .before .before .before .before .before .before .args .k) (h .0) (h .1)
+returns-2 c =
+    let s = c .before .before .before .before .before .before .before in
+    let h = done (c .before) in
+    let e = sym (c .before .before .before .label-check .ensures) ∙ c .before .enum-told2 .given .1 in
+    (c .label-at .ensures .0 ∙ label-is (lent s) (s .args .k) (h .0) (h .1), c .label-at .ensures .1 ∙ sym (from (s .args .labels .ptr) (s .args .k) e))
 
 pub label-by-number-spec : {M : Type 1} → statement M
 label-by-number-spec =
