@@ -1,6 +1,7 @@
 /* Balqirven: Smack labels, access rules and CIPSO mappings in memory that the host lends.
  *
- * Link target/staticlib/libhost.a (rt staticlib host). x86-64 only.
+ * Link target/staticlib/libhost.a (rt staticlib host). x86-64 only. The archive holds no version of its own: build it and take this header
+ * from one commit.
  *
  * What is lent. The tables stand in three parts of fixed size, the line of rule text under way in a fourth. A part goes to a call as a pointer
  * and a length in elements. A part of another size is no error of the host's: the call answers refusal 0 and changes nothing. Three things
@@ -15,21 +16,21 @@
  * the tables, the line, the loader and every lent buffer are as they were. Otherwise `number` is 0, but for a question, where it is the
  * rule's number. What a field of an answer does not speak of is 0.
  *
- *    0  the lent state has a part not of its full size, a count or length over its limit, a number that names no stored label, or an
- *       unknown mode or category bit. It comes before every other number.
- *    1  a line or a write has over 600 bytes
- *    2  wrong number of fields: not 3 (line), not 4 (change), under 2 (mapping), none (override list)
- *    3  a label is not well formed
- *    4  an access field has a byte that is not allowed there
- *    5  subject equals object
- *    6  more new labels than free label places
- *    7  256 rules are stored, and the pair has none
- *    8  the request is empty or has another byte than r w x a, either case
- *    9  a level is not 0 to 255 or a category not 1 to 63; in a write each is 1 to 3 digits
- *   10  32 mappings are stored, and the label has none
- *   11  over 8 different labels in an override list
- *   12  the lent output is too short
- *   13  no rule or label of that number
+ *    0  BQ_DAMAGED                the lent state has a part not of its full size, a count or length over its limit, a number that names
+ *                                 no stored label, or an unknown mode or category bit. It comes before every other number.
+ *    1  BQ_TOO_LONG               a line or a write has over 600 bytes
+ *    2  BQ_WRONG_FIELDS           wrong number of fields: not 3 (line), not 4 (change), under 2 (mapping), none (override list)
+ *    3  BQ_BAD_LABEL              a label is not well formed
+ *    4  BQ_BAD_ACCESS             an access field has a byte that is not allowed there
+ *    5  BQ_SAME_LABELS            subject equals object
+ *    6  BQ_LABELS_FULL            more new labels than free label places
+ *    7  BQ_RULES_FULL             256 rules are stored, and the pair has none
+ *    8  BQ_BAD_REQUEST            the request is empty or has another byte than r w x a, either case
+ *    9  BQ_BAD_LEVEL_OR_CATEGORY  a level is not 0 to 255 or a category not 1 to 63; in a write each is 1 to 3 digits
+ *   10  BQ_MAPPINGS_FULL          32 mappings are stored, and the label has none
+ *   11  BQ_TOO_MANY_OVERRIDES     over 8 different labels in an override list
+ *   12  BQ_OUTPUT_TOO_SHORT       the lent output is too short
+ *   13  BQ_NO_SUCH_NUMBER         no rule or label of that number
  *
  * Text is bytes with a length and no closing zero. A label has 1 to 255 bytes, each from 33 to 126, none of / \ ' ", and does not begin
  * with a dash.
@@ -45,14 +46,42 @@
 extern "C" {
 #endif
 
+/* The version of this interface. MINOR is raised where something is added (a call, a name, a refusal number) and an older host need not
+ * change; MAJOR, with MINOR at 0 again, where a struct, a size, a parameter or what a call answers changes, so that each host has to be
+ * looked at and compiled again. */
+#define BQ_VERSION_MAJOR 1
+#define BQ_VERSION_MINOR 0
+
 /* The sizes of the lent parts, in elements: bytes, bytes, 64-bit words, bytes. */
 #define BQ_LABELS 16384
 #define BQ_ENTRIES 840
 #define BQ_WORDS 36
 #define BQ_LINE 600
 
+/* The most bytes of a label; and of a rule as bq_list_rule writes it: two labels, two spaces, six letters and a newline, 519. */
+#define BQ_LONGEST_LABEL 255
+#define BQ_LONGEST_RULE (2 * BQ_LONGEST_LABEL + 2 + 6 + 1)
+
 /* A category n, 1 to 63, as the bit that it has in a set. */
 #define BQ_CATEGORY(n) ((uint64_t)1 << (64 - (n)))
+
+/* The refusal numbers, as they are told above: `number` of an answer that is refused, and `reason` of a report in which a line was. */
+enum bq_refusal {
+    BQ_DAMAGED = 0,
+    BQ_TOO_LONG = 1,
+    BQ_WRONG_FIELDS = 2,
+    BQ_BAD_LABEL = 3,
+    BQ_BAD_ACCESS = 4,
+    BQ_SAME_LABELS = 5,
+    BQ_LABELS_FULL = 6,
+    BQ_RULES_FULL = 7,
+    BQ_BAD_REQUEST = 8,
+    BQ_BAD_LEVEL_OR_CATEGORY = 9,
+    BQ_MAPPINGS_FULL = 10,
+    BQ_TOO_MANY_OVERRIDES = 11,
+    BQ_OUTPUT_TOO_SHORT = 12,
+    BQ_NO_SUCH_NUMBER = 13
+};
 
 /* The loader between two calls: how many bytes of the line under way are kept (601: it has over 600), and the report so far. */
 typedef struct {
@@ -175,8 +204,8 @@ bq_finished bq_end(uint8_t *labels, size_t labels_len, uint8_t *entries, size_t 
 bq_written bq_change(uint8_t *labels, size_t labels_len, uint8_t *entries, size_t entries_len, uint64_t *words, size_t words_len,
                      const uint8_t *text, size_t text_len);
 
-/* Revoke: the whole buffer is one label, with no blanks. Every rule with this subject gets no modes and keeps its place; the count of these rules is answered, 0 for an unknown label.
- * Refusals: 0 1 3. */
+/* Revoke: the whole buffer is one label, with no blanks. Every rule with this subject gets no modes and keeps its place; the count of these
+ * rules is answered, 0 for an unknown label. Refusals: 0 1 3. */
 bq_counted bq_revoke(const uint8_t *labels, size_t labels_len, uint8_t *entries, size_t entries_len, const uint64_t *words,
                      size_t words_len, const uint8_t *label, size_t label_len);
 
@@ -217,7 +246,7 @@ bq_decision bq_question(const uint8_t *labels, size_t labels_len, const uint8_t 
 /* ---- listing */
 
 /* Rule k, from 0, as a line: subject, space, object, space, modes or a dash, newline. It goes to the front of `out`; the rest of `out`
- * stays. 519 bytes are enough for any rule. Refusals: 0 13 12. */
+ * stays. BQ_LONGEST_RULE bytes are enough for any rule. The number after the last rule's is refused with 13. Refusals: 0 13 12. */
 bq_length bq_list_rule(const uint8_t *labels, size_t labels_len, const uint8_t *entries, size_t entries_len, const uint64_t *words,
                        size_t words_len, size_t k, uint8_t *out, size_t out_len);
 
