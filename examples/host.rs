@@ -12,6 +12,10 @@ mod balqirven {
     pub const WORDS: usize = 36;
     pub const LINE: usize = 600;
 
+    /// The most bytes of a label, and of a listed rule: two labels, two spaces, six letters and a newline.
+    pub const LONGEST_LABEL: usize = 255;
+    pub const LONGEST_RULE: usize = 2 * LONGEST_LABEL + 2 + 6 + 1;
+
     /// The category n, 1 to 63, as the bit that it has in a set.
     pub fn category(n: u32) -> u64 {
         1 << (64 - n)
@@ -114,6 +118,15 @@ mod balqirven {
         length: usize,
     }
 
+    // The kinds of an answer, as the header numbers them.
+    const MAPPED: u8 = 0;
+    const UNMAPPED: u8 = 1;
+    const LABEL: u8 = 0;
+    const NO_LABEL: u8 = 1;
+    const GRANTED: u8 = 0;
+    const DENIED: u8 = 1;
+    const OVERRIDE: u8 = 2;
+
     type Bytes = *const u8;
 
     #[rustfmt::skip]
@@ -135,17 +148,34 @@ mod balqirven {
         fn bq_label(l: Bytes, ln: usize, e: Bytes, en: usize, w: *const u64, wn: usize, k: usize) -> Part;
     }
 
-    /// A refusal, by 01's number.
-    #[derive(Clone, Copy, Debug, PartialEq)]
+    /// A refusal, by 01's number; what each means, include/balqirven.h says.
+    #[derive(Clone, Copy, Debug, PartialEq, Eq)]
     pub struct Refused(pub u8);
 
+    impl Refused {
+        pub const DAMAGED: Refused = Refused(0);
+        pub const TOO_LONG: Refused = Refused(1);
+        pub const WRONG_FIELDS: Refused = Refused(2);
+        pub const BAD_LABEL: Refused = Refused(3);
+        pub const BAD_ACCESS: Refused = Refused(4);
+        pub const SAME_LABELS: Refused = Refused(5);
+        pub const LABELS_FULL: Refused = Refused(6);
+        pub const RULES_FULL: Refused = Refused(7);
+        pub const BAD_REQUEST: Refused = Refused(8);
+        pub const BAD_LEVEL_OR_CATEGORY: Refused = Refused(9);
+        pub const MAPPINGS_FULL: Refused = Refused(10);
+        pub const TOO_MANY_OVERRIDES: Refused = Refused(11);
+        pub const OUTPUT_TOO_SHORT: Refused = Refused(12);
+        pub const NO_SUCH_NUMBER: Refused = Refused(13);
+    }
+
     /// The answer to a question: rule numbers are 01's.
-    #[derive(Clone, Copy, Debug, PartialEq)]
+    #[derive(Clone, Copy, Debug, PartialEq, Eq)]
     pub enum Answer {
         Granted { rule: u8, bringup: bool },
         Denied { rule: u8 },
         Override { rule: u8 },
-        Refused(u8),
+        Refused(Refused),
     }
 
     /// The mapping of a label.
@@ -168,8 +198,8 @@ mod balqirven {
 
     fn found(w: Lowest) -> Result<Option<usize>, Refused> {
         match w.kind {
-            0 => Ok(Some(w.label)),
-            1 => Ok(None),
+            LABEL => Ok(Some(w.label)),
+            NO_LABEL => Ok(None),
             _ => Err(Refused(w.number)),
         }
     }
@@ -186,11 +216,10 @@ mod balqirven {
 
     impl Tables {
         /// A fresh table.
-        pub fn fresh() -> Box<Tables> {
+        pub fn fresh() -> Result<Box<Tables>, Refused> {
             let mut t = Box::new(Tables { labels: [0; LABELS], entries: [0; ENTRIES], words: [0; WORDS] });
-            let w = unsafe { bq_fresh_table(t.labels.as_mut_ptr(), LABELS, t.entries.as_ptr(), ENTRIES, t.words.as_mut_ptr(), WORDS) };
-            assert!(!w.refused);
-            t
+            done(unsafe { bq_fresh_table(t.labels.as_mut_ptr(), LABELS, t.entries.as_ptr(), ENTRIES, t.words.as_mut_ptr(), WORDS) })?;
+            Ok(t)
         }
 
         pub fn change(&mut self, text: &[u8]) -> Result<(), Refused> {
@@ -215,8 +244,8 @@ mod balqirven {
         pub fn by_label(&self, label: &[u8]) -> Result<Option<Mapping>, Refused> {
             let m = call!(bq_by_label, read self, label.as_ptr(), label.len());
             match m.kind {
-                0 => Ok(Some(Mapping { level: m.level, set: m.set, count: m.count })),
-                1 => Ok(None),
+                MAPPED => Ok(Some(Mapping { level: m.level, set: m.set, count: m.count })),
+                UNMAPPED => Ok(None),
                 _ => Err(Refused(m.number)),
             }
         }
@@ -228,14 +257,14 @@ mod balqirven {
         pub fn question(&self, subject: &[u8], object: &[u8], request: &[u8], capable: bool) -> Answer {
             let d = call!(bq_question, read self, subject.as_ptr(), subject.len(), object.as_ptr(), object.len(), request.as_ptr(), request.len(), capable);
             match d.kind {
-                0 => Answer::Granted { rule: d.number, bringup: d.bringup },
-                1 => Answer::Denied { rule: d.number },
-                2 => Answer::Override { rule: d.number },
-                _ => Answer::Refused(d.number),
+                GRANTED => Answer::Granted { rule: d.number, bringup: d.bringup },
+                DENIED => Answer::Denied { rule: d.number },
+                OVERRIDE => Answer::Override { rule: d.number },
+                _ => Answer::Refused(Refused(d.number)),
             }
         }
 
-        /// Rule k as a line, at the front of `out`; 519 bytes are enough for any.
+        /// Rule k as a line, at the front of `out`; LONGEST_RULE bytes are enough for any.
         pub fn list_rule<'a>(&self, k: usize, out: &'a mut [u8]) -> Result<&'a [u8], Refused> {
             let r = call!(bq_list_rule, read self, k, out.as_mut_ptr(), out.len());
             if r.refused { Err(Refused(r.number)) } else { Ok(&out[..r.length]) }
@@ -278,12 +307,29 @@ mod balqirven {
     }
 }
 
-use balqirven::{category, lowest_in_run, Answer, Load, Record, Refused, Tables};
+use balqirven::{category, lowest_in_run, Answer, Load, Record, Refused, Tables, LONGEST_RULE};
 use std::fs::File;
 use std::io::Read;
 
-/// Loads a file in pieces of a size that has nothing to do with its lines.
-fn load(t: &mut Tables, path: &str) -> std::io::Result<Result<(), Refused>> {
+/// Every answer says whether its call was refused. Where it was, this prints which call and with which number.
+fn accepted<T>(call: &str, answer: Result<T, Refused>) -> Option<T> {
+    match answer {
+        Ok(value) => Some(value),
+        Err(Refused(number)) => {
+            println!("{call}: refused {number}");
+            None
+        }
+    }
+}
+
+fn done(call: &str, answer: Result<(), Refused>) {
+    if accepted(call, answer).is_some() {
+        println!("{call}: done");
+    }
+}
+
+/// Loads a file in pieces of a size that has nothing to do with its lines. None where a call was refused.
+fn load(t: &mut Tables, path: &str) -> std::io::Result<Option<()>> {
     let mut file = File::open(path)?;
     let mut piece = [0; 37];
     let mut text = Load::fresh();
@@ -292,17 +338,19 @@ fn load(t: &mut Tables, path: &str) -> std::io::Result<Result<(), Refused>> {
         if n == 0 {
             break;
         }
-        if let Err(refused) = text.piece(t, &piece[..n]) {
-            return Ok(Err(refused));
+        if accepted("piece", text.piece(t, &piece[..n])).is_none() {
+            return Ok(None);
         }
     }
-    Ok(text.end(t).map(|r| {
-        print!("load: {} lines, {} accepted, {} skipped, {} refused", r.lines, r.accepted, r.skipped, r.refused);
-        if r.refused > 0 {
-            print!(", the first at line {} for reason {}", r.first, r.reason);
-        }
-        println!();
-    }))
+    let Some(r) = accepted("end call", text.end(t)) else {
+        return Ok(None);
+    };
+    print!("load: {} lines, {} accepted, {} skipped, {} refused", r.lines, r.accepted, r.skipped, r.refused);
+    if r.refused > 0 {
+        print!(", the first at line {} for reason {}", r.first, r.reason);
+    }
+    println!();
+    Ok(Some(()))
 }
 
 fn ask(t: &Tables, subject: &str, object: &str, request: &str, capable: bool) {
@@ -310,15 +358,50 @@ fn ask(t: &Tables, subject: &str, object: &str, request: &str, capable: bool) {
         Answer::Granted { rule, bringup } => format!("granted {rule}{}", if bringup { " b" } else { "" }),
         Answer::Denied { rule } => format!("denied {rule}"),
         Answer::Override { rule } => format!("override {rule}"),
-        Answer::Refused(number) => format!("refused {number}"),
+        Answer::Refused(Refused(number)) => format!("refused {number}"),
     };
     println!("may {subject} have {request} to {object}{}: {answer}", if capable { " (override capability)" } else { "" });
 }
 
-fn show(what: &str, answer: Result<(), Refused>) {
-    match answer {
-        Ok(()) => println!("{what}: done"),
-        Err(Refused(number)) => println!("{what}: refused {number}"),
+fn show_mapping(t: &Tables, label: &str) {
+    match accepted("mapping by label", t.by_label(label.as_bytes())) {
+        Some(Some(m)) => println!("{label}: level {}, {} categories", m.level, m.count),
+        Some(None) => println!("{label}: no mapping"),
+        None => {}
+    }
+}
+
+fn show_label_of(t: &Tables, level: u64, set: u64) {
+    match accepted("mapping by level and set", t.by_level(level, set)) {
+        Some(Some(k)) => {
+            if let Some(label) = accepted("label by number", t.label(k)) {
+                println!("level {level} with these: label {k}, {}", String::from_utf8_lossy(label));
+            }
+        }
+        Some(None) => println!("level {level} with these: no label"),
+        None => {}
+    }
+}
+
+fn show_lowest(run: &[Record], level: u64, set: u64) {
+    match accepted("search of a run", lowest_in_run(run, level, set)) {
+        Some(Some(k)) => println!("lowest of the run: label {k}"),
+        Some(None) => println!("lowest of the run: none"),
+        None => {}
+    }
+}
+
+/// Every rule by its number, up to the first number that is no rule's.
+fn list(t: &Tables) {
+    let mut out = [0; LONGEST_RULE];
+    for k in 0.. {
+        match t.list_rule(k, &mut out) {
+            Err(Refused::NO_SUCH_NUMBER) => return,
+            answer => match accepted("listing", answer) {
+                Some(text) => print!("rule {k}: {}", String::from_utf8_lossy(text)),
+                None => return,
+            },
+        }
     }
 }
 
@@ -327,60 +410,46 @@ fn main() {
         eprintln!("usage: host RULEFILE");
         std::process::exit(2);
     };
-    let mut tables = Tables::fresh();
+    let Some(mut tables) = accepted("fresh table", Tables::fresh()) else {
+        std::process::exit(1);
+    };
+    println!("fresh table: done");
     let t = &mut *tables;
-    show("fresh table", Ok(()));
     match load(t, &path) {
         Err(error) => {
             eprintln!("{path}: {error}");
             std::process::exit(1);
         }
-        Ok(Err(Refused(number))) => {
-            println!("load: refused {number}");
-            std::process::exit(1);
-        }
-        Ok(Ok(())) => {}
+        Ok(None) => std::process::exit(1),
+        Ok(Some(())) => {}
     }
     ask(t, "ClimateProbe_StoreNorth_01_Temp", "Air_StoreNorth_01", "w", false);
     ask(t, "ClimateProbe_StoreNorth_01_Temp", "Air_StoreNorth_02", "w", false);
     ask(t, "Alarm", "Air_StoreNorth_02", "r", false);
     ask(t, "Desk", "Air_StoreNorth_01", "r", false);
     ask(t, "Desk", "Air_StoreNorth_01", "r", true);
-    ask(t, "Desk", "Air_StoreNorth_01", "rt", true);
+    ask(t, "Desk", "Air_StoreNorth_01", "rt", true); // BAD_REQUEST: t is no letter of a request
 
-    show("change 'Alarm Archive r -'", t.change(b"Alarm Archive r -"));
-    show("change 'Alarm Alarm r -'", t.change(b"Alarm Alarm r -"));
+    done("change 'Alarm Archive r -'", t.change(b"Alarm Archive r -"));
+    done("change 'Alarm Alarm r -'", t.change(b"Alarm Alarm r -")); // SAME_LABELS
     ask(t, "Alarm", "Archive", "r", false);
 
-    if let Ok(count) = t.revoke(b"Recorder") {
+    if let Some(count) = accepted("revoke", t.revoke(b"Recorder")) {
         println!("revoke 'Recorder': {count} rules");
     }
     ask(t, "Recorder", "Archive", "a", false);
 
-    show("override list 'Desk Alarm'", t.override_list(b"Desk Alarm"));
+    done("override list 'Desk Alarm'", t.override_list(b"Desk Alarm"));
     ask(t, "Recorder", "Archive", "a", true);
     ask(t, "Desk", "Archive", "a", true);
 
-    show("mapping 'Archive 9 1 63'", t.mapping(b"Archive 9 1 63"));
-    if let Ok(Some(m)) = t.by_label(b"Archive") {
-        println!("Archive: level {}, {} categories", m.level, m.count);
-    }
-    if let Ok(Some(k)) = t.by_level(9, category(1) | category(63)) {
-        if let Ok(label) = t.label(k) {
-            println!("level 9 with these: label {k}, {}", String::from_utf8_lossy(label));
-        }
-    }
+    done("mapping 'Archive 9 1 63'", t.mapping(b"Archive 9 1 63"));
+    show_mapping(t, "Archive");
+    show_label_of(t, 9, category(1) | category(63));
     let run = [(7, 9), (5, 9), (3, 8)].map(|(label, level)| Record { label, level, set: category(1) });
-    if let Ok(Some(k)) = lowest_in_run(&run, 9, category(1)) {
-        println!("lowest of the run: label {k}");
-    }
-    let mut out = [0; 519];
-    let mut k = 0;
-    while let Ok(text) = t.list_rule(k, &mut out) {
-        print!("rule {k}: {}", String::from_utf8_lossy(text));
-        k += 1;
-    }
+    show_lowest(&run, 9, category(1));
+    list(t);
 
-    t.words[1] = 257; // a damaged state: every call refuses it, and leaves it as it is
-    show("change on 257 rules", t.change(b"Alarm Archive r -"));
+    t.words[1] = 257; // a damaged state: every call refuses it with DAMAGED, and leaves it as it is
+    done("change on 257 rules", t.change(b"Alarm Archive r -"));
 }
