@@ -4,7 +4,7 @@ use mathlib.Core.Bool.{cond}
 use mathlib.Core.Path.{_≡_}
 use mathlib.Core.List.{List}
 use lib.ListN.{length, set}
-use Rattle.refusals.specs.Refusals.{noLabelPlace, noMappingPlace}
+use Rattle.refusals.specs.Refusals.{labelsFull, mappingsFull}
 use Rattle.search.specs.Search.{put, placeOf}
 use Rattle.search.specs.declared.Found.{Found}
 use Rattle.alphabet.specs.Within.{part}
@@ -35,9 +35,9 @@ LineInside text (line.Mapping start end level s) = (start < end) × (end ≤ len
 abbrev pub placeBy : Table → Found → Place
 placeBy t l =
     cond (noPlace l (length (t .labels)) labelLimit)
-    (place.Refused noLabelPlace)
+    (place.Refused labelsFull)
     (cond (noPlace (mappingIn t (placeOf l (length (t .labels)))) (length (t .mappings)) mappingLimit)
-    (place.Refused noMappingPlace)
+    (place.Refused mappingsFull)
     (place.At (record { label = l; mapping = mappingIn t (placeOf l (length (t .labels))) })))
 
 unfoldable pub placing : Table → List ℕ → Place

@@ -7,7 +7,7 @@ use lib.Dec.{eqb}
 use Rattle.search.specs.Search.{first, entries}
 use Rattle.search.specs.declared.Found.{Found}
 use Rattle.search.specs.declared.Found.the-variants.{At, Nothing}
-use Rattle.refusals.specs.Refusals.{damaged, badLabel, badNumber}
+use Rattle.refusals.specs.Refusals.{damaged, badLabel, badLevelOrCategory}
 use Rattle.alphabet.specs.Alphabet.{wellFormed}
 use Rattle.numbers.specs.Categories.{categories}
 use Rattle.store.specs.declared.Mapping.{Mapping}
@@ -77,7 +77,7 @@ unfoldable pub levelLookup : Table → ℕ → ℕ → Label
 levelLookup t level s =
     cond (sought level s)
     (numbered (first (hasBoth t level s) (entries (λ (n : ℕ). n) (length (t .labels)))))
-    (label.Refused badNumber)
+    (label.Refused badLevelOrCategory)
 
 -- of a lent state: 0 before every other where it is damaged
 unfoldable pub byLevelOf : Store → ℕ → ℕ → Label

@@ -88,7 +88,7 @@ pub fn by_level(labels: &[u8], entries: &[u8], words: &[u64], level: u64, set: u
         return Label::Refused(refusals::DAMAGED);
     }
     if !known(level, set) {
-        return Label::Refused(refusals::BAD_NUMBER);
+        return Label::Refused(refusals::BAD_LEVEL_OR_CATEGORY);
     }
     let stored = words[store::LABEL_COUNT] as usize;
     let mut n = 0;

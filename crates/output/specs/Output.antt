@@ -6,14 +6,14 @@ use mathlib.Core.List.{List}
 use lib.ListN.{length}
 use lib.Dec.{leb}
 use Rattle.search.specs.Bytes.{written}
-use Rattle.refusals.specs.Refusals.{shortOutput}
+use Rattle.refusals.specs.Refusals.{outputTooShort}
 use Rattle.output.specs.declared.Output.{Output}
 use Rattle.output.specs.declared.Output.the-variants as output
 
 -- a text goes to the front of the output, the rest of which is unchanged, and its length is answered; where it is longer than the output it is
 -- refused, and no byte is written
 unfoldable pub putAnswer : List ℕ → List ℕ → Output
-putAnswer text out = cond (leb (length text) (length out)) (output.Length (length text)) (output.Refused shortOutput)
+putAnswer text out = cond (leb (length text) (length out)) (output.Length (length text)) (output.Refused outputTooShort)
 
 unfoldable pub putOut : List ℕ → List ℕ → List ℕ
 putOut text out = cond (leb (length text) (length out)) (written out 0 text) out

@@ -27,32 +27,32 @@ abbrev pub sameLabels : ℕ
 sameLabels = 5
 
 -- more new labels than free label places
-abbrev pub noLabelPlace : ℕ
-noLabelPlace = 6
+abbrev pub labelsFull : ℕ
+labelsFull = 6
 
 -- the pair has no rule and 256 are stored
-abbrev pub noRulePlace : ℕ
-noRulePlace = 7
+abbrev pub rulesFull : ℕ
+rulesFull = 7
 
 -- the request is empty or has another byte
 abbrev pub badRequest : ℕ
 badRequest = 8
 
 -- a level or category is not as 01 says
-abbrev pub badNumber : ℕ
-badNumber = 9
+abbrev pub badLevelOrCategory : ℕ
+badLevelOrCategory = 9
 
 -- the label has no mapping and 32 are stored
-abbrev pub noMappingPlace : ℕ
-noMappingPlace = 10
+abbrev pub mappingsFull : ℕ
+mappingsFull = 10
 
 -- over 8 different labels in an override list
-abbrev pub tooManyLabels : ℕ
-tooManyLabels = 11
+abbrev pub tooManyOverrides : ℕ
+tooManyOverrides = 11
 
 -- lent output too short; otherwise only its front is written
-abbrev pub shortOutput : ℕ
-shortOutput = 12
+abbrev pub outputTooShort : ℕ
+outputTooShort = 12
 
 -- no rule or label of that number
 abbrev pub noSuchNumber : ℕ

@@ -19,25 +19,25 @@ pub const BAD_ACCESS: u8 = 4;
 pub const SAME_LABELS: u8 = 5;
 
 // More new labels than free label places.
-pub const NO_LABEL_PLACE: u8 = 6;
+pub const LABELS_FULL: u8 = 6;
 
 // The pair has no rule, and the table of rules is full.
-pub const NO_RULE_PLACE: u8 = 7;
+pub const RULES_FULL: u8 = 7;
 
 // The request is empty or has another byte.
 pub const BAD_REQUEST: u8 = 8;
 
 // A level or a category is not as 01 says.
-pub const BAD_NUMBER: u8 = 9;
+pub const BAD_LEVEL_OR_CATEGORY: u8 = 9;
 
 // The label has no mapping, and the table of mappings is full.
-pub const NO_MAPPING_PLACE: u8 = 10;
+pub const MAPPINGS_FULL: u8 = 10;
 
 // Too many different labels in an override list.
-pub const TOO_MANY_LABELS: u8 = 11;
+pub const TOO_MANY_OVERRIDES: u8 = 11;
 
 // The lent output is too short.
-pub const SHORT_OUTPUT: u8 = 12;
+pub const OUTPUT_TOO_SHORT: u8 = 12;
 
 // No rule or label of that number.
 pub const NO_SUCH_NUMBER: u8 = 13;

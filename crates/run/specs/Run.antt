@@ -5,7 +5,7 @@ use Prim.Native.Nat.{ℕ, _≤_, _<_}
 use mathlib.Core.Bool.{Bool, cond, _&&_}
 use mathlib.Core.List.{List, [], _∷_, foldl}
 use lib.Dec.{eqb, ltb}
-use Rattle.refusals.specs.Refusals.{badNumber}
+use Rattle.refusals.specs.Refusals.{badLevelOrCategory}
 use Rattle.cipso.specs.Cipso.{sameSet}
 use Rattle.lookups.specs.Lookups.{sought}
 use Rattle.lookups.specs.declared.Label.{Label}
@@ -40,7 +40,7 @@ said best.Nothing = label.Nothing
 
 -- 9 the level is over 255, or the set has a bit that is no category; then the answer
 unfoldable pub settledOf : Best → ℕ → ℕ → Label
-settledOf b level s = cond (sought level s) (said b) (label.Refused badNumber)
+settledOf b level s = cond (sought level s) (said b) (label.Refused badLevelOrCategory)
 
 -- the search of a run
 unfoldable pub runOf : List Record → ℕ → ℕ → Label
