@@ -18,7 +18,8 @@ use Rattle.modes.specs.declared.Access.the-variants.{Modes}
 use Rattle.store.specs.declared.Rule.{Rule}
 use Rattle.store.specs.Table.{Table, labelIn, isPair, pairIn, soundRule, soundTable}
 use Rattle.store.specs.Layout.{store, tableOf, ruleAt}
-use Rattle.access.specs.Rules.{holds, bringUp, ruleBetween, has-modes, modesFound, modesBetween, Clause, rule6, rule7, firstOf, sevenRules}
+use Rattle.access.specs.Rules.{holds, bringUp, Clause, rule6, rule7, firstOf, sevenRules}
+use Rattle.store.specs.Pairs.{ruleBetween, has-modes, modesFound, modesBetween}
 use Rattle.access.specs.Access.{listed, effective, denied, answered, decide, answer}
 use Rattle.access.specs.Within.{labelRules, tableRules, byTable}
 use Rattle.access.specs.declared.Denial.{Denial}
@@ -199,41 +200,3 @@ module _ (t : Table) (s o request : List ℕ) (capable : Bool) (wanted : ℕ) wh
       answer t s o request capable ≡ answered (effective t (labelIn t s) capable) (firstOf (sevenRules t s o wanted))
   unfolding answer decide
   answer-is hs ho some read = rw (hs, ho, ne-eqb (length request) 0 some, read)
-
--- ---- a number that no entry of a sound table names
-
--- nothing passes a test that fails whatever passes another
-none-pass : {A : Type 0} (p q : A → Bool) (l : List A) → all q l ≡ true → ((x : A) → q x ≡ true → p x ≡ false) → first p l ≡ Nothing
-unfolding first all
-none-pass p q [] e h = refl
-none-pass p q (x ∷ xs) e h =
-    let b = and-both (q x) (all q xs) e in
-    rw (h x (b .0), none-pass p q xs (b .1) h)
-
--- a rule that names stored labels does not name the number n, as subject or as object
-beyond : (n j : ℕ) (r : Rule) → soundRule n r ≡ true → (isPair n j r ≡ false) × (isPair j n r ≡ false)
-unfolding soundRule isPair
-beyond n j r e =
-    let a = and-both _ _ e in
-    let b = and-both _ _ (a .0) in
-    let s : eqb (r .subject) n ≡ false = ne-eqb (r .subject) n (λ q. omega (arith, ltb-true (r .subject) n (b .0))) in
-    let o : eqb (r .object) n ≡ false = ne-eqb (r .object) n (λ q. omega (arith, ltb-true (r .object) n (b .1))) in
-    (rw s, rw o (and-false (eqb (r .subject) j)))
-
--- the number n is beyond those of a sound table
-module _ (t : Table) (n : ℕ) (sound : soundTable n t ≡ true) where
-  sound-parts : (all (soundRule n) (t .rules) ≡ true) × (all (λ (k : ℕ). ltb k n) (t .onlycap) ≡ true)
-  unfolding soundTable
-  sound-parts =
-      let a = and-both _ _ sound in
-      let b = and-both _ _ (a .0) in
-      (b .0, a .1)
-
-  pub not-listed : first (eqb n) (t .onlycap) ≡ Nothing
-  not-listed = none-pass (eqb n) (λ (k : ℕ). ltb k n) (t .onlycap) (sound-parts .1) (λ k h. ne-eqb n k (λ e. omega (arith, ltb-true k n h)))
-
-  pub not-subject : (j : ℕ) → pairIn t n j ≡ Nothing
-  not-subject j = none-pass (isPair n j) (soundRule n) (t .rules) (sound-parts .0) (λ r h. beyond n j r h .0)
-
-  pub not-object : (i : ℕ) → pairIn t i n ≡ Nothing
-  not-object i = none-pass (isPair i n) (soundRule n) (t .rules) (sound-parts .0) (λ r h. beyond n i r h .1)

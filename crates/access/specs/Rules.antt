@@ -3,15 +3,12 @@
 use Prim.Native.Nat.{ℕ}
 use mathlib.Core.Bool.{Bool, true, false, cond, _&&_}
 use mathlib.Core.List.{List, [], _∷_}
-use lib.ListN.{getD}
 use lib.Dec.{eqb}
 use lib.Bits.{bitAnd}
 use Rattle.search.specs.Bytes.{sameBytes}
-use Rattle.search.specs.declared.Found.{Found}
-use Rattle.search.specs.declared.Found.the-variants.{At, Nothing}
 use Rattle.modes.specs.Modes.{readExecute, bringUpLetter}
-use Rattle.store.specs.declared.Rule.{Rule}
-use Rattle.store.specs.Table.{Table, floor, hat, star, labelIn, pairIn}
+use Rattle.store.specs.Table.{Table, floor, hat, star}
+use Rattle.store.specs.Pairs.{PairModes, has-modes, no-rule, modesBetween}
 use Rattle.access.specs.declared.Denial.{Denial}
 use Rattle.access.specs.declared.Denial.the-variants.{StarSubject, AnyOther}
 use Rattle.access.specs.declared.Verdict.{Verdict}
@@ -30,25 +27,6 @@ onlyReadExecute wanted = holds wanted readExecute
 -- whether modes have b
 abbrev pub bringUp : ℕ → Bool
 bringUp modes = holds bringUpLetter modes
-
--- where the rule of a pair stands, by the numbers of its labels; a label that is not in the table has no rules
-abbrev pub ruleBetween : Table → Found → Found → Found
-ruleBetween t (At i) (At j) = pairIn t i j
-ruleBetween t (At i) Nothing = Nothing
-ruleBetween t Nothing o = Nothing
-
--- the modes of a pair: those of its rule, or that it has none
-pub data PairModes : Type 0 where
-  has-modes : ℕ → PairModes
-  no-rule : PairModes
-
-abbrev pub modesFound : List Rule → Found → PairModes
-modesFound rules (At k) = has-modes (getD rules k (record { subject = 0; object = 0; modes = 0 }) .modes)
-modesFound rules Nothing = no-rule
-
--- of two labels in a table: each by its first number, and the first rule that names both
-unfoldable pub modesBetween : Table → List ℕ → List ℕ → PairModes
-modesBetween t s o = modesFound (t .rules) (ruleBetween t (labelIn t s) (labelIn t o))
 
 -- whether there is a rule and its modes pass a test
 abbrev pub modesPass : PairModes → (ℕ → Bool) → Bool

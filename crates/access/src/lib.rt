@@ -11,6 +11,7 @@ ghost use Rattle.search.specs.Bytes.{sameBytes};
 ghost use Rattle.store.specs.Table.{labelLimit, ruleLimit, onlycapLimit};
 ghost use Rattle.store.specs.Layout.{store, lent, modesFrom, onlycapFrom, setsFrom, tableOf, Sizes};
 ghost use Rattle.store.specs.Within.{Counts};
+ghost use Rattle.store.specs.Pairs.{ruleBetween};
 ghost use Rattle.access.specs.Rules as rules;
 ghost use Rattle.access.specs.Access as access;
 ghost use Rattle.access.specs.Within as within;
@@ -90,7 +91,7 @@ fn by_labels(subject: &[u8], object: &[u8], wanted: u8) -> Verdict
 fn find_rule(entries: &[u8], words: &[u64], subject: Found, object: Found) -> Found
     requires { ⌜ (modesFrom + ruleLimit ≤ length (now entries)) × (setsFrom ≤ length (now words)) × Counts (now words) ⌝ }
     requires { ⌜ (placeOf subject 0 < labelLimit) × (placeOf object 0 < labelLimit) ⌝ }
-    ensures { λ r. ⌜ r ≡ rules.ruleBetween (tableOf (store [] (now (entries .entry)) (now (words .entry)))) subject object ⌝ }
+    ensures { λ r. ⌜ r ≡ ruleBetween (tableOf (store [] (now (entries .entry)) (now (words .entry)))) subject object ⌝ }
 {
     let Found::At(s) = subject else {
         return Found::Nothing;

@@ -12,17 +12,17 @@ use Rattle.alphabet.specs.Alphabet.{wellFormed, fields}
 use Rattle.modes.specs.Modes.{readModes, ruleLetters, changeLetters}
 use Rattle.modes.specs.declared.Access.{Access}
 use Rattle.modes.specs.declared.Access.the-variants.{Modes, Bad}
-use Rattle.store.specs.Table.{Table, labelIn}
+use Rattle.store.specs.Table.{Table, labelIn, noPlace}
 use Rattle.lines.specs.Lines.{Said, skipped, refused, rule, change, ruleOf, changeOf, ruleBy, ruleWith, ruleFields, changeBy, changeWith, changeFields}
-use Rattle.writes.specs.Writes.{judged, changeJudged}
+use Rattle.writes.specs.Writes.{judged, changed}
 use Rattle.store.specs.Judged.{Judged, is-skipped, is-refused, is-accepted, tableAfter}
-use Rattle.rules.specs.Rules.{noPlace, placing}
-use Rattle.rules.specs.declared.Place.{Place}
-use Rattle.rules.specs.declared.Place.the-variants as p
+use Rattle.rules.specs.Rules.{pairLabels, pairRule, withPair}
+use Rattle.store.specs.Pairs.{modesBetween, modesSoFar}
 use Rattle.revoke.specs.Revoke.{revokeWrite, withoutModes}
 use Rattle.onlycap.proofs.Laws.{by-case}
 use Rattle.cipso.specs.Cipso as cipso
 use Rattle.cipso.specs.Cipso.{mappingWrite}
+use Rattle.lines.proofs.Laws.{Sound, rule-sound}
 use Rattle.reports.specs.Report.{freshLoader}
 use Rattle.load.specs.Loader.{Load, load, stepByte, stepEnd}
 use Rattle.lists.specs.Reader as r
@@ -102,7 +102,7 @@ line-made t bytes {t′} {rest} whole more = by-judged (judged t (ruleOf bytes))
     by-said t₁ e more (change s o a d) q n = absurd n
     by-said t₁ e more (rule s o k) q n =
         m.accepted s o k e (rule-triple bytes s o k q)
-        (sym (rule-accepted t s o k whole) ∙ ap isAccepted (ap (judged t) (sym q) ∙ e))
+        (sym (rule-accepted t s o k (subst Sound q (rule-sound bytes) .0 .apart)) ∙ ap isAccepted (ap (judged t) (sym q) ∙ e))
         (line-sets t t₁ bytes s o k whole q e)
         more
 
@@ -157,15 +157,17 @@ not-skipped : (t : Table) (w : Write) → NotSkipped (judgeWrite w t)
 unfolding revokeWrite mappingWrite
 not-skipped t (r.change text) = by-said (changeOf text) (only-change text)
   where
-    by-place : (s o : List ℕ) (a d : ℕ) (q : Place) → NotSkipped (changeJudged t s o a d q)
-    by-place s o a d (p.Refused n) = tt
-    by-place s o a d (p.At spot) = tt
+    by-tests : (a b : Bool) (t′ : Table) → NotSkipped (cond a (is-refused 6) (cond b (is-refused 7) (is-accepted t′)))
+    by-tests true b t′ = tt
+    by-tests false true t′ = tt
+    by-tests false false t′ = tt
 
     by-said : (said : Said) → OnlyChange said → NotSkipped (judged t said)
-    by-said skipped o = o
-    by-said (refused n) o = tt
+    by-said skipped z = z
+    by-said (refused n) z = tt
     by-said (rule s o m) z = absurd z
-    by-said (change s o a d) z = by-place s o a d (placing t s o)
+    by-said (change s o a d) z =
+        by-tests (ltb 64 (length (pairLabels t s o))) (noPlace (pairRule t s o) (length (t .rules)) 256) (withPair t s o (changed (modesSoFar (modesBetween t s o)) a d))
 not-skipped t (r.revoke l) = by-tests (ltb 600 (length l)) (wellFormed l)
   where
     by-tests : (a b : Bool) → NotSkipped (cond a (is-refused 1) (cond b (is-accepted (withoutModes t (labelIn t l))) (is-refused 3)))

@@ -9,18 +9,17 @@ use Rattle.store.specs.Layout.{tableOf}
 use Rattle.lines.specs.Lines.{change, ruleOf, changeOf}
 use Rattle.writes.specs.Writes.{judged, changed}
 use Rattle.store.specs.Judged.{is-skipped, is-refused, is-accepted}
-use Rattle.answers.specs.Answers.{shown}
+use Rattle.answers.specs.Answers.{shown, lookupShown, searchShown, listShown}
 use Rattle.access.specs.declared.Answer.the-variants as answer
 use Rattle.lookups.specs.declared.Lookup.the-variants as lookup
 use Rattle.lookups.specs.declared.Label.the-variants as label
 use Rattle.output.specs.declared.Output.the-variants as listed
-use Rattle.answers.specs.Answers.{lookupShown, searchShown, listShown}
 use Rattle.load.specs.Loader.{Load}
 use Rattle.lists.specs.Reader as r
 use Rattle.lists.specs.Reader.{startOn, Write, Call, Reply, judgeWrite, afterAll, saysAll, Event, byte, stop, wrote, events}
 use Rattle.grown.specs.Grown.{Grown}
-use Rattle.access.specs.Rules.{modesBetween}
-use Rattle.grown.specs.Pairs.{Triple, modesSoFar, hasRoom, SetsPair}
+use Rattle.store.specs.Pairs.{modesBetween, modesSoFar}
+use Rattle.grown.specs.Pairs.{Triple, hasRoom, SetsPair}
 
 -- ---- what acts on the tables: each line that a newline or an end call ends, whole, and each single write, in order. The bytes after the last
 -- newline or end call are no line

@@ -9,11 +9,10 @@ use Rattle.search.specs.Search.{put, placeOf}
 use Rattle.search.specs.declared.Found.{Found}
 use Rattle.alphabet.specs.Within.{part}
 use Rattle.store.specs.declared.Mapping.{Mapping}
-use Rattle.store.specs.Table.{Table, labelIn, labelLimit, mappingLimit, withLabels, withMappings}
+use Rattle.store.specs.Table.{Table, labelIn, labelLimit, mappingLimit, withLabels, withMappings, noPlace, labelsEntered}
 use Rattle.store.specs.Layout.{Store, tableOf, Sizes, mappedFrom, levelsFrom, setsFrom}
 use Rattle.store.specs.Judged.{Judged, is-refused, is-accepted}
 use Rattle.store.specs.Within.{Counts}
-use Rattle.rules.specs.Rules.{noPlace, labelsEntered}
 use Rattle.cipso.specs.declared.Line.{Line}
 use Rattle.cipso.specs.declared.Line.the-variants as line
 use Rattle.cipso.specs.declared.Spot.{Spot}

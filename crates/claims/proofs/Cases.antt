@@ -12,8 +12,8 @@ use Rattle.numbers.specs.Categories.{categories, withCategory}
 use Rattle.store.specs.Table.{Table, fresh, isPair}
 use Rattle.store.specs.Judged.{tableAfter}
 use Rattle.lines.specs.Lines.{ruleBy, ruleOf, changeBy, changeOf}
-use Rattle.rules.specs.Rules.{placing, withPair}
-use Rattle.access.specs.Rules.{modesBetween}
+use Rattle.rules.specs.Rules.{withPair}
+use Rattle.store.specs.Pairs.{modesBetween}
 use Rattle.access.specs.Access.{effective, decide, answer}
 use Rattle.cipso.specs.Cipso.{SaidMapping, mapping, categoriesOf, saidBy, mappingOf, names, withMapping, mappingWrite, saidJudged}
 use Rattle.lookups.specs.Lookups.{labelLookup}
@@ -43,5 +43,5 @@ unfolding right mappingWrite
 mapped = ap (λ (s : SaidMapping). sameLookup (labelLookup (tableAfter fresh (saidJudged fresh s)) Vault7) 9 (1 ∷ 63 ∷ []) 2) says ∙ after-it
 
 pub cases-right : all right cases ≡ true
-unfolding all right first put sameBytes isBlank labelByte wellFormed fields bitOf allowedByte modesOf readModes modesText ruleBy ruleOf changeBy changeOf isPair placing withPair modesBetween effective decide answer
+unfolding all right first put sameBytes isBlank labelByte wellFormed fields bitOf allowedByte modesOf readModes modesText ruleBy ruleOf changeBy changeOf isPair withPair modesBetween effective decide answer
 cases-right = and-true (right (maps write Vault7 9 (1 ∷ 63 ∷ []) 2)) ∙ mapped

@@ -22,16 +22,13 @@ use Rattle.numbers.specs.declared.Number.{Number}
 use Rattle.numbers.specs.declared.Number.the-variants as number
 use Rattle.store.specs.declared.Done.{Done}
 use Rattle.store.specs.declared.Done.the-variants as d
-use Rattle.store.specs.Table.{Table, fresh, labelIn, labelLimit, ruleLimit, mappingLimit, onlycapLimit, ruleNumbered, knownSet}
+use Rattle.store.specs.Table.{Table, fresh, labelIn, labelLimit, ruleLimit, mappingLimit, onlycapLimit, ruleNumbered, knownSet, noPlace}
 use Rattle.store.specs.Layout.{Store, tableOf, undamagedOf, fullSizes}
 use Rattle.store.specs.Judged.{freshWrite, freshAnswer, Judged, is-skipped, is-refused, is-accepted, doneOf, onState}
 use Rattle.lines.specs.Lines.{Said, skipped, refused, rule, change, ruleWith, ruleBy, ruleFields, ruleOf, changeWith, changeBy, changeFields, changeOf}
-use Rattle.rules.specs.Rules.{placing, placeFor, labelsAfter, noPlace}
-use Rattle.rules.specs.Rules as rules
-use Rattle.rules.specs.declared.Spot.{Spot}
-use Rattle.rules.specs.declared.Place.{Place}
-use Rattle.rules.specs.declared.Place.the-variants as p
-use Rattle.writes.specs.Writes.{judged, ruleJudged, changeJudged, outcomeOf, lineOutcome, changeWrite, changeAnswer}
+use Rattle.store.specs.Pairs.{modesBetween, modesSoFar}
+use Rattle.rules.specs.Rules.{pairLabels, pairRule, pairJudged}
+use Rattle.writes.specs.Writes.{judged, changed, outcomeOf, lineOutcome, changeWrite, changeAnswer}
 use Rattle.writes.specs.declared.Outcome.{Outcome}
 use Rattle.writes.specs.declared.Outcome.the-variants as v
 use Rattle.revoke.specs.Revoke.{revokeWrite, revokeCount, countOf, revokeAnswer}
@@ -226,19 +223,15 @@ change-said : (text : List ℕ) → said-or changeNumbers (changeOf text) ≡ tr
 unfolding isAmong changeOf
 change-said text = either (said-or changeNumbers) (ltb lineLimit (length text)) refl (change-fields (fields text))
 
--- what holds of each answer of `placing` holds of it
-placed : (P : Place → Bool) (t : Table) (s o : List ℕ) → ((spot : Spot) → P (p.At spot) ≡ true) → P (p.Refused 6) ≡ true → P (p.Refused 7) ≡ true → P (placing t s o) ≡ true
-unfolding placing
-placed P t s o at six seven = by-found (labelIn t s) (labelIn t o)
-  where
-    by-found : (x y : Found) → P (placeFor t x y) ≡ true
-    by-found x y = either P (ltb labelLimit (labelsAfter t x y)) six (either P (noPlace (rules.ruleOfPair t x y) (length (t .rules)) ruleLimit) seven (at _))
+judged-pair : (ns : List ℕ) (t : Table) (s o : List ℕ) (m : ℕ) → Among 6 ns → Among 7 ns → judged-or ns (pairJudged t s o m) ≡ true
+judged-pair ns t s o m six seven =
+    either (judged-or ns) (ltb labelLimit (length (pairLabels t s o))) six (either (judged-or ns) (noPlace (pairRule t s o) (length (t .rules)) ruleLimit) seven refl)
 
 judged-said : (ns : List ℕ) (t : Table) (said : Said) → Among 6 ns → Among 7 ns → said-or ns said ≡ true → judged-or ns (judged t said) ≡ true
 judged-said ns t skipped six seven h = refl
 judged-said ns t (refused n) six seven h = h
-judged-said ns t (rule s o m) six seven h = placed (λ (x : Place). judged-or ns (ruleJudged t s o m x)) t s o (λ spot. refl) six seven
-judged-said ns t (change s o m k) six seven h = placed (λ (x : Place). judged-or ns (changeJudged t s o m k x)) t s o (λ spot. refl) six seven
+judged-said ns t (rule s o m) six seven h = judged-pair ns t s o m six seven
+judged-said ns t (change s o a b) six seven h = judged-pair ns t s o (changed (modesSoFar (modesBetween t s o)) a b) six seven
 
 verdict-judged : (ns : List ℕ) (j : Judged) → judged-or ns j ≡ true → outcome-or ns (outcomeOf j) ≡ true
 verdict-judged ns is-skipped h = refl

@@ -5,12 +5,11 @@ use mathlib.Core.List.{List, [], _∷_, foldl}
 use lib.Dec.{eqb}
 use Rattle.search.specs.Bytes.{sameBytes}
 use Rattle.modes.specs.Modes.{modesText}
-use Rattle.store.specs.Table.{Table, fresh, floor, hat, star, labelIn}
+use Rattle.store.specs.Table.{Table, fresh, floor, hat, star}
 use Rattle.lines.specs.Lines.{ruleOf}
-use Rattle.rules.specs.Rules.{modesOfRule}
 use Rattle.writes.specs.Writes.{judged, changeWrite}
 use Rattle.store.specs.Judged.{tableAfter}
-use Rattle.access.specs.Rules.{ruleBetween}
+use Rattle.store.specs.Pairs.{modesBetween, modesSoFar}
 use Rattle.access.specs.Access.{answer}
 use Rattle.answers.specs.Answers.{shown}
 use Rattle.answers.specs.declared.Shown.{Shown}
@@ -33,7 +32,7 @@ afterLines lines = foldl (λ (t : Table) (line : List ℕ). tableAfter t (judged
 
 -- the modes of a pair's rule
 abbrev pub pairModes : Table → List ℕ → List ℕ → ℕ
-pairModes t s o = modesOfRule (ruleBetween t (labelIn t s) (labelIn t o)) (t .rules)
+pairModes t s o = modesSoFar (modesBetween t s o)
 
 abbrev pub sameShown : Shown → Shown → Bool
 sameShown a b = eqb (a .kind) (b .kind) && (eqb (a .number) (b .number) && Bool·beq (a .bringup) (b .bringup))

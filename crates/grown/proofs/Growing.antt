@@ -16,14 +16,14 @@ use Rattle.search.proofs.Laws.{and-both, all-at, all-put, first-is, length-put,
 use Rattle.alphabet.specs.Alphabet.{wellFormed, fields}
 use Rattle.store.specs.declared.Rule.{Rule}
 use Rattle.store.specs.declared.Mapping.{Mapping}
-use Rattle.store.specs.Table.{Table, labelIn, isPair, soundRule, soundMapping}
+use Rattle.store.proofs.Pairs.{enter-front, enter-length, enter-number, enter-once, enter-all}
+use Rattle.store.specs.Table.{Table, labelIn, enter, isPair, soundRule, soundMapping, noPlace, numberIn}
 use Rattle.store.proofs.Laws.{sound-more}
-use Rattle.rules.specs.Rules.{noPlace}
 use Rattle.rules.proofs.Laws.{place-count}
 use Rattle.lines.specs.Lines.{ruleOf, changeOf}
 use Rattle.lines.proofs.Laws.{rule-sound, change-sound}
 use Rattle.revoke.specs.Revoke.{hasSubject, revokedRule, withoutModes, revokeWrite}
-use Rattle.onlycap.specs.Onlycap.{numberIn, onlycapWrite}
+use Rattle.onlycap.specs.Onlycap.{onlycapWrite}
 use Rattle.onlycap.specs.Within.{joined, differentJoined, labelsJoined}
 use Rattle.onlycap.proofs.Laws.{by-case}
 use Rattle.store.specs.Judged.{Judged, is-refused, is-accepted, tableAfter}
@@ -32,7 +32,7 @@ use Rattle.cipso.specs.Cipso as cipso
 use Rattle.cipso.proofs.Laws.{Maps, maps}
 use Rattle.grown.specs.Grown.{Grown, from-fresh, by-line, by-write}
 use Rattle.grown.specs.Sane.{twoLabels, Sane}
-use Rattle.grown.proofs.Sane.{samePair, sound-parts, sound-whole, enter, enter-front, enter-length, enter-number, enter-once, enter-all, five-front, front-five, fresh-sane, said-sane}
+use Rattle.grown.proofs.Sane.{samePair, sound-parts, sound-whole, five-front, front-five, fresh-sane, said-sane}
 
 -- ---- revoke-subject: rules lose their modes, and nothing else changes
 

@@ -18,20 +18,24 @@ use Rattle.modes.specs.Modes.{readModes, ruleLetters, requestLetters}
 use Rattle.modes.specs.declared.Access.{Access}
 use Rattle.modes.specs.declared.Access.the-variants.{Modes, Bad}
 use Rattle.store.specs.declared.Rule.{Rule}
-use Rattle.store.specs.Table.{Table, labelIn, isPair, pairIn, soundTable}
+use Rattle.store.specs.Table.{Table, labelIn, isPair, pairIn, soundTable, noPlace}
 use Rattle.store.specs.Layout.{Store, labelAt, tableOf, undamagedOf}
 use Rattle.store.proofs.Laws.{sound-more, undamaged-is}
 use Rattle.rules.specs.declared.Place.the-variants as p
-use Rattle.rules.specs.Rules.{placing, noPlace, labelsAfter, modesOfRule}
+use Rattle.rules.specs.Rules.{pairLabels, withPair}
+use Rattle.rules.proofs.Pairs.{pair-length}
+use Rattle.rules.specs.Within.{judgedAt, placing, labelsAfter, modesOfRule}
 use Rattle.lines.specs.Lines.{Said, refused, rule, change, ruleOf, changeOf, ruleWith, ruleBy, ruleFields}
 use Rattle.lines.proofs.Laws.{Taken, Sound, rule-sound, change-sound}
-use Rattle.writes.specs.Writes.{ruleJudged, judged, changed}
+use Rattle.writes.specs.Writes.{judged, changed}
+use Rattle.writes.proofs.Laws.{rule-at}
 use Rattle.store.specs.Judged.{Judged, is-skipped, is-refused, is-accepted, tableAfter}
-use Rattle.access.specs.Rules.{ruleBetween, PairModes, has-modes, no-rule, modesFound, modesBetween, rulesFor, firstOf, sevenRules}
+use Rattle.access.specs.Rules.{rulesFor, firstOf, sevenRules}
+use Rattle.store.specs.Pairs.{ruleBetween, PairModes, has-modes, no-rule, modesFound, modesBetween, modesSoFar}
 use Rattle.access.specs.Access.{effective, answered, decide, byRequest, answer}
-use Rattle.access.proofs.Laws.{not-listed, not-subject, not-object}
-use Rattle.grown.specs.Pairs.{SoundTable, Triple, modesSoFar, newLabels, hasRule, hasRoom, isAccepted, SetsPair}
-use Rattle.grown.proofs.Sane.{subjectAt, objectAt, pairLabels, paired, subject-number, object-number, pair-front, one-label, Paired, rule-paired, change-paired}
+use Rattle.store.proofs.Pairs.{not-listed, not-subject, not-object, between-read}
+use Rattle.grown.specs.Pairs.{SoundTable, Triple, newLabels, hasRule, hasRoom, isAccepted, SetsPair}
+use Rattle.grown.proofs.Sane.{subjectAt, objectAt, paired, subject-number, object-number, pair-front, one-label, Paired, rule-paired, change-paired}
 
 -- the table of an undamaged state is sound
 pub undamaged-sound : (st : Store) → undamagedOf st ≡ true → SoundTable (tableOf st)
@@ -177,7 +181,7 @@ paired-sets {t} {s = s} {o = o} {m = m} h q = subst (λ (z : Table). SetsPair t 
 
 -- ANY ACCEPTED LINE
 pub line-sets : (t t′ : Table) (text s o : List ℕ) (m : ℕ) → SoundTable t → ruleOf text ≡ rule s o m → judged t (ruleOf text) ≡ is-accepted t′ → SetsPair t t′ s o m
-line-sets t t′ text s o m h e q = paired-sets h (rule-paired t t′ s o m (subst Sound e (rule-sound text)) (ap (judged t) (sym e) ∙ q))
+line-sets t t′ text s o m h e q = paired-sets h (rule-paired t t′ s o m h (subst Sound e (rule-sound text)) (ap (judged t) (sym e) ∙ q))
 
 -- ---- with room for it
 
@@ -219,21 +223,18 @@ rule-room rules (At k) n = refl
 rule-room rules Nothing n = not-leb 256 n
 
 -- a rule is accepted exactly where there is room for it
-pub rule-accepted : (t : Table) (s o : List ℕ) (m : ℕ) → soundTable (length (t .labels)) t ≡ true → isAccepted (judged t (rule s o m)) ≡ hasRoom t s o
-unfolding placing hasRoom
-rule-accepted t s o m sound =
-    by-tests (ltb 64 (labelsAfter t (labelIn t s) (labelIn t o))) (noPlace (pairIn t (subjectAt t s o) (objectAt t s o)) (length (t .rules)) 256)
+pub rule-accepted : (t : Table) (s o : List ℕ) (m : ℕ) → sameBytes s o ≡ false → isAccepted (judged t (rule s o m)) ≡ hasRoom t s o
+unfolding hasRoom modesBetween
+rule-accepted t s o m different =
+    by-tests (ltb 64 (length (pairLabels t s o))) (noPlace (ruleBetween t (labelIn t s) (labelIn t o)) (length (t .rules)) 256)
     ∙ rw (
-      not-ltb 64 (labelsAfter t (labelIn t s) (labelIn t o)),
+      not-ltb 64 (length (pairLabels t s o)),
+      pair-length t s o different,
       labels-counted (labelIn t s) (labelIn t o) (length (t .labels)),
-      rule-room (t .rules) (pairIn t (subjectAt t s o) (objectAt t s o)) (length (t .rules)),
-      pair-read t s o sound,
+      rule-room (t .rules) (ruleBetween t (labelIn t s) (labelIn t o)) (length (t .rules)),
     )
   where
-    by-tests :
-        (a b : Bool) →
-        isAccepted (ruleJudged t s o m (cond a (p.Refused 6) (cond b (p.Refused 7) (p.At (record { subject = labelIn t s; object = labelIn t o; rule = pairIn t (subjectAt t s o) (objectAt t s o) })))))
-        ≡ (not a && not b)
+    by-tests : (a b : Bool) → isAccepted (cond a (is-refused 6) (cond b (is-refused 7) (is-accepted (withPair t s o m)))) ≡ (not a && not b)
     by-tests true b = refl
     by-tests false true = refl
     by-tests false false = refl
@@ -326,11 +327,15 @@ accepted-as t is-skipped e = absurd (no e)
 accepted-as t (is-refused n) e = absurd (no e)
 accepted-as t (is-accepted z) e = refl
 
+-- its labels are two
+pub triple-apart : {text s o : List ℕ} {m : ℕ} → Triple text s o m → sameBytes s o ≡ false
+triple-apart {text} w = subst Sound (triple-rule w) (rule-sound text) .0 .apart
+
 -- A WELL-FORMED TRIPLE WITH ROOM FOR IT
 pub triple-sets : (t : Table) (text s o : List ℕ) (m : ℕ) → SoundTable t → Triple text s o m → hasRoom t s o ≡ true → SetsPair t (tableAfter t (judged t (ruleOf text))) s o m
 triple-sets t text s o m h w room =
     line-sets t (tableAfter t (judged t (ruleOf text))) text s o m h (triple-rule w)
-    (accepted-as t (judged t (ruleOf text)) (ap (λ (x : Said). isAccepted (judged t x)) (triple-rule w) ∙ rule-accepted t s o m h ∙ room))
+    (accepted-as t (judged t (ruleOf text)) (ap (λ (x : Said). isAccepted (judged t x)) (triple-rule w) ∙ rule-accepted t s o m (triple-apart w) ∙ room))
 
 -- ANY ACCEPTED CHANGE
 modes-so-far : (rules : List Rule) (f : Found) → modesOfRule f rules ≡ modesSoFar (modesFound rules f)
@@ -345,4 +350,4 @@ pub change-sets :
     SetsPair t t′ s o (changed (modesSoFar (modesBetween t s o)) a d)
 change-sets t t′ text s o a d h e q =
     subst (λ (m : ℕ). SetsPair t t′ s o (changed m a d)) (modes-so-far (t .rules) (pairIn t (subjectAt t s o) (objectAt t s o)) ∙ ap modesSoFar (pair-read t s o h))
-    (paired-sets h (change-paired t t′ s o a d (length (t .labels)) h (subst Sound e (change-sound text)) (ap (judged t) (sym e) ∙ q)))
+    (paired-sets h (change-paired t t′ s o a d h (subst Sound e (change-sound text)) (ap (judged t) (sym e) ∙ q)))

@@ -17,12 +17,14 @@ use Rattle.search.proofs.Laws.{no, and-both, same-equal, not-so, all-at, all-by
 use Rattle.alphabet.specs.Alphabet.{wellFormed}
 use Rattle.modes.specs.Modes.{modesText}
 use Rattle.store.specs.declared.Rule.{Rule}
-use Rattle.store.specs.Table.{Table, fresh, labelIn, isPair, pairIn, soundRule, labelNumbered, ruleNumbered}
+use Rattle.store.specs.Table.{Table, fresh, labelIn, enter, isPair, pairIn, soundRule, labelNumbered, ruleNumbered}
 use Rattle.lines.specs.Lines.{rule, ruleOf}
+use Rattle.store.proofs.Pairs.{same-bytes, enter-once, enter-all}
+use Rattle.rules.specs.Rules.{pairLabels}
 use Rattle.lines.proofs.Laws.{Taken}
 use Rattle.writes.specs.Writes.{judged}
 use Rattle.store.specs.Judged.{is-accepted, tableAfter}
-use Rattle.access.specs.Rules.{ruleBetween, no-rule, modesFound, modesBetween}
+use Rattle.store.specs.Pairs.{ruleBetween, no-rule, modesFound, modesBetween}
 use Rattle.access.specs.Access.{isFound}
 use Rattle.lists.specs.Reader.{Reader, Totals, endLine, takeByte, takePiece, finish, limited, limitedTotals, done, report}
 use Rattle.rule_text.specs.RuleText.{lineOf, textOf}
@@ -31,7 +33,7 @@ use Rattle.listing.specs.Listing.{ruleText, textsOf, listing}
 use Rattle.grown.specs.Sane.{twoLabels, Sane}
 use Rattle.grown.specs.Pairs.{newLabels, hasRoom}
 use Rattle.grown.specs.Relisted.{Spelled, spell, spelled, allAccepted, LoadsBack}
-use Rattle.grown.proofs.Sane.{same-bytes, sound-parts, enter, enter-once, enter-all, five-front, subjectAt, objectAt, pairLabels, paired, subject-number, object-number, pair-length, pair-front, stored-known, rule-known, paired-sane, rule-paired, fresh-sane}
+use Rattle.grown.proofs.Sane.{sound-parts, five-front, subjectAt, objectAt, paired, subject-number, object-number, pair-length, pair-front, stored-known, rule-known, paired-sane, rule-paired, fresh-sane}
 use Rattle.grown.proofs.Pairs.{pair-read, rule-accepted, accepted-as, labels-counted}
 
 -- ---- the plain reader and one line
@@ -207,8 +209,8 @@ module _ (t u : Table) (rs rest : List Rule) (r : Rule) (h : Sane t) (w : Loaded
 
   accepted : judged u (ruleOf listed) ≡ is-accepted (paired u s o m)
   accepted =
-      let e : judged u (rule s o m) ≡ is-accepted (tableAfter u (judged u (rule s o m))) = accepted-as u (judged u (rule s o m)) (rule-accepted u s o m (w .sane .sound) ∙ room) in
-      ap (judged u) says ∙ e ∙ ap is-accepted (rule-paired u (tableAfter u (judged u (rule s o m))) s o m (taken, r-known .2) e .is)
+      let e : judged u (rule s o m) ≡ is-accepted (tableAfter u (judged u (rule s o m))) = accepted-as u (judged u (rule s o m)) (rule-accepted u s o m (taken .apart) ∙ room) in
+      ap (judged u) says ∙ e ∙ ap is-accepted (rule-paired u (tableAfter u (judged u (rule s o m))) s o m (w .sane .sound) (taken, r-known .2) e .is)
 
   -- the rules that were there are spelled as before, and the new one is spelled as r
   spelled-more : (x : Rule) → soundRule (length (u .labels)) x ≡ true → spell (paired u s o m) x ≡ spell u x
@@ -233,7 +235,7 @@ module _ (t u : Table) (rs rest : List Rule) (r : Rule) (h : Sane t) (w : Loaded
   unfolding put
   one-more =
       record {
-        sane = paired-sane (w .sane) (rule-paired u (paired u s o m) s o m (taken, r-known .2) (ap (judged u) (sym says) ∙ accepted));
+        sane = paired-sane (w .sane) (rule-paired u (paired u s o m) s o m (w .sane .sound) (taken, r-known .2) (ap (judged u) (sym says) ∙ accepted));
         known = still-known;
         same =
             ap (λ (f : Found). map (spell (paired u s o m)) (put f (u .rules) new)) new-place

@@ -16,25 +16,25 @@ use Rattle.search.specs.declared.Found.the-variants.{At, Nothing}
 use Rattle.search.proofs.Laws.{no, and-both, same-refl, same-equal, same-sym, all-snoc, all-at, all-put, first-is, first-snoc, first-last, length-put, Same, Distinct, distinct-put, Front, front-same, front-more, front-length}
 use Rattle.alphabet.specs.Alphabet.{labelByte, wellFormed}
 use Rattle.store.specs.declared.Rule.{Rule}
-use Rattle.store.specs.Table.{Table, fresh, labelIn, isPair, pairIn, soundRule, soundMapping, soundTable, labelNumbered, ruleNumbered}
+use Rattle.store.specs.Table.{Table, fresh, labelIn, labelsEntered, enter, isPair, pairIn, soundRule, soundMapping, soundTable, labelNumbered, ruleNumbered}
 use Rattle.store.proofs.Laws.{sound-more}
+use Rattle.store.proofs.Pairs.{same-bytes, enter-front, enter-other, enter-once, enter-all}
 use Rattle.rules.specs.declared.Spot.{Spot}
 use Rattle.rules.specs.declared.Place.{Place}
 use Rattle.rules.specs.declared.Place.the-variants as p
-use Rattle.rules.specs.Rules.{subjectNumber, objectNumber, placing, withPair, modesOfRule}
-use Rattle.rules.specs.Rules as rules
+use Rattle.rules.specs.Rules.{pairLabels}
+use Rattle.rules.specs.Within.{subjectNumber, objectNumber, labelsAfter, ruleOfPair, placing, withPairAt, judgedAt, modesOfRule}
+use Rattle.rules.proofs.Pairs as pairs
 use Rattle.rules.proofs.Laws.{Room, placed, place-count}
 use Rattle.lines.specs.Lines.{Said, skipped, refused, rule, change}
 use Rattle.lines.proofs.Laws.{Taken, Sound}
-use Rattle.writes.specs.Writes.{changed, ruleJudged, changeJudged, judged}
+use Rattle.writes.specs.Writes.{changed, judged}
+use Rattle.writes.specs.Within.{changeAt}
 use Rattle.store.specs.Judged.{is-accepted}
-use Rattle.writes.proofs.Laws.{changed-small}
+use Rattle.writes.proofs.Laws.{changed-small, rule-at, change-at}
 use Rattle.grown.specs.Sane.{twoLabels, Sane}
 
 -- ---- tests that tell labels and rules apart
-
-pub same-bytes : Same sameBytes
-same-bytes = record { itself = same-refl; alike = λ x y e z. ap (λ (w : List ℕ). sameBytes w z) (same-equal x y e) }
 
 -- two rules of one pair
 abbrev pub samePair : Rule → Rule → Bool
@@ -55,57 +55,6 @@ pub one-label : (ls : List (List ℕ)) (x y : List ℕ) (i : ℕ) → first (sam
 one-label ls x y i e q =
     same-equal x (getD ls i []) (first-is (sameBytes x) [] ls i e .1)
     ∙ sym (same-equal y (getD ls i []) (first-is (sameBytes y) [] ls i q .1))
-
--- ---- a label enters: last, where it is not there
-
-abbrev pub enter : List (List ℕ) → List ℕ → List (List ℕ)
-enter ls l = rules.labelsEntered (first (sameBytes l) ls) ls l
-
-module _ (ls : List (List ℕ)) (l : List ℕ) where
-  pub enter-front : Front ls (enter ls l)
-  enter-front = by-case (first (sameBytes l) ls)
-    where
-      by-case : (f : Found) → Front ls (rules.labelsEntered f ls l)
-      by-case (At i) = front-same ls
-      by-case Nothing = record { rest = l ∷ []; is = refl }
-
-  pub enter-length : length (enter ls l) ≡ countOf (first (sameBytes l) ls) (length ls)
-  unfolding put
-  enter-length = by-case (first (sameBytes l) ls)
-    where
-      by-case : (f : Found) → length (rules.labelsEntered f ls l) ≡ countOf f (length ls)
-      by-case (At i) = refl
-      by-case Nothing = length-put Nothing ls l
-
-  pub enter-number : first (sameBytes l) (enter ls l) ≡ At (placeOf (first (sameBytes l) ls) (length ls))
-  enter-number = by-case (first (sameBytes l) ls) refl
-    where
-      by-case : (f : Found) → first (sameBytes l) ls ≡ f → first (sameBytes l) (rules.labelsEntered f ls l) ≡ At (placeOf f (length ls))
-      by-case (At i) e = e
-      by-case Nothing e = first-last (sameBytes l) ls l e (same-refl l)
-
-  -- no other label's number changes
-  pub enter-other : (x : List ℕ) → sameBytes x l ≡ false → first (sameBytes x) (enter ls l) ≡ first (sameBytes x) ls
-  enter-other x e = by-case (first (sameBytes l) ls)
-    where
-      by-case : (f : Found) → first (sameBytes x) (rules.labelsEntered f ls l) ≡ first (sameBytes x) ls
-      by-case (At i) = refl
-      by-case Nothing = first-snoc (sameBytes x) ls l e
-
-  pub enter-once : Distinct sameBytes [] ls → Distinct sameBytes [] (enter ls l)
-  unfolding put
-  enter-once once = by-case (first (sameBytes l) ls) (distinct-put sameBytes [] ls l same-bytes once)
-    where
-      by-case : (f : Found) → Distinct sameBytes [] (put f ls l) → Distinct sameBytes [] (rules.labelsEntered f ls l)
-      by-case (At i) q = once
-      by-case Nothing q = q
-
-  pub enter-all : (q : List ℕ → Bool) → all q ls ≡ true → q l ≡ true → all q (enter ls l) ≡ true
-  enter-all q e h = by-case (first (sameBytes l) ls)
-    where
-      by-case : (f : Found) → all q (rules.labelsEntered f ls l) ≡ true
-      by-case (At i) = e
-      by-case Nothing = all-snoc q ls l ∙ rw (e, h)
 
 -- the five stay in front
 pub five-front : {ls : List (List ℕ)} → take 5 ls ≡ fresh .labels → Front (fresh .labels) ls
@@ -148,9 +97,6 @@ module _ (t : Table) (s o : List ℕ) where
   abbrev pub objectAt : ℕ
   objectAt = objectNumber t (labelIn t s) (labelIn t o)
 
-  abbrev pub pairLabels : List (List ℕ)
-  pairLabels = enter (enter (t .labels) s) o
-
 -- the labels enter, and the rule is put in its place
 abbrev pub paired : Table → List ℕ → List ℕ → ℕ → Table
 paired t s o m =
@@ -166,13 +112,13 @@ module _ (t : Table) (s o : List ℕ) (taken : Taken s o) where
   apart = same-sym o s ∙ taken .apart
 
   pub subject-number : first (sameBytes s) (pairLabels t s o) ≡ At (subjectAt t s o)
-  subject-number = enter-other (enter (t .labels) s) o s (taken .apart) ∙ enter-number (t .labels) s
+  subject-number = pairs.subject-number t s o (taken .apart)
 
   pub object-number : first (sameBytes o) (pairLabels t s o) ≡ At (objectAt t s o)
-  object-number = enter-number (enter (t .labels) s) o ∙ rw (enter-other (t .labels) s o apart, enter-length (t .labels) s)
+  object-number = pairs.object-number t s o (taken .apart)
 
-  pub pair-length : length (pairLabels t s o) ≡ rules.labelsAfter t (labelIn t s) (labelIn t o)
-  pair-length = enter-length (enter (t .labels) s) o ∙ rw (enter-other (t .labels) s o apart, enter-length (t .labels) s)
+  pub pair-length : length (pairLabels t s o) ≡ labelsAfter t (labelIn t s) (labelIn t o)
+  pair-length = pairs.pair-length t s o (taken .apart)
 
   pub pair-front : Front (t .labels) (pairLabels t s o)
   pair-front = front-more (enter-front (t .labels) s) (enter-front (enter (t .labels) s) o)
@@ -184,16 +130,16 @@ module _ (t : Table) (s o : List ℕ) (taken : Taken s o) where
       no (sym (taken .apart) ∙ ap (λ (x : List ℕ). sameBytes x o) q ∙ same-refl o)
 
   -- what a pair with a place makes of the tables
-  pub paired-is : (m : ℕ) (spot : Spot) → placing t s o ≡ p.At spot → withPair t s o spot m ≡ paired t s o m
-  unfolding placing withPair
+  pub paired-is : (m : ℕ) (spot : Spot) → placing t s o ≡ p.At spot → withPairAt t s o spot m ≡ paired t s o m
+  unfolding placing withPairAt
   paired-is m spot e =
-      let room = placed (length (t .labels)) (length (t .rules)) (labelIn t s) (labelIn t o) (rules.ruleOfPair t (labelIn t s) (labelIn t o)) spot e in
-      ap (λ (z : Spot). withPair t s o z m) (room .same)
-      ∙ ap (λ (f : Found). record { labels = rules.labelsEntered f (enter (t .labels) s) o; rules = paired t s o m .rules; mappings = t .mappings; onlycap = t .onlycap }) (sym (enter-other (t .labels) s o apart))
+      let room = placed (length (t .labels)) (length (t .rules)) (labelIn t s) (labelIn t o) (ruleOfPair t (labelIn t s) (labelIn t o)) spot e in
+      ap (λ (z : Spot). withPairAt t s o z m) (room .same)
+      ∙ ap (λ (f : Found). record { labels = labelsEntered f (enter (t .labels) s) o; rules = paired t s o m .rules; mappings = t .mappings; onlycap = t .onlycap }) (sym (enter-other (t .labels) s o apart))
 
-  pub pair-room : (spot : Spot) → placing t s o ≡ p.At spot → Room (length (t .labels)) (length (t .rules)) (labelIn t s) (labelIn t o) (rules.ruleOfPair t (labelIn t s) (labelIn t o)) spot
+  pub pair-room : (spot : Spot) → placing t s o ≡ p.At spot → Room (length (t .labels)) (length (t .rules)) (labelIn t s) (labelIn t o) (ruleOfPair t (labelIn t s) (labelIn t o)) spot
   unfolding placing
-  pair-room spot e = placed (length (t .labels)) (length (t .rules)) (labelIn t s) (labelIn t o) (rules.ruleOfPair t (labelIn t s) (labelIn t o)) spot e
+  pair-room spot e = placed (length (t .labels)) (length (t .rules)) (labelIn t s) (labelIn t o) (ruleOfPair t (labelIn t s) (labelIn t o)) spot e
 
   pub pair-sound : (m : ℕ) → soundTable (length (t .labels)) t ≡ true → m < 64 → soundTable (length (pairLabels t s o)) (paired t s o m) ≡ true
   pair-sound m sound small =
@@ -262,13 +208,13 @@ modes-below t n sound i j = by-case (pairIn t i j) (first-is (isPair i j) (recor
     by-case Nothing h = omega arith
 
 -- a rule is set wholly
-pub rule-paired : (t t′ : Table) (s o : List ℕ) (m : ℕ) → Sound (rule s o m) → judged t (rule s o m) ≡ is-accepted t′ → Paired t t′ s o m
-rule-paired t t′ s o m f e = by-place (placing t s o) refl e
+pub rule-paired : (t t′ : Table) (s o : List ℕ) (m : ℕ) → soundTable (length (t .labels)) t ≡ true → Sound (rule s o m) → judged t (rule s o m) ≡ is-accepted t′ → Paired t t′ s o m
+rule-paired t t′ s o m sound f e = by-place (placing t s o) refl (sym (rule-at t sound s o (f .0) m) ∙ e)
   where
-    by-place : (q : Place) → placing t s o ≡ q → ruleJudged t s o m q ≡ is-accepted t′ → Paired t t′ s o m
+    by-place : (q : Place) → placing t s o ≡ q → judgedAt t s o m q ≡ is-accepted t′ → Paired t t′ s o m
     by-place (p.Refused n) w e = let z : _≡_ {A = ℕ} 0 1 = cc in absurd (omega arith)
     by-place (p.At spot) w e =
-        let z : withPair t s o spot m ≡ t′ = cc in
+        let z : withPairAt t s o spot m ≡ t′ = cc in
         record { taken = f .0; small = f .1; spot = spot; at = w; is = sym z ∙ paired-is t s o (f .0) m spot w }
 
 -- a change starts from the modes that its pair has
@@ -276,26 +222,26 @@ abbrev pub modesFrom : Table → List ℕ → List ℕ → ℕ
 modesFrom t s o = modesOfRule (pairIn t (subjectAt t s o) (objectAt t s o)) (t .rules)
 
 pub change-paired :
-    (t t′ : Table) (s o : List ℕ) (a d n : ℕ) →
-    soundTable n t ≡ true →
+    (t t′ : Table) (s o : List ℕ) (a d : ℕ) →
+    soundTable (length (t .labels)) t ≡ true →
     Sound (change s o a d) →
     judged t (change s o a d) ≡ is-accepted t′ →
     Paired t t′ s o (changed (modesFrom t s o) a d)
-change-paired t t′ s o a d n sound f e = by-place (placing t s o) refl e
+change-paired t t′ s o a d sound f e = by-place (placing t s o) refl (sym (change-at t sound s o (f .0) a d) ∙ e)
   where
-    by-place : (q : Place) → placing t s o ≡ q → changeJudged t s o a d q ≡ is-accepted t′ → Paired t t′ s o (changed (modesFrom t s o) a d)
+    by-place : (q : Place) → placing t s o ≡ q → changeAt t s o a d q ≡ is-accepted t′ → Paired t t′ s o (changed (modesFrom t s o) a d)
     by-place (p.Refused n) w e = let z : _≡_ {A = ℕ} 0 1 = cc in absurd (omega arith)
     by-place (p.At spot) w e =
-        let z : withPair t s o spot (changed (modesOfRule (spot .rule) (t .rules)) a d) ≡ t′ = cc in
+        let z : withPairAt t s o spot (changed (modesOfRule (spot .rule) (t .rules)) a d) ≡ t′ = cc in
         let same = pair-room t s o (f .0) spot w .same in
         record {
           taken = f .0;
-          small = changed-small (modesFrom t s o) a d (modes-below t n sound (subjectAt t s o) (objectAt t s o)) (f .1) (f .2);
+          small = changed-small (modesFrom t s o) a d (modes-below t (length (t .labels)) sound (subjectAt t s o) (objectAt t s o)) (f .1) (f .2);
           spot = spot;
           at = w;
           is =
               sym z
-              ∙ ap (λ (x : Spot). withPair t s o spot (changed (modesOfRule (x .rule) (t .rules)) a d)) same
+              ∙ ap (λ (x : Spot). withPairAt t s o spot (changed (modesOfRule (x .rule) (t .rules)) a d)) same
               ∙ paired-is t s o (f .0) (changed (modesFrom t s o) a d) spot w;
         }
 
@@ -331,5 +277,5 @@ fresh-sane =
 pub said-sane : (t t′ : Table) (said : Said) → Sane t → Sound said → judged t said ≡ is-accepted t′ → Sane t′
 said-sane t t′ skipped h f e = let z : _≡_ {A = ℕ} 0 1 = cc in absurd (omega arith)
 said-sane t t′ (refused n) h f e = let z : _≡_ {A = ℕ} 0 1 = cc in absurd (omega arith)
-said-sane t t′ (rule s o m) h f e = paired-sane h (rule-paired t t′ s o m f e)
-said-sane t t′ (change s o a d) h f e = paired-sane h (change-paired t t′ s o a d (length (t .labels)) (h .sound) f e)
+said-sane t t′ (rule s o m) h f e = paired-sane h (rule-paired t t′ s o m (h .sound) f e)
+said-sane t t′ (change s o a d) h f e = paired-sane h (change-paired t t′ s o a d (h .sound) f e)

@@ -13,7 +13,8 @@ use Rattle.modes.specs.Modes.{readModes, ruleLetters}
 use Rattle.modes.specs.declared.Access.the-variants.{Modes}
 use Rattle.store.specs.Table.{Table, labelIn, labelLimit, ruleLimit, soundTable}
 use Rattle.store.specs.Judged.{Judged, is-skipped, is-refused, is-accepted}
-use Rattle.access.specs.Rules.{PairModes, has-modes, no-rule, modesBetween, rulesFor, sevenRules}
+use Rattle.access.specs.Rules.{rulesFor, sevenRules}
+use Rattle.store.specs.Pairs.{PairModes, has-modes, no-rule, modesBetween}
 use Rattle.access.specs.Access.{effective, answer}
 
 -- what a table has to be for this: every number in it names one of its labels, and no mode or category bit is unknown. Every grown table is so, and so is the
@@ -30,11 +31,6 @@ pub record Triple (text s o : List ℕ) (m : ℕ) : Type 0 where
   pub object : wellFormed o ≡ true
   pub modes : readModes ruleLetters true access ≡ Modes m
   pub different : s ≡ o → ⊥
-
--- the modes that a change starts from: those of the pair's rule, or none
-abbrev pub modesSoFar : PairModes → ℕ
-modesSoFar (has-modes m) = m
-modesSoFar no-rule = 0
 
 -- room for it: no more new labels than free label places, and the pair has a rule or fewer than 256 are stored
 abbrev pub newLabels : Found → ℕ

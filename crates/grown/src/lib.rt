@@ -10,12 +10,12 @@ ghost use Rattle.store.specs.Layout.{Store, tableOf, undamagedOf};
 ghost use Rattle.lines.specs.Lines.{rule, change, ruleOf, changeOf};
 ghost use Rattle.writes.specs.Writes.{judged, changed};
 ghost use Rattle.store.specs.Judged.{is-accepted, tableAfter};
-ghost use Rattle.access.specs.Rules.{modesBetween};
+ghost use Rattle.store.specs.Pairs.{modesBetween, modesSoFar};
 ghost use Rattle.access.specs.Access.{effective};
 ghost use Rattle.listing.specs.Listing.{listing};
 ghost use Rattle.grown.specs.Grown.{Grown};
 ghost use Rattle.grown.specs.Sane.{Sane};
-ghost use Rattle.grown.specs.Pairs.{SoundTable, Triple, hasRoom, isAccepted, modesSoFar, SetsPair};
+ghost use Rattle.grown.specs.Pairs.{SoundTable, Triple, hasRoom, isAccepted, SetsPair};
 ghost use Rattle.grown.specs.Order.{Asks, ByFirst};
 ghost use Rattle.grown.specs.Relisted.{LoadsBack, ListedByNumber};
 
@@ -48,7 +48,7 @@ pub fn triple_is_a_rule_line()
 
 // It is accepted exactly where there is room.
 pub fn triple_accepted_with_room()
-    ensures { λ _. ⌜ ((t : Table) (line s o : List ℕ) (m : ℕ) → SoundTable t → Triple line s o m → isAccepted (judged t (ruleOf line)) ≡ hasRoom t s o) ⌝ }
+    ensures { λ _. ⌜ ((t : Table) (line s o : List ℕ) (m : ℕ) → Triple line s o m → isAccepted (judged t (ruleOf line)) ≡ hasRoom t s o) ⌝ }
 {}
 
 // Any line that is accepted as a rule sets its pair's modes and changes no other pair's answer.

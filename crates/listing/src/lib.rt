@@ -6,7 +6,6 @@ ghost use Rattle.store.specs.Layout.{lent};
 ghost use Rattle.places.specs.Places.{PartFrom};
 ghost use Rattle.listing.specs.Listing.{listAnswer, listOut, labelGiven, labelAnswer, labelFrom};
 
-
 // Rule number k as text.
 pub fn list_rule(labels: &[u8], entries: &[u8], words: &[u64], k: usize, out: &mut [u8]) -> Output
     ensures { λ r. ⌜ r ≡ listAnswer (lent labels entries words) k (now (out .entry)) ⌝ }

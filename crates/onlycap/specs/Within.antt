@@ -8,11 +8,10 @@ use Rattle.search.specs.Search.{first, all, placeOf, countOf, entries}
 use Rattle.search.specs.Bytes.{sameBytes}
 use Rattle.search.specs.declared.Found.{Found}
 use Rattle.alphabet.specs.Alphabet.{wellFormed, lineLimit, fields}
-use Rattle.store.specs.Table.{Table, labelLimit, onlycapLimit}
+use Rattle.store.specs.Table.{Table, labelLimit, onlycapLimit, enter}
 use Rattle.store.specs.Layout.{Store, store, onlycapFrom, tableOf, labelAt, Sizes}
 use Rattle.store.specs.Within.{Counts}
-use Rattle.rules.specs.Rules.{entered}
-use Rattle.onlycap.specs.Onlycap.{join}
+use Rattle.rules.specs.Within.{entered}
 use Rattle.onlycap.specs.declared.Counted.{Counted}
 
 -- ---- how the code goes, field by field
@@ -20,7 +19,7 @@ use Rattle.onlycap.specs.declared.Counted.{Counted}
 -- some labels once the first n of a write's fields have joined them
 unfoldable pub joined : List (List ℕ) → List (List ℕ) → ℕ → List (List ℕ)
 joined ls fs zero = ls
-joined ls fs (suc n) = join (joined ls fs n) (getD fs n [])
+joined ls fs (suc n) = enter (joined ls fs n) (getD fs n [])
 
 -- once all have
 abbrev pub differentJoined : List (List ℕ) → List (List ℕ)

@@ -10,7 +10,7 @@ ghost use Rattle.search.specs.Search.{first, all, placeOf, countOf, entries};
 ghost use Rattle.search.specs.Bytes.{sameBytes};
 ghost use Rattle.alphabet.specs.Alphabet.{wellFormed, fields};
 ghost use Rattle.store.specs.Layout.{store, labelAt, lent, left};
-ghost use Rattle.rules.specs.Rules.{entered};
+ghost use Rattle.rules.specs.Within.{entered};
 ghost use Rattle.onlycap.specs.Onlycap.{loneDash, onlycapAnswer, onlycapStore};
 ghost use Rattle.onlycap.specs.Within.{appearsIn, joined, countWith, listSet, Fits};
 

@@ -1,14 +1,15 @@
 -- 01: the tables as they are spoken of, with no word of how they lie in memory: labels, rules, mappings and the onlycap list (01: the
 -- override list), in order. Assumes nothing.
 use Prim.Native.Nat.{ℕ}
-use mathlib.Core.Bool.{Bool, _&&_}
-use mathlib.Core.List.{List, [], _∷_}
+use mathlib.Core.Bool.{Bool, false, _&&_}
+use mathlib.Core.List.{List, [], _∷_, _++_}
 use lib.ListN.{length, getD}
-use lib.Dec.{eqb, ltb}
+use lib.Dec.{eqb, ltb, leb}
 pub use Rattle.numbers.specs.Categories.{knownSet}
-use Rattle.search.specs.Search.{first, all}
+use Rattle.search.specs.Search.{first, all, placeOf}
 use Rattle.search.specs.Bytes.{sameBytes}
 use Rattle.search.specs.declared.Found.{Found}
+use Rattle.search.specs.declared.Found.the-variants.{At, Nothing}
 use Rattle.store.specs.declared.Rule.{Rule}
 use Rattle.store.specs.declared.Mapping.{Mapping}
 
@@ -74,6 +75,23 @@ onlycapLimit = 8
 -- the number of a label: the first that has its bytes
 abbrev pub labelIn : Table → List ℕ → Found
 labelIn t l = first (sameBytes l) (t .labels)
+
+-- the number that a label has among some that hold it: the first that has its bytes
+abbrev pub numberIn : List (List ℕ) → List ℕ → ℕ
+numberIn ls l = placeOf (first (sameBytes l) ls) 0
+
+-- a label enters: it goes last, where a search has not found it
+abbrev pub labelsEntered : Found → List (List ℕ) → List ℕ → List (List ℕ)
+labelsEntered (At i) ls l = ls
+labelsEntered Nothing ls l = ls ++ (l ∷ [])
+
+abbrev pub enter : List (List ℕ) → List ℕ → List (List ℕ)
+enter ls l = labelsEntered (first (sameBytes l) ls) ls l
+
+-- whether an entry that was sought has no place: it is not among n entries, and there may be no more
+abbrev pub noPlace : Found → ℕ → ℕ → Bool
+noPlace (At i) n limit = false
+noPlace Nothing n limit = leb limit n
 
 -- the rule of a pair of label numbers: the first that names both
 unfoldable pub isPair : ℕ → ℕ → Rule → Bool

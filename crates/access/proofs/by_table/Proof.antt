@@ -9,7 +9,7 @@ use Rattle.search.specs.Bytes.{sameBytes}
 use Rattle.search.specs.declared.Found.the-variants.{At}
 use Rattle.store.specs.Table.{Table, labelIn}
 use Rattle.store.specs.Layout.{store, tableOf, labelAt}
-use Rattle.access.specs.Rules.{ruleBetween, has-modes, modesFound}
+use Rattle.store.specs.Pairs.{ruleBetween, has-modes, modesFound}
 use Rattle.access.proofs.Laws.{place-below, denied-same, between-same, between-below, stored-modes, table-none, table-grants, table-denies}
 use borrow.Author.Needs.{needs}
 use Rattle.access.proofs.by_table.Statement.{statement}

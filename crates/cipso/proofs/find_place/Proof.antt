@@ -6,7 +6,7 @@ use mathlib.Core.Bool.{Bool}
 use lib.ListN.{getD}
 use Rattle.search.specs.Search.{placeOf}
 use Rattle.search.specs.declared.Found.{Found}
-use Rattle.rules.specs.Rules.{noPlace}
+use Rattle.store.specs.Table.{noPlace}
 use Rattle.rules.specs.declared.Numbered.{Numbered}
 use borrow.Author.Needs.{needs}
 use Rattle.cipso.proofs.Laws.{placing-store, labelFound, mappingFound, same-mapping}

@@ -1,4 +1,4 @@
--- `onlycap::count` meets its contract: the fields passed are counted as they would join the list and the table. Assumes nothing.
+-- `onlycap::count` meets its contract: the fields passed are counted as they would enter the list and the table. Assumes nothing.
 use Prim.Native.Nat.{_-_, _≤_}
 use mathlib.Core.Path.{_≡_, sym, _∙_, ap}
 use mathlib.Core.List.{[]}

@@ -10,9 +10,8 @@ use Rattle.search.specs.Search.{first, placeOf, countOf, entries}
 use Rattle.search.specs.Bytes.{sameBytes}
 use Rattle.search.specs.declared.Found.{Found}
 use Rattle.search.proofs.Laws.{count-le, found-place}
-use Rattle.store.specs.Table.{isPair}
+use Rattle.store.specs.Table.{isPair, noPlace}
 use Rattle.store.specs.Layout.{labelAt, ruleAt}
-use Rattle.rules.specs.Rules.{noPlace}
 use Rattle.rules.specs.declared.Numbered.{Numbered}
 use borrow.Author.Needs.{needs}
 use Rattle.rules.proofs.Laws.{placing-store, subjectFound, objectFound, ruleFound, placeBy}

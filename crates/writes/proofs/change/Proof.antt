@@ -4,17 +4,20 @@ use mathlib.Core.Bool.{true}
 use borrow.Author.Tests.{not-true, not-false}
 use mathlib.Core.List.{List}
 use Prim.Native.Nat.{ℕ}
-use Rattle.store.specs.Layout.{store, undamagedOf}
+use Rattle.store.specs.Layout.{store, tableOf, undamagedOf}
 use Rattle.lines.specs.Lines.{change, changeOf}
 use Rattle.lines.specs.Within.{at, changeSaid, ChangeInside}
 use Rattle.lines.specs.declared.ChangeLine.{ChangeLine}
 use Rattle.lines.specs.declared.ChangeLine.the-variants as x
 use Rattle.lines.proofs.Laws.{Taken, change-sound}
 use Rattle.store.specs.Judged.{onState}
-use Rattle.writes.specs.Writes.{changeAnswer, changeStore}
+use Rattle.writes.specs.Writes.{judged, changeAnswer, changeStore}
+use Rattle.writes.specs.Within.{changeAt}
+use Rattle.rules.specs.Within.{placing}
+use Rattle.store.specs.Table.{Table}
 use borrow.Author.Needs.{needs}
 use native.Mathlib.Omega.{arith}
-use Rattle.writes.proofs.Laws.{said-change, inside-change, formed-short, sound-as}
+use Rattle.writes.proofs.Laws.{said-change, inside-change, formed-short, sound-as, table-sound, change-at}
 use Rattle.writes.proofs.change.Statement.{statement}
 use Rattle.writes.proofs.change.Tie as tie
 
@@ -41,6 +44,15 @@ module _ (c : tie.After-known-told2) where
 
   formed : Taken subject object
   formed = sound-as (change-sound (S .args .text .now)) says .0
+
+  abbrev T : Table
+  T = tableOf (store (S .args .labels .now) (S .args .entries .now) (S .args .words .now))
+
+  -- what becomes of it, by the place that was found
+  by-place : undamagedOf (store (S .args .labels .now) (S .args .entries .now) (S .args .words .now)) ≡ true → judged T (changeOf (S .args .text .now)) ≡ changeAt T subject object (c .before .said2 .given .0 .1 .0) (c .before .said2 .given .0 .1 .1 .0) (placing T subject object)
+  by-place u =
+      ap (judged T) says
+      ∙ change-at T (table-sound (store (S .args .labels .now) (S .args .entries .now) (S .args .words .now)) u) subject object formed (c .before .said2 .given .0 .1 .0) (c .before .said2 .given .0 .1 .1 .0)
 
 undamaged-requires : tie.Need-undamaged-requires
 undamaged-requires c κs = search needs
@@ -133,7 +145,7 @@ returns-3 : tie.Need-returns-3
 unfolding changeAnswer changeStore onState
 returns-3 c =
     let u = tested (c .before .before .before .before .before .before .before .before .before .before .before .before .before .before .before .before) in
-    let e = says (c .before .before .before .before .before .before .before .before .before .before .before .before) in
+    let e = by-place (c .before .before .before .before .before .before .before .before .before .before .before .before) u in
     (rw (u, e) (c .before .before .before .before .before .before .place-change .ensures .0), rw (u, e) (c .before .before .before .before .before .before .place-change .ensures .1))
 
 pub change-spec : {M : Type 1} → statement M

@@ -2,7 +2,7 @@
 use mathlib.Core.Path.{_≡_, sym, _∙_}
 use Rattle.store.specs.Layout.{store, tableOf}
 use Rattle.store.proofs.Laws.{undamaged-is}
-use Rattle.rules.specs.Rules.{placing}
+use Rattle.rules.specs.Within.{placing}
 use Rattle.rules.specs.declared.Place.{Place}
 use Rattle.rules.specs.declared.Place.the-variants as p
 use borrow.Author.Needs.{needs}

@@ -4,16 +4,16 @@ use mathlib.Core.List.{List}
 use Prim.Native.Nat.{ℕ}
 use Rattle.store.specs.Table.{Table}
 use Rattle.store.specs.Layout.{store, tableOf}
-use Rattle.rules.specs.Rules.{placing}
+use Rattle.rules.specs.Within.{placing, judgedAt}
 use Rattle.lines.specs.Lines.{rule, ruleOf}
 use Rattle.lines.specs.Within.{at, ruleSaid, RuleInside}
 use Rattle.lines.specs.declared.RuleLine.{RuleLine}
 use Rattle.lines.specs.declared.RuleLine.the-variants as r
 use Rattle.lines.proofs.Laws.{Taken, rule-sound}
-use Rattle.writes.specs.Writes.{lineOutcome, lineStored}
+use Rattle.writes.specs.Writes.{judged, lineOutcome, lineStored}
 use borrow.Author.Needs.{needs}
 use native.Mathlib.Omega.{arith}
-use Rattle.writes.proofs.Laws.{said-rule, inside-rule, formed-short, sound-as, done-accepted, done-refused}
+use Rattle.writes.proofs.Laws.{said-rule, inside-rule, formed-short, sound-as, done-accepted, done-refused, table-sound, rule-at}
 use Rattle.writes.proofs.write_line.Statement.{statement}
 use Rattle.writes.proofs.write_line.Tie as tie
 
@@ -42,6 +42,12 @@ module _ (c : tie.After-known-told2) where
 
   formed : Taken subject object
   formed = sound-as (rule-sound (S .args .line .now)) says .0
+
+  -- what becomes of it, by the place that was found
+  by-place : judged T (ruleOf (S .args .line .now)) ≡ judgedAt T subject object modes (placing T subject object)
+  by-place =
+      ap (judged T) says
+      ∙ rule-at T (table-sound (store (S .args .labels .now) (S .args .entries .now) (S .args .words .now)) (S .pre)) subject object formed modes
 
 rule-line-requires : tie.Need-rule-line-requires
 rule-line-requires c κs = search needs
@@ -121,7 +127,7 @@ returns-3 : tie.Need-returns-3
 unfolding lineOutcome lineStored
 returns-3 c =
     let k = c .before .before .before .before .before .before .before .before .before .before .before .before .before .before in
-    let e = says k in
+    let e = by-place k in
     let q = sym (c .before .before .before .before .before .before .before .before .place-rule .ensures .0) ∙ c .enum-told2 .given .1 in
     (rw e (done-accepted (T k) (subject k) (object k) (modes k) (placing (T k) (subject k) (object k)) q), rw e (c .before .before .before .before .before .before .before .before .place-rule .ensures .1))
 
@@ -138,7 +144,7 @@ returns-4 : tie.Need-returns-4
 unfolding lineOutcome lineStored
 returns-4 c =
     let k = c .before .before .before .before .before .before .before .before .before .before .before .before .before .before .before in
-    let e = says k in
+    let e = by-place k in
     let q = sym (c .before .before .before .before .before .before .before .before .before .place-rule .ensures .0) ∙ c .before .done .given .1 in
     (rw e (done-refused (T k) (subject k) (object k) (modes k) (placing (T k) (subject k) (object k)) q), rw e (c .before .before .before .before .before .before .before .before .before .place-rule .ensures .1))
 
