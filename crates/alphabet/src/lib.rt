@@ -7,8 +7,6 @@ ghost use Rattle.alphabet.specs.Alphabet.{classOf, ByteClasses, faultOf}
 ghost use Rattle.alphabet.specs.Within.{classTable, run, fieldAt};
 
 // The bytes that have a part of their own.
-pub const TAB: u8 = b'\t';
-
 pub const NEWLINE: u8 = b'\n';
 
 pub const SPACE: u8 = b' ';

@@ -14,7 +14,7 @@ use Rattle.search.specs.Bytes.{sameBytes}
 use Rattle.search.specs.declared.Found.{Found}
 use Rattle.search.specs.declared.Found.the-variants.{At, Nothing}
 use Rattle.search.proofs.Laws.{no, and-both, same-equal, not-so, all-at, all-by, first-is, front-first, map-at, map-same, map-snoc, distinct-fits}
-use Rattle.alphabet.specs.Alphabet.{wellFormed}
+use Rattle.alphabet.specs.Alphabet.{newline, isNewline, wellFormed}
 use Rattle.modes.specs.Modes.{modesText}
 use Rattle.store.specs.declared.Rule.{Rule}
 use Rattle.store.specs.Table.{Table, fresh, labelIn, enter, isPair, pairIn, soundRule, labelNumbered, ruleNumbered}
@@ -47,18 +47,18 @@ unfolding takeByte all
 keeps p [] e = ap (λ (k : List ℕ). record { table = p .table; kept = k; totals = p .totals }) (sym (append-nil (p .kept)))
 keeps p (b ∷ bs) e =
     let h = and-both (noNewline b) (all noNewline bs) e in
-    let z : eqb b 10 ≡ false = not-true (eqb b 10) (h .0) in
+    let z : isNewline b ≡ false = not-true (isNewline b) (h .0) in
     rw z (keeps (keeping p (b ∷ [])) bs (h .1) ∙ ap (λ (k : List ℕ). record { table = p .table; kept = k; totals = p .totals }) (append-assoc (p .kept) (b ∷ []) bs))
 
 -- the reader between lines, once n have been accepted and no other has come
 abbrev between : Table → ℕ → Reader
 between u n = record { table = u; kept = []; totals = allAccepted n }
 
-accepts : (u u′ : Table) (line : List ℕ) (n : ℕ) → all noNewline line ≡ true → judged u (ruleOf line) ≡ is-accepted u′ → takePiece (between u n) (line ++ (10 ∷ [])) ≡ between u′ (n + 1)
+accepts : (u u′ : Table) (line : List ℕ) (n : ℕ) → all noNewline line ≡ true → judged u (ruleOf line) ≡ is-accepted u′ → takePiece (between u n) (line ++ (newline ∷ [])) ≡ between u′ (n + 1)
 unfolding takeByte endLine
 accepts u u′ line n plain e =
-    foldl-append takeByte (between u n) line (10 ∷ [])
-    ∙ ap (λ (p : Reader). takePiece p (10 ∷ [])) (keeps (between u n) line plain)
+    foldl-append takeByte (between u n) line (newline ∷ [])
+    ∙ ap (λ (p : Reader). takePiece p (newline ∷ [])) (keeps (between u n) line plain)
     ∙ rw e
 
 -- ---- one rule more

@@ -1,22 +1,22 @@
 -- Laws of the definitions of specs/: decimal numbers, and sets of categories as bits. Assumes nothing.
 use mathlib.Core.Path.{_≡_, refl, sym, ap, _∙_}
-use mathlib.Core.Bool.{Bool, true, false, cond, _&&_, _||_, and-false}
+use mathlib.Core.Bool.{Bool, true, false, cond, _||_, and-false}
 use mathlib.Core.List.{List, [], _∷_, _++_, foldl}
 use Prim.Native.Nat.{ℕ, zero, suc, _+_, _-_, _*_, _/_, _%_, _^_, _<_, _≤_, max}
-use native.Mathlib.Nat.{add-zero, zero-add, pow-suc, pow-le-pow-right, mod-lt, mul-mod-left, mod-eq-of-lt, one-mul, mul-div-cancel, div-self, div-eq-of-lt}
+use native.Mathlib.Nat.{pow-suc, pow-le-pow-right, mod-lt, mul-mod-left, mod-eq-of-lt, one-mul, mul-div-cancel, div-self, div-eq-of-lt}
 use native.Mathlib.Numerals.{add-one}
 use native.Mathlib.Omega.{arith}
 use lib.Dec.{eqb, leb, ltb}
-use lib.Bits.{bitOr, or-step, or-shr, or-lt}
+use lib.Bits.{bitOr, or-step, or-shr}
 use lib.Pow.{pow-pos, pow-lt, pow-add, shr-shr}
 use lib.Count.{ones, ones-step}
-use borrow.Author.Tests.{eqb-true, eqb-false, ltb-true, ltb-false, leb-true, le-leb, lt-leb}
+use borrow.Author.Tests.{eqb-true, eqb-false, eq-eqb, ltb-true, ltb-false, leb-true, le-leb, lt-leb}
 use lib.ListN.{length, drop, getD, length-append}
 use lib.Seq.{drop-cons}
 use Rattle.search.specs.Search.{all, those, entries}
 use Rattle.search.proofs.Laws.{no, and-both}
 use Rattle.numbers.specs.Numbers.{isDigit, oneMore, numberOf}
-use Rattle.numbers.specs.Categories.{categoryBit, hasCategory, categories, withCategory}
+use Rattle.numbers.specs.Categories.{isCategory, categoryBit, hasCategory, categories, withCategory, CategorySets}
 use Rattle.numbers.specs.Within.{Category}
 use Rattle.numbers.specs.declared.Number.{Number}
 use Rattle.numbers.specs.declared.Number.the-variants.{Value, Bad}
@@ -61,41 +61,6 @@ one-more-lt v b i h k w e = rw (e, add-one i, pow-suc 10 i) (omega arith)
 
 pub three-digits : (v i : ℕ) → i ≤ 3 → v < 10 ^ i → v ≤ 999
 three-digits v i h k = let p : 10 ^ i ≤ 10 ^ 3 = pow-le-pow-right (omega arith) h in omega arith
-
-digits-lt : (field : List ℕ) (v i : ℕ) → all isDigit field ≡ true → v < 10 ^ i → foldl oneMore v field < 10 ^ (i + length field)
-unfolding all
-digits-lt [] v i e h = rw (add-zero i) h
-digits-lt (b ∷ bs) v i e h =
-    let p = and-both (isDigit b) (all isDigit bs) e in
-    let d : b ≤ 57 = leb-true b 57 (and-both (leb 48 b) (leb b 57) (p .0) .1) in
-    let ih = digits-lt bs (oneMore v b) (i + 1) (p .1) (one-more-lt v b i h d (oneMore v b) refl) in
-    let z : i + 1 + length bs ≡ i + suc (length bs) = omega arith in
-    rw z at ih
-
-pub value-small : (field : List ℕ) (v : ℕ) → numberOf field ≡ Value v → v ≤ 999
-unfolding numberOf
-value-small field v e = by-test (leb 1 (length field) && leb (length field) 3 && all isDigit field) refl e
-  where
-    by-test : (t : Bool) → (leb 1 (length field) && leb (length field) 3 && all isDigit field) ≡ t → cond t (Value (foldl oneMore 0 field)) Bad ≡ Value v → v ≤ 999
-    by-test true p q =
-        let h₁ = and-both (leb 1 (length field) && leb (length field) 3) (all isDigit field) p in
-        let h₂ = leb-true (length field) 3 (and-both (leb 1 (length field)) (leb (length field) 3) (h₁ .0) .1) in
-        let z : v ≡ foldl oneMore 0 field = cc in
-        rw z (three-digits (foldl oneMore 0 field) (length field) h₂ (rw (zero-add (length field)) at (digits-lt field 0 0 (h₁ .1) (omega arith))))
-    by-test false p q = let z : _≡_ {A = ℕ} 0 1 = cc in absurd (omega arith)
-
--- leading zeros are allowed; a fourth digit and a sign are not
-pub leading-zeros : numberOf (48 ∷ 48 ∷ 55 ∷ []) ≡ Value 7
-unfolding numberOf all
-leading-zeros = refl
-
-pub fourth-digit : numberOf (48 ∷ 48 ∷ 48 ∷ 49 ∷ []) ≡ Bad
-unfolding numberOf all
-fourth-digit = refl
-
-pub signed : numberOf (43 ∷ 49 ∷ []) ≡ Bad
-unfolding numberOf all
-signed = refl
 
 -- ---- the bit of a category
 
@@ -174,10 +139,6 @@ with-low set n hn =
     let z = category-even n hn in
     omega arith
 
-pub with-lt : (set n : ℕ) → set < 2 ^ 64 → Category n → withCategory set n < 2 ^ 64
-unfolding withCategory
-with-lt set n h hn = or-lt 64 set (categoryBit n) h (category-lt n hn)
-
 -- ---- how many categories a set has
 
 those-append : (p : ℕ → Bool) (ns ms : List ℕ) → those p (ns ++ ms) ≡ those p ns ++ those p ms
@@ -243,14 +204,22 @@ module _ (a b : ℕ) (ha : a < 2 ^ 64) (hb : b < 2 ^ 64) (same : (k : ℕ) → C
       let e : x ≡ y = omega arith in
       rw (← add-one m) e
 
-  pub same-set : a % 2 ≡ b % 2 → a ≡ b
+  same-set : a % 2 ≡ b % 2 → a ≡ b
   same-set low = let top = same-top 63 (omega arith) in omega arith
 
-pub no-categories : categories 0 ≡ []
-unfolding categories entries
-no-categories = refl
+-- ---- a set is told by its categories
 
--- 01, P12: the categories 1 and 63
-pub first-and-last : categories (withCategory (withCategory 0 1) 63) ≡ 1 ∷ 63 ∷ []
-unfolding categories withCategory entries
-first-and-last = refl
+is-category : (n : ℕ) → isCategory n ≡ true → Category n
+is-category n e = let h = and-both (leb 1 n) (leb n 63) e in (leb-true 1 n (h .0), leb-true n 63 (h .1))
+
+category-is : (n : ℕ) → Category n → isCategory n ≡ true
+category-is n h = rw (le-leb 1 n (h .0), le-leb n 63 (h .1))
+
+pub category-sets : CategorySets
+category-sets =
+    record {
+      none = λ k h. rw (div-eq-of-lt (pow-pos (64 - k)));
+      one-more = λ set n k hn hk. has-with set n k (is-category n hn) (is-category k hk);
+      still-known = λ set n hn. ap (λ (x : ℕ). eqb x 0) (with-low set n (is-category n hn));
+      same = λ a b ha hb ka kb h. eq-eqb a b (same-set a b ha hb (λ k i. h k (category-is k i)) (eqb-true _ _ ka ∙ sym (eqb-true _ _ kb)));
+    }

@@ -1,7 +1,8 @@
 -- 01: levels are 0 to 255, and categories sit as bits of a u64. Category n, from 1 to 63, is the bit 2 ^ (64 - n): category 1 the top one; bit 0 is no
 -- category. All that is said of a set of categories stands here. Assumes nothing.
-use Prim.Native.Nat.{ℕ, _+_, _-_, _/_, _%_, _^_}
-use mathlib.Core.Bool.{Bool, _&&_}
+use Prim.Native.Nat.{ℕ, _+_, _-_, _/_, _%_, _^_, _<_}
+use mathlib.Core.Path.{_≡_}
+use mathlib.Core.Bool.{Bool, true, false, _&&_, _||_}
 use mathlib.Core.List.{List}
 use lib.Dec.{eqb, leb}
 use lib.Bits.{bitOr}
@@ -47,3 +48,21 @@ sameSet a b = eqb a b
 -- a set has no other bit than those of categories: bit 0 is none
 abbrev pub knownSet : ℕ → Bool
 knownSet set = eqb (set % 2) 0
+
+-- ---- what these say of each other: a set is told by its categories
+
+pub record CategorySets : Type 0 where
+  -- the set of no category has none
+  pub none : (k : ℕ) → isCategory k ≡ true → hasCategory noCategories k ≡ false
+  -- with one category more, a set has that one and those that it had, and no bit that is none
+  pub one-more : (set n k : ℕ) → isCategory n ≡ true → isCategory k ≡ true → hasCategory (withCategory set n) k ≡ (hasCategory set k || eqb k n)
+  pub still-known : (set n : ℕ) → isCategory n ≡ true → knownSet (withCategory set n) ≡ knownSet set
+  -- two sets that have the same categories, and no other bit, are equal
+  pub same :
+      (a b : ℕ) →
+      a < 2 ^ 64 →
+      b < 2 ^ 64 →
+      knownSet a ≡ true →
+      knownSet b ≡ true →
+      ((k : ℕ) → isCategory k ≡ true → hasCategory a k ≡ hasCategory b k) →
+      sameSet a b ≡ true

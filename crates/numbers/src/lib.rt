@@ -3,7 +3,7 @@ ghost use mathlib.Core.Path.{_≡_};
 ghost use Prim.Native.Nat.{_+_, _%_};
 ghost use lib.ListN.{length};
 ghost use Rattle.numbers.specs.Numbers.{numberOf};
-ghost use Rattle.numbers.specs.Categories.{categoryBit, categories, withCategory};
+ghost use Rattle.numbers.specs.Categories.{categoryBit, categories, withCategory, CategorySets};
 ghost use Rattle.numbers.specs.Within.{Category};
 
 // Level 0 to 255, category 1 to 63.
@@ -49,6 +49,11 @@ pub fn read_number(field: &[u8]) -> Number
     }
     Number::Value(value)
 }
+
+// The claim that a set is told by its categories: what one category more changes, and that two sets with the same categories are equal.
+pub fn category_sets()
+    ensures { λ _. ⌜ CategorySets ⌝ }
+{}
 
 // The bit of a category, never bit 0. Who calls it has made sure that it is one of the 63: a mapping's categories are checked as they are read.
 fn category_bit(n: u64) -> u64

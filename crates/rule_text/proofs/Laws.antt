@@ -9,7 +9,7 @@ use lib.ListN.{length, getD, set, length-append}
 use Rattle.search.specs.Search.{all, those}
 use Rattle.search.specs.Bytes.{written}
 use Rattle.search.proofs.Laws.{and-both, all-append, all-by}
-use Rattle.alphabet.specs.Alphabet.{space, newline, isNewline, isBlank, labelByte, wellFormed, lineLimit, onto, parts, hasByte, fields}
+use Rattle.alphabet.specs.Alphabet.{space, newline, isNewline, isBlank, wellFormed, lineLimit, onto, parts, hasByte, fields}
 use Rattle.alphabet.proofs.Laws.{label-unblank, label-no-newline, formed-is}
 use Rattle.modes.specs.Modes.{modesText}
 use Rattle.modes.proofs.Laws.{text-read, text-some, text-long, text-byte}

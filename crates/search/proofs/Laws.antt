@@ -1,16 +1,16 @@
 -- Laws of the definitions of specs/. Assumes nothing.
-use mathlib.Core.Path.{_≡_, refl, sym, ap, _∙_, subst}
+use mathlib.Core.Path.{_≡_, refl, sym, ap, _∙_}
 use mathlib.Core.Bool.{Bool, true, false, cond, not, _&&_, _||_, and-false, and-true}
 use mathlib.Core.List.{List, [], _∷_, _++_, append-assoc, append-nil, map}
 use mathlib.Core.Logic.{_↔_, _⊎_, inl, inr, ⊎-elim}
-use Prim.Native.Nat.{ℕ, zero, suc, _+_, _*_, _-_, _<_, _≤_, suc-le-suc}
+use Prim.Native.Nat.{ℕ, zero, suc, _+_, _<_, _≤_, suc-le-suc}
 use native.Mathlib.Nat.{le-of-suc-le-suc, eq-or-lt-of-le}
 use native.Mathlib.Numerals.{add-one}
 use native.Mathlib.Omega.{arith}
 use lib.Dec.{eqb}
 use borrow.Author.Tests.{eqb-true, eqb-false, eq-eqb, ne-eqb}
 use lib.ListN.{length, take, drop, getD, set, length-append, length-take, length-drop, length-set, length-map, List·getD-append}
-use lib.Seq.{drop-cons, drop-drop, drop-append-add, take-at, take-suc, set-split, getD-at, getD-append-add, getD-set-same, getD-set-other, ext-getD, getD-take, length-take-le}
+use lib.Seq.{drop-cons, drop-drop, drop-append-add, take-at, set-split, getD-at, getD-set-same, getD-set-other, ext-getD, length-take-le}
 use Rattle.search.specs.Search.{first, all, put, placeOf, countOf, entries, later}
 use Rattle.search.specs.Bytes.{sameBytes, written}
 use Rattle.search.specs.declared.Found.{Found}
@@ -134,10 +134,6 @@ unfolding written
 written-one d at x h = rw (set-split d at x h, add-one)
 
 -- ---- every entry passes a test
-
-pub all-turn : {A : Type 0} (p : A → Bool) (d : A) (l : List A) (i : ℕ) → i < length l → all p (drop i l) ≡ (p (getD l i d) && all p (drop (i + 1) l))
-unfolding all
-all-turn p d l i h = rw (add-one, drop-cons l i d h)
 
 pub all-snoc : {A : Type 0} (p : A → Bool) (l : List A) (x : A) → all p (l ++ (x ∷ [])) ≡ (all p l && p x)
 unfolding all

@@ -1,7 +1,7 @@
 -- The first entry of a list that passes a test, and a list with an entry put where a search says. The searches for a label, a pair and a
 -- mapping, "the first counts" of 01, and "in its place, or last" are stated by these. Assumes nothing.
 use Prim.Native.Nat.{ℕ, zero, suc, _+_}
-use mathlib.Core.Bool.{Bool, true, false, cond, _&&_}
+use mathlib.Core.Bool.{Bool, true, cond, _&&_}
 use mathlib.Core.List.{List, [], _∷_, _++_}
 use lib.ListN.{set}
 use Rattle.search.specs.declared.Found.{Found}

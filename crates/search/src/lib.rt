@@ -1,8 +1,7 @@
 // What every table of the library shares: what a search answers, byte strings compared and copied, and a run of numbers held to a limit.
 // Nothing here knows what a label or a rule is.
 ghost use mathlib.Core.Path.{_≡_};
-ghost use Prim.Native.Nat.{_+_, _<_, _≤_};
-ghost use mathlib.Core.Bool.{_&&_};
+ghost use Prim.Native.Nat.{_+_, _≤_};
 ghost use lib.Dec.{ltb};
 ghost use lib.ListN.{length, take};
 ghost use Rattle.search.specs.Search.{all};
