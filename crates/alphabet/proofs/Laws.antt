@@ -14,7 +14,7 @@ use Rattle.search.specs.Search.{first, all, those, later}
 use Rattle.search.specs.declared.Found.{Found}
 use Rattle.search.specs.declared.Found.the-variants.{At, Nothing}
 use Rattle.search.proofs.Laws.{no, and-both, eqb-is, or-is, not-is, number-is, all-at, first-at, first-none, entries-length, entries-at}
-use Rattle.alphabet.specs.Alphabet.{isNewline, isBlank, labelByte, classOf, LabelByte, Blank, ByteClass, ByteClasses, wellFormed, orTooLong, faultOf, onto, parts, hasByte, fields}
+use Rattle.alphabet.specs.Alphabet.{isNewline, isBlank, labelByte, classBy, classOf, LabelByte, Blank, ByteClass, ByteClasses, wellFormed, orTooLong, faultOf, onto, parts, hasByte, fields}
 use Rattle.alphabet.specs.Within.{classTable, run, startOf, endOf, fieldAt, part}
 use Rattle.alphabet.specs.declared.Field.{Field}
 use Rattle.alphabet.specs.declared.Field.the-variants.{Part, End}
@@ -58,7 +58,7 @@ pub class-label : (b : ℕ) → eqb (classOf b) 0 ≡ labelByte b
 unfolding classOf
 class-label b = by-test (labelByte b) (isBlank b) (isNewline b)
   where
-    by-test : (l k n : Bool) → eqb (cond l 0 (cond k 1 (cond n 2 3))) 0 ≡ l
+    by-test : (l k n : Bool) → eqb (classBy l k n) 0 ≡ l
     by-test true k n = refl
     by-test false true n = refl
     by-test false false true = refl
@@ -68,7 +68,7 @@ pub class-blank : (b : ℕ) → eqb (classOf b) 1 ≡ isBlank b
 unfolding classOf
 class-blank b = by-test (labelByte b) (isBlank b) (isNewline b) (label-unblank b)
   where
-    by-test : (l k n : Bool) → (l ≡ true → k ≡ false) → eqb (cond l 0 (cond k 1 (cond n 2 3))) 1 ≡ k
+    by-test : (l k n : Bool) → (l ≡ true → k ≡ false) → eqb (classBy l k n) 1 ≡ k
     by-test true k n h = sym (h refl)
     by-test false true n h = refl
     by-test false false true h = refl
@@ -86,7 +86,7 @@ class-newline : (b : ℕ) → eqb (classOf b) 2 ≡ isNewline b
 unfolding classOf
 class-newline b = by-test (labelByte b) (isBlank b) (isNewline b) (label-no-newline b) (blank-no-newline b)
   where
-    by-test : (l k n : Bool) → (l ≡ true → n ≡ false) → (k ≡ true → n ≡ false) → eqb (cond l 0 (cond k 1 (cond n 2 3))) 2 ≡ n
+    by-test : (l k n : Bool) → (l ≡ true → n ≡ false) → (k ≡ true → n ≡ false) → eqb (classBy l k n) 2 ≡ n
     by-test true k n h i = sym (h refl)
     by-test false true n h i = sym (i refl)
     by-test false false true h i = refl
@@ -96,7 +96,7 @@ class-other : (b : ℕ) → eqb (classOf b) 3 ≡ not (labelByte b || (isBlank b
 unfolding classOf
 class-other b = by-test (labelByte b) (isBlank b) (isNewline b)
   where
-    by-test : (l k n : Bool) → eqb (cond l 0 (cond k 1 (cond n 2 3))) 3 ≡ not (l || (k || n))
+    by-test : (l k n : Bool) → eqb (classBy l k n) 3 ≡ not (l || (k || n))
     by-test true k n = refl
     by-test false true n = refl
     by-test false false true = refl

@@ -39,10 +39,16 @@ isBlank b = eqb b space || eqb b tab
 unfoldable pub labelByte : ℕ → Bool
 labelByte b = leb 33 b && (leb b 126 && not (eqb b 47 || (eqb b 92 || (eqb b 39 || eqb b 34))))
 
--- the class of a byte: label byte 0, blank 1, newline 2, other 3
+-- the class of a byte, by whether it is a label byte, a blank, a newline: label byte 0, blank 1, newline 2, other 3
+abbrev pub classBy : Bool → Bool → Bool → ℕ
+classBy true blank ends = 0
+classBy false true ends = 1
+classBy false false true = 2
+classBy false false false = 3
+
 unfoldable pub classOf : ℕ → ℕ
 unfolding isBlank labelByte
-classOf b = cond (labelByte b) 0 (cond (isBlank b) 1 (cond (isNewline b) 2 3))
+classOf b = classBy (labelByte b) (isBlank b) (isNewline b)
 
 -- What 01 says of a byte and its class, without the tests above: 0 exactly where the byte is 33 to 126 and none of / \ ' ", 1 exactly where it is
 -- space or tab, 2 exactly where it is newline, 3 exactly where it is none of these.

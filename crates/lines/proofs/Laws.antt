@@ -25,89 +25,6 @@ use Rattle.lines.specs.declared.ChangeLine.the-variants as changed
 pub inside : {line : List ℕ} {from start end : ℕ} → FieldFrom line from start end → SpanInside line (span start end)
 inside w = record { starts = w .starts; ends = w .ends }
 
--- ---- what is said
-
--- labels that were taken: both well formed, and not the same
-pub record Taken (s o : List ℕ) : Type 0 where
-  pub subject : wellFormed s ≡ true
-  pub object : wellFormed o ≡ true
-  pub apart : sameBytes s o ≡ false
-
--- what is said names such labels alone, and modes below 64
-abbrev pub Sound : Said → Type 0
-Sound skipped = Unit {0}
-Sound (refused n) = Unit {0}
-Sound (rule s o m) = Taken s o × (m < 64)
-Sound (change s o a d) = Taken s o × (a < 64) × (d < 64)
-
--- said of two labels: refused, or taken with what holds of the modes
-module _ (s o : List ℕ) (said : Said) where
-  taken-or : (Taken s o → Sound said) → wellFormed s ≡ true → wellFormed o ≡ true → Sound (cond (sameBytes s o) (refused 5) said)
-  taken-or h e i = by-test (sameBytes s o) refl
-    where
-      by-test : (t : Bool) → sameBytes s o ≡ t → Sound (cond t (refused 5) said)
-      by-test true z = tt
-      by-test false z = h (record { subject = e; object = i; apart = z })
-
-  formed-or : (wellFormed s ≡ true → wellFormed o ≡ true → Sound said) → Sound (cond (wellFormed s && wellFormed o) said (refused 3))
-  formed-or h = by-test (wellFormed s) refl (wellFormed o) refl
-    where
-      by-test : (p : Bool) → wellFormed s ≡ p → (q : Bool) → wellFormed o ≡ q → Sound (cond (p && q) said (refused 3))
-      by-test true e true i = h e i
-      by-test true e false i = tt
-      by-test false e q i = tt
-
-limit-or : (n : ℕ) (said : Said) → Sound said → Sound (cond (ltb lineLimit n) (refused 1) said)
-limit-or n said h = by-test (ltb lineLimit n)
-  where
-    by-test : (t : Bool) → Sound (cond t (refused 1) said)
-    by-test true = tt
-    by-test false = h
-
-rule-fields-sound : (fs : List (List ℕ)) → Sound (ruleFields fs)
-unfolding ruleBy
-rule-fields-sound [] = tt
-rule-fields-sound (s ∷ []) = tt
-rule-fields-sound (s ∷ o ∷ []) = tt
-rule-fields-sound (s ∷ o ∷ a ∷ []) =
-    formed-or s o (ruleWith s o (readModes ruleLetters true a)) (by-access (readModes ruleLetters true a) (modes-small ruleLetters true a))
-  where
-    by-access : (x : Access) → ((m : ℕ) → x ≡ Modes m → m < 64) → wellFormed s ≡ true → wellFormed o ≡ true → Sound (ruleWith s o x)
-    by-access (Modes m) h e i = taken-or s o (rule s o m) (λ t. (t, h m refl)) e i
-    by-access Bad h e i = tt
-rule-fields-sound (s ∷ o ∷ a ∷ x ∷ more) = tt
-
-pub rule-sound : (line : List ℕ) → Sound (ruleOf line)
-unfolding ruleOf
-rule-sound line = limit-or (length line) (ruleFields (fields line)) (rule-fields-sound (fields line))
-
-change-fields-sound : (fs : List (List ℕ)) → Sound (changeFields fs)
-unfolding changeBy
-change-fields-sound [] = tt
-change-fields-sound (s ∷ []) = tt
-change-fields-sound (s ∷ o ∷ []) = tt
-change-fields-sound (s ∷ o ∷ a ∷ []) = tt
-change-fields-sound (s ∷ o ∷ a ∷ d ∷ []) =
-    formed-or s o (changeWith s o (readModes changeLetters true a) (readModes changeLetters true d))
-    (by-access (readModes changeLetters true a) (modes-small changeLetters true a) (readModes changeLetters true d) (modes-small changeLetters true d))
-  where
-    by-access :
-        (x : Access) →
-        ((m : ℕ) → x ≡ Modes m → m < 64) →
-        (y : Access) →
-        ((n : ℕ) → y ≡ Modes n → n < 64) →
-        wellFormed s ≡ true →
-        wellFormed o ≡ true →
-        Sound (changeWith s o x y)
-    by-access (Modes m) h (Modes n) k e i = taken-or s o (change s o m n) (λ t. (t, h m refl, k n refl)) e i
-    by-access (Modes m) h Bad k e i = tt
-    by-access Bad h y k e i = tt
-change-fields-sound (s ∷ o ∷ a ∷ d ∷ x ∷ more) = tt
-
-pub change-sound : (line : List ℕ) → Sound (changeOf line)
-unfolding changeOf
-change-sound line = limit-or (length line) (changeFields (fields line)) (change-fields-sound (fields line))
-
 -- ---- what both kinds of line share: an answer x is right of what is to be said, and a refusal is right where its number is said
 
 module _ {A : Type 0} (refuse : ℕ → A) (Right : A → Said → Type 0) (refuses : (n : ℕ) → Right (refuse n) (refused n)) (line : List ℕ) (p : Pair) (x : A) (y : Said) (right : Right x y) where
@@ -176,10 +93,6 @@ module _ (line : List ℕ) where
   unfolding ruleLineAt ruleOf
   rule-right = line-right ruleKind (RightRule line) rule-refuses line ruleFields (refl, tt) (λ s. rule-refuses 2) rule-two-labels
 
-  -- an answer that names labels names such as are taken
-  pub rule-told : (x : RuleLine) → x ≡ ruleLineAt line → Sound (ruleSaid line x)
-  rule-told x e = rw (e, rule-right .0) (rule-sound line)
-
   -- the answer meets its contract
   pub rule-meets : (x : RuleLine) → lineAt ruleKind line ≡ x → (x ≡ ruleLineAt line) × RightRule line x (ruleOf line)
   unfolding ruleLineAt
@@ -228,10 +141,97 @@ module _ (line : List ℕ) where
   unfolding changeLineAt changeOf
   change-right = line-right changeKind (RightChange line) change-refuses line changeFields (refl, tt) (λ s. change-refuses 2) change-two-labels
 
-  pub change-told : (x : ChangeLine) → x ≡ changeLineAt line → Sound (changeSaid line x)
-  change-told x e = rw (e, change-right .0) (change-sound line)
-
   -- the answer meets its contract
   pub change-meets : (x : ChangeLine) → lineAt changeKind line ≡ x → (x ≡ changeLineAt line) × RightChange line x (changeOf line)
   unfolding changeLineAt
   change-meets x e = rw (← e) (refl, change-right)
+
+-- ---- what is said
+
+-- labels that were taken: both well formed, and not the same
+pub record Taken (s o : List ℕ) : Type 0 where
+  pub subject : wellFormed s ≡ true
+  pub object : wellFormed o ≡ true
+  pub apart : sameBytes s o ≡ false
+
+-- what is said names such labels alone, and modes below 64
+abbrev pub Sound : Said → Type 0
+Sound skipped = Unit {0}
+Sound (refused n) = Unit {0}
+Sound (rule s o m) = Taken s o × (m < 64)
+Sound (change s o a d) = Taken s o × (a < 64) × (d < 64)
+
+-- said of two labels: refused, or taken with what holds of the modes
+module _ (s o : List ℕ) (said : Said) where
+  taken-or : (Taken s o → Sound said) → wellFormed s ≡ true → wellFormed o ≡ true → Sound (cond (sameBytes s o) (refused 5) said)
+  taken-or h e i = by-test (sameBytes s o) refl
+    where
+      by-test : (t : Bool) → sameBytes s o ≡ t → Sound (cond t (refused 5) said)
+      by-test true z = tt
+      by-test false z = h (record { subject = e; object = i; apart = z })
+
+  formed-or : (wellFormed s ≡ true → wellFormed o ≡ true → Sound said) → Sound (cond (wellFormed s && wellFormed o) said (refused 3))
+  formed-or h = by-test (wellFormed s) refl (wellFormed o) refl
+    where
+      by-test : (p : Bool) → wellFormed s ≡ p → (q : Bool) → wellFormed o ≡ q → Sound (cond (p && q) said (refused 3))
+      by-test true e true i = h e i
+      by-test true e false i = tt
+      by-test false e q i = tt
+
+limit-or : (limit n : ℕ) (said : Said) → Sound said → Sound (cond (ltb limit n) (refused 1) said)
+limit-or limit n said h = by-test (ltb limit n)
+  where
+    by-test : (t : Bool) → Sound (cond t (refused 1) said)
+    by-test true = tt
+    by-test false = h
+
+rule-fields-sound : (fs : List (List ℕ)) → Sound (ruleFields fs)
+unfolding ruleBy
+rule-fields-sound [] = tt
+rule-fields-sound (s ∷ []) = tt
+rule-fields-sound (s ∷ o ∷ []) = tt
+rule-fields-sound (s ∷ o ∷ a ∷ []) =
+    formed-or s o (ruleWith s o (readModes ruleLetters true a)) (by-access (readModes ruleLetters true a) (modes-small ruleLetters true a))
+  where
+    by-access : (x : Access) → ((m : ℕ) → x ≡ Modes m → m < 64) → wellFormed s ≡ true → wellFormed o ≡ true → Sound (ruleWith s o x)
+    by-access (Modes m) h e i = taken-or s o (rule s o m) (λ t. (t, h m refl)) e i
+    by-access Bad h e i = tt
+rule-fields-sound (s ∷ o ∷ a ∷ x ∷ more) = tt
+
+pub rule-sound : (line : List ℕ) → Sound (ruleOf line)
+unfolding ruleOf
+rule-sound line = limit-or _ (length line) (ruleFields (fields line)) (rule-fields-sound (fields line))
+
+change-fields-sound : (fs : List (List ℕ)) → Sound (changeFields fs)
+unfolding changeBy
+change-fields-sound [] = tt
+change-fields-sound (s ∷ []) = tt
+change-fields-sound (s ∷ o ∷ []) = tt
+change-fields-sound (s ∷ o ∷ a ∷ []) = tt
+change-fields-sound (s ∷ o ∷ a ∷ d ∷ []) =
+    formed-or s o (changeWith s o (readModes changeLetters true a) (readModes changeLetters true d))
+    (by-access (readModes changeLetters true a) (modes-small changeLetters true a) (readModes changeLetters true d) (modes-small changeLetters true d))
+  where
+    by-access :
+        (x : Access) →
+        ((m : ℕ) → x ≡ Modes m → m < 64) →
+        (y : Access) →
+        ((n : ℕ) → y ≡ Modes n → n < 64) →
+        wellFormed s ≡ true →
+        wellFormed o ≡ true →
+        Sound (changeWith s o x y)
+    by-access (Modes m) h (Modes n) k e i = taken-or s o (change s o m n) (λ t. (t, h m refl, k n refl)) e i
+    by-access (Modes m) h Bad k e i = tt
+    by-access Bad h y k e i = tt
+change-fields-sound (s ∷ o ∷ a ∷ d ∷ x ∷ more) = tt
+
+pub change-sound : (line : List ℕ) → Sound (changeOf line)
+unfolding changeOf
+change-sound line = limit-or _ (length line) (changeFields (fields line)) (change-fields-sound (fields line))
+
+-- an answer that names labels names such as are taken
+pub rule-told : (line : List ℕ) (x : RuleLine) → x ≡ ruleLineAt line → Sound (ruleSaid line x)
+rule-told line x e = rw (e, rule-right line .0) (rule-sound line)
+
+pub change-told : (line : List ℕ) (x : ChangeLine) → x ≡ changeLineAt line → Sound (changeSaid line x)
+change-told line x e = rw (e, change-right line .0) (change-sound line)

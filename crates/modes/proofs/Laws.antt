@@ -1,7 +1,7 @@
 -- Laws of the definitions of specs/Modes.antt: the table of letters, a field read from some byte on, and modes as text. Assumes nothing.
 use mathlib.Core.Path.{_≡_, refl, sym, ap, _∙_}
 use mathlib.Core.Bool.{Bool, true, false, cond, not, _&&_, _||_, Bool·beq, or-true, and-false}
-use mathlib.Core.Logic.{_↔_}
+use mathlib.Core.Logic.{_↔_, _⊎_}
 use mathlib.Core.List.{List, [], _∷_, foldl, append-assoc}
 use Prim.Native.Nat.{ℕ, zero, suc, _+_, _-_, _<_, _≤_}
 use native.Mathlib.Numerals.{add-one}
@@ -100,15 +100,23 @@ bit-is : (k s c : ℕ) → all (bitTest k s c) (entries (λ (j : ℕ). j) 256) �
 unfolding bitTest
 bit-is k s c e b h = number-is (bitOf b) k (either b s c) (beq-same _ _ (below (bitTest k s c) 256 e b h)) (is-letter b s c)
 
--- a byte has no bit where it is no letter
-no-bit : (r w x a t b : Bool) → eqb (cond r 32 (cond w 16 (cond x 8 (cond a 4 (cond t 2 (cond b 1 0)))))) 0 ≡ not (r || (w || (x || (a || (t || b)))))
-no-bit true w x a t b = refl
-no-bit false true x a t b = refl
-no-bit false false true a t b = refl
-no-bit false false false true t b = refl
-no-bit false false false false true b = refl
-no-bit false false false false false true = refl
-no-bit false false false false false false = refl
+-- and a byte has no bit where it is no letter
+abbrev anyLetter : ℕ → Bool
+anyLetter b = either b 114 82 || (either b 119 87 || (either b 120 88 || (either b 97 65 || (either b 116 84 || either b 98 66))))
+
+noneTest : ℕ → Bool
+noneTest b = Bool·beq (eqb (bitOf b) 0) (not (anyLetter b))
+
+none-right : all noneTest (entries (λ (j : ℕ). j) 256) ≡ true
+unfolding all entries noneTest bitOf
+none-right = refl
+
+no-letter-is : (b : ℕ) → b < 256 → (bitOf b ≡ 0) ↔ (Is b 114 82 ⊎ Is b 119 87 ⊎ Is b 120 88 ⊎ Is b 97 65 ⊎ Is b 116 84 ⊎ Is b 98 66 → ⊥)
+unfolding noneTest
+no-letter-is b h =
+    number-is (bitOf b) 0 (not (anyLetter b)) (beq-same _ _ (below noneTest 256 none-right b h))
+    (not-is (anyLetter b)
+    (or-is (either b 114 82) _ (is-letter b 114 82) (or-is (either b 119 87) _ (is-letter b 119 87) (or-is (either b 120 88) _ (is-letter b 120 88) (or-is (either b 97 65) _ (is-letter b 97 65) (or-is (either b 116 84) _ (is-letter b 116 84) (is-letter b 98 66)))))))
 
 letter-bit : (b : ℕ) → b < 256 → LetterBit b (bitOf b)
 unfolding all entries bitTest bitOf
@@ -120,9 +128,7 @@ letter-bit b h =
       append = bit-is 4 97 65 refl b h;
       transmute = bit-is 2 116 84 refl b h;
       bring-up = bit-is 1 98 66 refl b h;
-      none =
-          number-is (bitOf b) 0 _ (no-bit (either b 114 82) (either b 119 87) (either b 120 88) (either b 97 65) (either b 116 84) (either b 98 66))
-          (not-is _ (or-is _ _ (is-letter b 114 82) (or-is _ _ (is-letter b 119 87) (or-is _ _ (is-letter b 120 88) (or-is _ _ (is-letter b 97 65) (or-is _ _ (is-letter b 116 84) (is-letter b 98 66)))))));
+      none = no-letter-is b h;
     }
 
 pub six-letters : SixLetters
