@@ -1,8 +1,23 @@
 // The program (01, What the program reads and writes): standard input to standard output. What is written is decided in `program`; here it
 // is only read and written.
+use program::Session;
 use program::Turn;
-use program_line::Session;
-ghost use Rattle.program.specs.Input.{Front};
+ghost use Rattle.program.specs.Turns.{wentCount};
+ghost use Rattle.program.specs.Within.{Front};
+
+// The full sizes of the lent slices.
+const LABELS: usize = 16384;
+
+const ENTRIES: usize = 840;
+
+const WORDS: usize = 36;
+
+const LINE: usize = 600;
+
+// How much is read at once, and the room for what so much input may say.
+const PIECE: usize = 1024;
+
+const OUT: usize = 67584;
 
 const STDIN: i32 = 0;
 
@@ -23,53 +38,19 @@ fn complain(why: &[u8]) {
     io::write_all(STDERR, b"\n");
 }
 
-// Writes what a call of the session left in the output, and answers how to go on.
-fn put_out(out: &[u8], count: usize, next: Session) -> Next
-    requires { ⌜ Front count (now out) ⌝ }
+// Writes what a call of the session put at the front of the output, and answers how to go on.
+fn put_out(out: &[u8], turn: Turn) -> Next
+    requires { ⌜ Front (wentCount turn) (now out) ⌝ }
 {
+    let Turn::Went(next, count) = turn else {
+        complain(b"damaged state");
+        return Next::Stop;
+    };
     if io::write_all(STDOUT, &out[..count]) {
         return Next::More(next);
     }
     complain(b"cannot write to standard output");
     Next::Stop
-}
-
-// Hands one piece of the input to the session.
-fn feed_piece(
-    labels: &mut [u8],
-    entries: &mut [u8],
-    words: &mut [u64],
-    line: &mut [u8],
-    text: &mut [u8],
-    out: &mut [u8],
-    s: Session,
-    piece: &[u8],
-) -> Next {
-    match program::feed(labels, entries, words, line, text, out, s, piece) {
-        Turn::Went(next, count) => put_out(out, count, next),
-        Turn::Refused(_) => {
-            complain(b"damaged state");
-            Next::Stop
-        }
-    }
-}
-
-// The end of the input.
-fn end_input(
-    labels: &mut [u8],
-    entries: &mut [u8],
-    words: &mut [u64],
-    line: &mut [u8],
-    text: &mut [u8],
-    out: &mut [u8],
-    s: Session,
-) {
-    match program::finish(labels, entries, words, line, text, out, s) {
-        Turn::Went(next, count) => {
-            put_out(out, count, next);
-        }
-        Turn::Refused(_) => complain(b"damaged state"),
-    }
 }
 
 // Reads once, in whatever piece comes, and answers how to go on.
@@ -78,22 +59,23 @@ fn read_once(
     entries: &mut [u8],
     words: &mut [u64],
     line: &mut [u8],
-    text: &mut [u8],
     out: &mut [u8],
     s: Session,
 ) -> Next {
-    let mut piece = [0u8; 1024];
+    let mut piece = [0u8; PIECE];
     let got = libc::read(STDIN, &mut piece);
     if got < 0 {
         complain(b"cannot read standard input");
         return Next::Stop;
     }
     if got == 0 {
-        end_input(labels, entries, words, line, text, out, s);
+        let last = program::finish(labels, entries, words, line, out, s);
+        put_out(out, last);
         return Next::Stop;
     }
     let n = io::count(got, &piece);
-    feed_piece(labels, entries, words, line, text, out, s, &piece[..n])
+    let turn = program::feed(labels, entries, words, line, out, s, &piece[..n]);
+    put_out(out, turn)
 }
 
 // Says that the loop below has come to the end of its count.
@@ -107,14 +89,13 @@ fn read_all(
     entries: &mut [u8],
     words: &mut [u64],
     line: &mut [u8],
-    text: &mut [u8],
     out: &mut [u8],
     begun: Session,
 ) {
     let mut s = begun;
     let mut turns = u64::MAX;
     while turns > 0 {
-        match read_once(labels, entries, words, line, text, out, s) {
+        match read_once(labels, entries, words, line, out, s) {
             Next::More(next) => {
                 s = next;
             }
@@ -128,20 +109,17 @@ fn read_all(
 }
 
 fn main() {
-    let mut labels = [0u8; 16384];
-    let mut entries = [0u8; 840];
-    let mut words = [0u64; 36];
-    let mut line = [0u8; 600];
-    let mut text = [0u8; 602];
-    // Room for what a piece of 1,024 bytes may say.
-    let mut out = [0u8; 67584];
+    let mut labels = [0u8; LABELS];
+    let mut entries = [0u8; ENTRIES];
+    let mut words = [0u64; WORDS];
+    let mut line = [0u8; LINE];
+    let mut out = [0u8; OUT];
     let s = program::begin(&mut labels, &entries, &mut words);
     read_all(
         &mut labels,
         &mut entries,
         &mut words,
         &mut line,
-        &mut text,
         &mut out,
         s,
     );

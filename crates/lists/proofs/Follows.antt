@@ -22,7 +22,7 @@ use Rattle.reports.specs.declared.Loader.{Loader}
 use Rattle.lists.specs.Reader.{Totals, zeros, counted, Reader, startOn, endLine, takeByte, takePiece, finish, limited}
 use Rattle.reports.specs.Report.{more, count, withKept, freshLoader}
 use Rattle.load.specs.Loader.{Load, load, endKept, keepByte, stepByte, stepPiece, stepEnd}
-use Rattle.load.proofs.Laws.{Ready, ready-end, ready-step}
+use Rattle.load.proofs.Laws.{Ready, count-kept, ready-end, ready-step}
 
 -- ---- what a lent state stands for
 
@@ -101,11 +101,6 @@ count-follows l c (is-refused n) s =
       first = rw z (same-first (eqb (c .refused) 0) (more (l .lines)) (c .lines + 1) (l .first) (c .first) (more-limited _ _ (s .lines)) (s .first));
       reason = rw z (same-reason (eqb (c .refused) 0) n (s .reason));
     }
-
-count-kept : (l : Loader) (q : Outcome) → count l q .kept ≡ 0
-count-kept l v.Skipped = refl
-count-kept l v.Accepted = refl
-count-kept l (v.Refused n) = refl
 
 empty-line : (line : List ℕ) (n : ℕ) → length line ≡ 600 → n ≡ 0 → SameLine line n []
 empty-line line n full e = rw e (record { full = full; size = refl; bytes = refl })

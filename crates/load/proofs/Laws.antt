@@ -38,7 +38,7 @@ pub is-ready : (s : Load) → Ready s → ready s ≡ true
 unfolding ready
 is-ready s r = rw (r .undamaged, eq-eqb _ _ (r .line), le-leb _ _ (r .kept))
 
-count-kept : (l : Loader) (q : Outcome) → count l q .kept ≡ 0
+pub count-kept : (l : Loader) (q : Outcome) → count l q .kept ≡ 0
 count-kept l v.Skipped = refl
 count-kept l v.Accepted = refl
 count-kept l (v.Refused n) = refl
@@ -172,11 +172,11 @@ run-before (b ∷ bs) =
 -- ---- a run of bytes with no newline joins the kept line
 
 module _ (st : Store) where
-  joins : (line : List ℕ) (l : Loader) (b : ℕ) → (b ≡ 10 → ⊥) → l .kept < 600 → stepByte (load st line l) b ≡ load st (set line (l .kept) b) (withKept l (l .kept + 1))
+  pub joins : (line : List ℕ) (l : Loader) (b : ℕ) → (b ≡ 10 → ⊥) → l .kept < 600 → stepByte (load st line l) b ≡ load st (set line (l .kept) b) (withKept l (l .kept + 1))
   unfolding stepByte
   joins line l b e h = rw (ne-eqb b 10 e, lt-ltb (l .kept) 600 h)
 
-  too-long : (line : List ℕ) (l : Loader) (b : ℕ) → (b ≡ 10 → ⊥) → 600 ≤ l .kept → stepByte (load st line l) b ≡ load st line (withKept l 601)
+  pub too-long : (line : List ℕ) (l : Loader) (b : ℕ) → (b ≡ 10 → ⊥) → 600 ≤ l .kept → stepByte (load st line l) b ≡ load st line (withKept l 601)
   unfolding stepByte
   too-long line l b e h = rw (ne-eqb b 10 e, le-ltb (l .kept) 600 h)
 
@@ -274,6 +274,23 @@ newline-next (b ∷ bs) h =
   where
     Next : ℕ → Type 0
     Next n = take (suc n) (b ∷ bs) ≡ take n (b ∷ bs) ++ (10 ∷ [])
+
+-- a newline alone leaves an empty line
+pub byte-empties : (s : Load) (b : ℕ) → eqb (stepByte s b .loader .kept) 0 ≡ eqb b 10
+unfolding stepByte
+byte-empties s b = by-test (eqb b 10)
+  where
+    ends : (x : Bool) → eqb (cond x (load (s .store) (s .line) (count (s .loader) (v.Refused 1))) (load (lineStored (s .store) (take (s .loader .kept) (s .line))) (s .line) (count (s .loader) (lineOutcome (s .store) (take (s .loader .kept) (s .line))))) .loader .kept) 0 ≡ true
+    ends true = refl
+    ends false = rw (count-kept (s .loader) (lineOutcome (s .store) (take (s .loader .kept) (s .line))))
+
+    joins : (x : Bool) → eqb (cond x (load (s .store) (set (s .line) (s .loader .kept) b) (withKept (s .loader) (s .loader .kept + 1))) (load (s .store) (s .line) (withKept (s .loader) 601)) .loader .kept) 0 ≡ false
+    joins true = ne-eqb (s .loader .kept + 1) 0 (λ z. omega (arith, z))
+    joins false = refl
+
+    by-test : (m : Bool) → eqb (cond m (endKept s) (keepByte s b) .loader .kept) 0 ≡ m
+    by-test true = ends (ltb 600 (s .loader .kept))
+    by-test false = joins (ltb (s .loader .kept) 600)
 
 -- the run from an index of the text to its line's end
 module _ (text : List ℕ) (i end : ℕ) (h : i ≤ length text) (e : end ≡ i + beforeNewline (drop i text)) where

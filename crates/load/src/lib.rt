@@ -55,8 +55,9 @@ pub fn line_end(text: &[u8], from: usize) -> usize
     i
 }
 
-// Takes bytes of one line, none of them its newline. They join the kept line in one go, as many as there is room for.
-fn take_run(line: &mut [u8], l: Loader, run: &[u8]) -> Loader
+// Takes bytes of one line, none of them its newline. They join the kept line in one go, as many as there is room for. Who calls it has tested the
+// line's size: `piece` here, and `program::feed` for a question line, which is kept as a line of rule text is.
+pub fn take_run(line: &mut [u8], l: Loader, run: &[u8]) -> Loader
     requires { ⌜ (length (now line) ≡ 600) × (beforeNewline (now run) ≡ length (now run)) ⌝ }
     ensures { λ r. ⌜ ((st : Store) → load st (now (line .exit)) r ≡ stepPiece (load st (now (line .entry)) l) (now (run .entry))) ⌝ }
 {
@@ -78,7 +79,7 @@ fn take_run(line: &mut [u8], l: Loader, run: &[u8]) -> Loader
 }
 
 // Whether the lent state is undamaged, the loader too: refusal 0 otherwise.
-fn is_ready(labels: &[u8], entries: &[u8], words: &[u64], line: &[u8], l: Loader) -> bool
+pub fn is_ready(labels: &[u8], entries: &[u8], words: &[u64], line: &[u8], l: Loader) -> bool
     ensures { λ r. ⌜ r ≡ ready (load (lent labels entries words) (now (line .entry)) l) ⌝ }
 {
     if !damage::undamaged(labels, entries, words) {

@@ -1,160 +1,80 @@
 -- The session follows the plain reader: what each step of the lent state says and leaves, 01's words say of what that state stands for.
 -- Assumes nothing.
 use mathlib.Core.Path.{_≡_, refl, sym, ap, _∙_, subst}
-use mathlib.Core.Bool.{Bool, true, false, cond, not}
-use mathlib.Core.List.{List, [], _∷_, _++_, append-assoc, append-nil, foldl-append}
-use Prim.Native.Nat.{ℕ, zero, suc, _+_, _<_, _≤_, min}
-use native.Mathlib.Numerals.{add-one}
+use mathlib.Core.Bool.{Bool, true, false, cond, _&&_}
+use mathlib.Core.List.{List, [], _∷_, _++_}
+use Prim.Native.Nat.{ℕ, suc, _*_, _≤_}
 use native.Mathlib.Omega.{arith}
 use lib.Dec.{ltb, eqb}
-use borrow.Author.Tests.{lt-ltb, ltb-true, ltb-false, not-true}
-use lib.ListN.{length, take, set, length-append, length-set}
-use lib.Seq.{take-all, take-suc-set, take-append-le, length-take-le}
-use Rattle.search.specs.Search.{all}
-use Rattle.search.specs.Bytes.{sameBytes}
-use Rattle.search.proofs.Laws.{same-lengths, all-snoc, and-both}
-use Rattle.alphabet.specs.Alphabet.{fields}
-use Rattle.lines.specs.Lines.{ruleOf, refused}
-use Rattle.store.specs.Table.{Table}
+use borrow.Author.Tests.{lt-ltb, le-ltb, ltb-true, ltb-false, ne-eqb, eq-eqb, le-leb}
+use lib.ListN.{length, take, getD}
+use lib.Seq.{take-all, getD-take, take-append-seam}
+use Rattle.search.specs.Bytes.{sameBytes, written}
+use Rattle.alphabet.specs.Alphabet.{lineLimit, fields}
+use Rattle.store.specs.Table.{Table, fresh}
+use Rattle.store.specs.Layout.{Store, Sizes}
+use Rattle.store.specs.Judged.{freshStore}
+use Rattle.store.proofs.Laws.{fresh-is, fresh-undamaged}
 use Rattle.access.specs.Access.{answer, questionOf}
 use Rattle.access.specs.declared.Answer.{Answer}
 use Rattle.access.specs.declared.Answer.the-variants.{Refused}
+use Rattle.reports.specs.declared.Loader.{Loader}
+use Rattle.reports.specs.Report.{freshLoader, withKept}
 use Rattle.load.specs.declared.Ended.{Ended}
 use Rattle.load.specs.declared.Ended.the-variants as e
-use Rattle.load.specs.Loader.{Load, load, pieceAnswer, pieceAfter, endAnswer, endAfter}
+use Rattle.load.specs.Loader.{Load, load, ready, stepByte, endAnswer, endAfter}
+use Rattle.load.proofs.Laws.{is-ready}
+use Rattle.lists.specs.Reader.{Totals, Reader, startOn, finish, limitedTotals, report}
 use Rattle.lists.specs.Reader as reader
-use Rattle.lists.specs.Reader.{Totals, Reader, startOn, endLine, takeByte, takePiece, finish, limitedTotals, Reply, done, report, answered, refusal, says}
-use Rattle.lists.proofs.Follows.{Holds}
-use Rattle.lists.proofs.Steps.{end-reply, piece-law, end-law, question-law}
-use Rattle.replies.specs.Replies.{asked, answerTo, answerLine}
-use Rattle.program_line.specs.Line.{isMark}
-use Rattle.program.specs.Program.{reportLine}
-use Rattle.program_line.specs.Line.{State, keptLine, lineLoaded, textEnded, endedText, lineAfter, lineSays, keepByte}
+use Rattle.lists.proofs.Follows.{SameLine, SameTotals, Holds, step-follows, fresh-holds}
+use Rattle.lists.proofs.Steps.{totals-of, end-reply, end-law, question-law}
+use Rattle.replies.specs.Replies.{newline, answerLine}
+use Rattle.program.specs.Program.{mark, isMark, asked, answerTo, reportLine}
+use Rattle.program.specs.declared.Turn.{Turn}
+use Rattle.program.specs.Turns.{wentCount}
+use Rattle.program.specs.Within.{State, state, freshSession, asking, reading, atMark, emptied, unmarked, withoutMark, answerOf, answerText, endedText, textAfter, textSays, byteBy, sayBy, takeByte, sayByte, takeInput, sayInput, lastBy, sayLastBy, sayLast, Turns, Feeds, Finishes}
+use Rattle.program.proofs.Laws.{unmarked-yes, unmarked-no}
+use Rattle.program.proofs.Plain.{Phase, loads, asks, keeping, plainUnmarked, phaseTo, reports, answers, phaseSays, phaseLast, phaseOn, saidOn}
 
--- ---- what is still to be read: rule text, by a plain reader, or questions, of a table
+-- ---- the line under way
 
-pub data Phase : Type 0 where
-  loads : Reader → Phase
-  asks : Table → Phase
+mark-line : (line : List ℕ) (l : Loader) (kept : List ℕ) → SameLine line (l .kept) kept → atMark line l ≡ isMark kept
+unfolding sameBytes
+mark-line line l [] h = rw (h .size)
+mark-line line l (x ∷ []) h =
+    let k : l .kept ≡ 1 = h .size in
+    let first : getD line 0 0 ≡ x = sym (getD-take 1 line 0 0 (omega arith)) ∙ ap (λ (t : List ℕ). getD t 0 0) (ap (λ (n : ℕ). take n line) (sym k) ∙ h .bytes) in
+    rw (k, first) (by-test (eqb x mark))
+  where
+    by-test : (t : Bool) → t ≡ (t && true)
+    by-test true = refl
+    by-test false = refl
+mark-line line l (x ∷ y ∷ ys) h = rw (ne-eqb (l .kept) 1 (λ z. omega (arith, z, h .size))) (by-test (eqb x mark))
+  where
+    by-test : (t : Bool) → false ≡ (t && false)
+    by-test true = refl
+    by-test false = refl
 
--- what a line does, and says
-abbrev pub phaseBy : Bool → Reader → List ℕ → Phase
-phaseBy true p line = asks (finish p .table)
-phaseBy false p line = loads (takePiece p (line ++ (10 ∷ [])))
+mark-same : (s : Load) (p : Reader) → Holds s p → atMark (s .line) (s .loader) ≡ isMark (p .kept)
+mark-same s p h = mark-line (s .line) (s .loader) (p .kept) (h .line)
 
-abbrev pub saidBy : Bool → Reader → List ℕ
-saidBy true p = reportLine (limitedTotals (finish p .totals))
-saidBy false p = []
-
-abbrev pub lineTo : Phase → List ℕ → Phase
-lineTo (loads p) line = phaseBy (isMark line) p line
-lineTo (asks t) line = asks t
-
-abbrev pub lineSaid : Phase → List ℕ → List ℕ
-lineSaid (loads p) line = saidBy (isMark line) p
-lineSaid (asks t) line = answerLine (answerTo (answer t) line)
-
--- ---- what a lent state stands for
-
--- the line under way, which has no newline; as much of it as is kept
-pub record SameLine (text : List ℕ) (kept : ℕ) (line : List ℕ) : Type 0 where
-  pub full : length text ≡ 602
-  pub size : kept ≡ min (length line) 601
-  pub bytes : take kept text ≡ take 601 line
-  pub plain : all (λ (b : ℕ). not (eqb b 10)) line ≡ true
-
-abbrev pub InPhase : Load → Bool → Phase → Type 0
-InPhase l loading (loads p) = (loading ≡ true) × Holds l p
-InPhase l loading (asks t) = (loading ≡ false) × Holds l (startOn t)
-
-pub record Stands (s : State) (read : List ℕ) (q : Phase) : Type 0 where
-  pub line : SameLine (s .text) (s .kept) read
-  pub phase : InPhase (s .load) (s .loading) q
-
--- ---- a line that is kept is judged as the whole line would be
-
--- the two are the same, or both are over 600 bytes
-pub record Cut (short line : List ℕ) : Type 0 where
-  pub same : length line ≤ 600 → short ≡ line
-  pub long : 600 < length line → 600 < length short
-
-cut-is : (text : List ℕ) (kept : ℕ) (line : List ℕ) → SameLine text kept line → Cut (take kept text) line
-cut-is text kept line s =
+emptied-holds : (s : Load) (p : Reader) → Holds s p → Holds (emptied s) (keeping p [])
+emptied-holds s p h =
     record {
-      same = λ h. s .bytes ∙ take-all 601 line (omega (arith, h));
-      long = λ h. omega (arith, h, s .size, s .full, length-take-le kept text (omega (arith, s .size, s .full)));
+      ready = record { undamaged = h .ready .undamaged; line = h .ready .line; kept = omega arith };
+      table = h .table;
+      line = record { full = h .line .full; size = refl; bytes = refl };
+      totals = record { lines = h .totals .lines; accepted = h .totals .accepted; skipped = h .totals .skipped; refused = h .totals .refused; first = h .totals .first; reason = h .totals .reason };
     }
 
--- what goes by a test of the length, and the same on both sides of it
-by-length : {A : Type 0} (f : List ℕ → A) (short line : List ℕ) → Cut short line → (600 < length line → f short ≡ f line) → f short ≡ f line
-by-length f short line c over = by-test (ltb 600 (length line)) refl
+unmarked-holds : (s : Load) (p : Reader) → Holds s p → Holds (withoutMark s) (plainUnmarked p)
+unmarked-holds s p h = by-test (isMark (p .kept)) (mark-same s p h)
   where
-    by-test : (t : Bool) → ltb 600 (length line) ≡ t → f short ≡ f line
-    by-test true h = over (ltb-true 600 (length line) h)
-    by-test false h = ap f (c .same (ltb-false 600 (length line) h))
+    by-test : (m : Bool) → atMark (s .line) (s .loader) ≡ m → Holds (withoutMark s) (keeping p (cond m [] (p .kept)))
+    by-test true q = subst (λ (l : Loader). Holds (load (s .store) (s .line) l) (keeping p [])) (unmarked-yes (s .line) (s .loader) q) (emptied-holds s p h)
+    by-test false q = subst (λ (l : Loader). Holds (load (s .store) (s .line) l) p) (unmarked-no (s .line) (s .loader) q) h
 
-unmarked : (line : List ℕ) → 600 < length line → isMark line ≡ false
-unmarked line h = same-lengths line (63 ∷ []) (λ e. absurd (omega (arith, h, e)))
-
-cut-mark : (short line : List ℕ) → Cut short line → isMark short ≡ isMark line
-cut-mark short line c = by-length isMark short line c (λ h. unmarked short (c .long h) ∙ sym (unmarked line h))
-
-too-long : (ask : List ℕ → List ℕ → List ℕ → Bool → Answer) (line : List ℕ) → 600 < length line → answerTo ask line ≡ Refused 1
-unfolding answerTo
-too-long ask line h = rw (lt-ltb 600 (length line) h)
-
-cut-answer : (ask : List ℕ → List ℕ → List ℕ → Bool → Answer) (short line : List ℕ) → Cut short line → answerTo ask short ≡ answerTo ask line
-cut-answer ask short line c = by-length (answerTo ask) short line c (λ h. too-long ask short (c .long h) ∙ sym (too-long ask line h))
-
--- bytes without a newline join the kept line
-joins : (q : Reader) (x : ℕ) → eqb x 10 ≡ false → takeByte q x ≡ record { table = q .table; kept = q .kept ++ (x ∷ []); totals = q .totals }
-unfolding takeByte
-joins q x e = rw e
-
-kept-more : (p : Reader) (line : List ℕ) → all (λ (b : ℕ). not (eqb b 10)) line ≡ true → takePiece p line ≡ record { table = p .table; kept = p .kept ++ line; totals = p .totals }
-unfolding all
-kept-more p [] h = ap (λ (l : List ℕ). record { table = p .table; kept = l; totals = p .totals }) (sym (append-nil (p .kept)))
-kept-more p (b ∷ bs) h =
-    let both = and-both (not (eqb b 10)) (all (λ (x : ℕ). not (eqb x 10)) bs) h in
-    ap (λ (q : Reader). takePiece q bs) (joins p b (not-true (eqb b 10) (both .0)))
-    ∙ kept-more (record { table = p .table; kept = p .kept ++ (b ∷ []); totals = p .totals }) bs (both .1)
-    ∙ ap (λ (l : List ℕ). record { table = p .table; kept = l; totals = p .totals }) (append-assoc (p .kept) (b ∷ []) bs)
-
-all-take : (n : ℕ) (l : List ℕ) → all (λ (b : ℕ). not (eqb b 10)) l ≡ true → all (λ (b : ℕ). not (eqb b 10)) (take n l) ≡ true
-unfolding all
-all-take zero l h = refl
-all-take (suc n) [] h = refl
-all-take (suc n) (b ∷ bs) h =
-    let both = and-both (not (eqb b 10)) (all (λ (x : ℕ). not (eqb x 10)) bs) h in
-    rw (both .0) (all-take n bs (both .1))
-
--- a line of rule text with its newline
-pub line-ends : (p : Reader) (line : List ℕ) → all (λ (b : ℕ). not (eqb b 10)) line ≡ true → takePiece p (line ++ (10 ∷ [])) ≡ endLine (record { table = p .table; kept = p .kept ++ line; totals = p .totals })
-unfolding takeByte
-line-ends p line h = foldl-append takeByte p line (10 ∷ []) ∙ ap (λ (q : Reader). takeByte q 10) (kept-more p line h)
-
-long-rule : (line : List ℕ) → 600 < length line → ruleOf line ≡ refused 1
-unfolding ruleOf
-long-rule line h = rw (lt-ltb 600 (length line) h)
-
-ends-long : (t : Table) (c : Totals) (k l : List ℕ) → 600 < length k → 600 < length l → endLine (record { table = t; kept = k; totals = c }) ≡ endLine (record { table = t; kept = l; totals = c })
-unfolding endLine
-ends-long t c k l h i = rw (long-rule k h, long-rule l i)
-
-cut-rule :
-    (p : Reader) (short line : List ℕ) →
-    Cut short line →
-    all (λ (b : ℕ). not (eqb b 10)) short ≡ true →
-    all (λ (b : ℕ). not (eqb b 10)) line ≡ true →
-    takePiece p (short ++ (10 ∷ [])) ≡ takePiece p (line ++ (10 ∷ []))
-cut-rule p short line c plain-short plain-line =
-    by-length (λ (l : List ℕ). takePiece p (l ++ (10 ∷ []))) short line c
-    (λ h.
-    line-ends p short plain-short
-    ∙ ends-long (p .table) (p .totals) (p .kept ++ short) (p .kept ++ line) (omega (arith, c .long h, length-append (p .kept) short)) (omega (arith, h, length-append (p .kept) line))
-    ∙ sym (line-ends p line plain-line))
-
--- ---- a line ends
+-- ---- a question line that is kept is answered as the whole line would be
 
 same-asked : (f g : List ℕ → List ℕ → List ℕ → Bool → Answer) → ((x o r : List ℕ) (c : Bool) → f x o r c ≡ g x o r c) → (fs : List (List ℕ)) → asked f fs ≡ asked g fs
 same-asked f g h [] = refl
@@ -164,121 +84,121 @@ same-asked f g h (s ∷ o ∷ r ∷ []) = h s o r false
 same-asked f g h (s ∷ o ∷ r ∷ c ∷ []) = ap (λ (a : Answer). cond (sameBytes c (111 ∷ [])) a (Refused 2)) (h s o r true)
 same-asked f g h (s ∷ o ∷ r ∷ c ∷ x ∷ more) = refl
 
-same-answer : (f g : List ℕ → List ℕ → List ℕ → Bool → Answer) → ((x o r : List ℕ) (c : Bool) → f x o r c ≡ g x o r c) → (line : List ℕ) → answerTo f line ≡ answerTo g line
+answer-same : (s : Load) (p : Reader) → Holds s p → answerOf (s .store) (s .line) (s .loader .kept) ≡ answerTo (answer (p .table)) (p .kept)
 unfolding answerTo
-same-answer f g h line = ap (λ (a : Answer). cond (ltb 600 (length line)) (Refused 1) a) (same-asked f g h (fields line))
+answer-same s p h = by-test (ltb lineLimit (length (p .kept))) refl
+  where
+    by-test : (t : Bool) → ltb lineLimit (length (p .kept)) ≡ t → answerOf (s .store) (s .line) (s .loader .kept) ≡ cond t (Refused 1) (asked (answer (p .table)) (fields (p .kept)))
+    by-test true q = rw (lt-ltb lineLimit (s .loader .kept) (omega (arith, ltb-true lineLimit (length (p .kept)) q, h .line .size)))
+    by-test false q =
+        let z = ltb-false lineLimit (length (p .kept)) q in
+        let whole : take (s .loader .kept) (s .line) ≡ p .kept = h .line .bytes ∙ take-all lineLimit (p .kept) z in
+        rw (le-ltb lineLimit (s .loader .kept) (omega (arith, z, h .line .size)))
+        (ap (λ (l : List ℕ). asked (questionOf (s .store)) (fields l)) whole
+        ∙ same-asked (questionOf (s .store)) (answer (p .table)) (λ x o r c. question-law s p x o r c h) (fields (p .kept)))
 
--- the end call's report, as it is written
-replyText : Reply → List ℕ
-replyText done = []
-replyText (report c) = reportLine c
-replyText (answered a) = []
-replyText (refusal n) = []
-replyText (reader.count k) = []
-replyText (reader.mapped m) = []
-replyText (reader.lowest l) = []
-replyText (reader.listed n out) = []
-replyText (reader.label-is l) = []
+-- ---- the end call's report, as it is written
 
-ended-text : (r : Ended) → endedText r ≡ replyText (end-reply r)
-unfolding replyText reportLine
-ended-text (e.Report r l) = refl
-ended-text (e.Refused n) = refl
+report-text : (r : Ended) (c : Totals) → end-reply r ≡ report c → endedText r ≡ reportLine c
+unfolding reportLine
+report-text (e.Report r l) c q = let z : totals-of r ≡ c = cc in ap (λ (x : Totals). reportLine x) z
+report-text (e.Refused n) c q = let z : _≡_ {A = ℕ} 0 1 = cc in absurd (omega arith)
 
-pub report-text : (r : Ended) (c : Totals) → end-reply r ≡ report c → endedText r ≡ reportLine c
-unfolding replyText
-report-text r c h = ended-text r ∙ ap replyText h
+text-says : (s : Load) (p : Reader) → Holds s p → textSays s ≡ reports (plainUnmarked p)
+text-says s p h =
+    report-text (endAnswer (withoutMark s)) (limitedTotals (finish (plainUnmarked p) .totals))
+    (end-law {s = withoutMark s} {s′ = endAfter (withoutMark s)} {r = endAnswer (withoutMark s)} (plainUnmarked p) refl refl (unmarked-holds s p h) .reply)
 
-pub empty-line : (text : List ℕ) → length text ≡ 602 → SameLine text 0 []
-unfolding all
-empty-line text h = record { full = h; size = refl; bytes = refl; plain = refl }
+text-holds : (s : Load) (p : Reader) → Holds s p → Holds (endAfter (withoutMark s)) (startOn (finish (plainUnmarked p) .table))
+text-holds s p h = end-law {s = withoutMark s} {s′ = endAfter (withoutMark s)} {r = endAnswer (withoutMark s)} (plainUnmarked p) refl refl (unmarked-holds s p h) .holds
+
+none-kept : (p : Reader) → finish (keeping p []) ≡ keeping p []
+unfolding finish
+none-kept p = refl
+
+-- ---- what a lent state stands for, and a byte, an input, the end
+
+abbrev pub Stands : State → Phase → Type 0
+Stands s (loads p) = (s .loading ≡ true) × Holds (s .load) p
+Stands s (asks p) = (s .loading ≡ false) × Holds (s .load) p
 
 -- what a step keeps
-pub record Kept (s : State) (said : List ℕ) (line : List ℕ) (q : Phase) (plain : List ℕ) : Type 0 where
-  pub stands : Stands s line q
+pub record Kept (s : State) (said : List ℕ) (q : Phase) (plain : List ℕ) : Type 0 where
+  pub stands : Stands s q
   pub says : said ≡ plain
 
-module _ (s : State) (line : List ℕ) where
-  cut : SameLine (s .text) (s .kept) line → Cut (keptLine s) line
-  cut l = cut-is (s .text) (s .kept) line l
-
-  asked-follows : (t : Table) → SameLine (s .text) (s .kept) line → (s .loading ≡ false) × Holds (s .load) (startOn t) → Kept (lineAfter s) (lineSays s) [] (asks t) (lineSaid (asks t) line)
-  unfolding lineAfter lineSays
-  asked-follows t l h =
-      rw (h .0)
-      (record {
-        stands = record { line = empty-line (s .text) (l .full); phase = (refl, h .1) };
-        says =
-            ap answerLine
-            (same-answer (questionOf (s .load .store)) (answer t) (λ x o r c. question-law (s .load) (startOn t) x o r c (h .1)) (keptLine s)
-            ∙ cut-answer (answer t) (keptLine s) line (cut l));
-      })
-
-  loaded-follows : (p : Reader) → SameLine (s .text) (s .kept) line → (s .loading ≡ true) × Holds (s .load) p → Kept (lineAfter s) (lineSays s) [] (lineTo (loads p) line) (lineSaid (loads p) line)
-  unfolding lineAfter lineSays
-  loaded-follows p l h = rw (h .0, sym (cut-mark (keptLine s) line (cut l))) (by-mark (isMark (keptLine s)))
-    where
-      by-mark :
-          (m : Bool) →
-          Kept (cond m (textEnded s) (lineLoaded s)) (cond m (endedText (endAnswer (s .load))) []) [] (phaseBy m p line) (saidBy m p)
-      by-mark true =
-          let end = end-law {s = s .load} {s′ = endAfter (s .load)} {r = endAnswer (s .load)} p refl refl (h .1) in
-          record {
-            stands = record { line = empty-line (s .text) (l .full); phase = (refl, end .holds) };
-            says = report-text (endAnswer (s .load)) (limitedTotals (finish p .totals)) (end .reply);
-          }
-      by-mark false =
-          let fed = piece-law (keptLine s ++ (10 ∷ [])) {s = s .load} {s′ = pieceAfter (s .load) (keptLine s ++ (10 ∷ []))} {r = pieceAnswer (s .load) (keptLine s ++ (10 ∷ []))} p refl refl (h .1) in
-          let plain-short = subst (λ (x : List ℕ). all (λ (b : ℕ). not (eqb b 10)) x ≡ true) (sym (l .bytes)) (all-take 601 line (l .plain)) in
-          record {
-            stands =
-                record {
-                  line = empty-line (set (s .text) (s .kept) 10) (length-set (s .text) (s .kept) 10 ∙ l .full);
-                  phase = (refl, subst (λ (q : Reader). Holds (pieceAfter (s .load) (keptLine s ++ (10 ∷ []))) q) (cut-rule p (keptLine s) line (cut l) plain-short (l .plain)) (fed .holds));
-                };
-            says = refl;
-          }
-
-pub line-follows : (s : State) (line : List ℕ) (q : Phase) → Stands s line q → Kept (lineAfter s) (lineSays s) [] (lineTo q line) (lineSaid q line)
-line-follows s line (loads p) h = loaded-follows s line p (h .line) (h .phase)
-line-follows s line (asks t) h = asked-follows s line t (h .line) (h .phase)
-
--- ---- a byte joins the line
-
-keep-line : (text : List ℕ) (kept : ℕ) (line : List ℕ) (b : ℕ) → SameLine text kept line → eqb b 10 ≡ false → kept < 601 → SameLine (set text kept b) (kept + 1) (line ++ (b ∷ []))
-keep-line text kept line b s plain h =
-    let z : length line ≡ kept = omega (arith, s .size) in
-    let grown : length (line ++ (b ∷ [])) ≡ kept + 1 = length-append line (b ∷ []) ∙ omega (arith, z) in
-    let h₁ : kept < length text = omega (arith, s .full) in
-    let h₂ : length (line ++ (b ∷ [])) ≤ 601 = omega (arith, grown) in
-    let h₃ : length line ≤ 601 = omega (arith, z) in
-    record {
-      full = length-set text kept b ∙ s .full;
-      size = omega (arith, grown);
-      bytes =
-          ap (λ (k : ℕ). take k (set text kept b)) (add-one kept)
-          ∙ take-suc-set text kept b h₁
-          ∙ ap (λ (x : List ℕ). x ++ (b ∷ [])) (s .bytes ∙ take-all 601 line h₃)
-          ∙ sym (take-all 601 (line ++ (b ∷ [])) h₂);
-      plain = all-snoc (λ (x : ℕ). not (eqb x 10)) line b ∙ rw (s .plain, plain);
-    }
-
-long-line : (text : List ℕ) (kept : ℕ) (line : List ℕ) (b : ℕ) → SameLine text kept line → eqb b 10 ≡ false → 601 ≤ kept → SameLine text kept (line ++ (b ∷ []))
-long-line text kept line b s plain h =
-    let z : 601 ≤ length line = omega (arith, s .size) in
-    record {
-      full = s .full;
-      size = omega (arith, s .size, length-append line (b ∷ []));
-      bytes = s .bytes ∙ sym (take-append-le 601 line (b ∷ []) z);
-      plain = all-snoc (λ (x : ℕ). not (eqb x 10)) line b ∙ rw (s .plain, plain);
-    }
-
-pub keep-follows : (s : State) (line : List ℕ) (q : Phase) (b : ℕ) → eqb b 10 ≡ false → Stands s line q → Stands (keepByte s b) (line ++ (b ∷ [])) q
-keep-follows s line q b plain h = by-test (ltb (s .kept) 601) refl
+byte-loads : (s : Load) (p : Reader) (b : ℕ) → Holds s p → Kept (byteBy true s b) (sayBy true s b) (phaseTo (loads p) b) (phaseSays (loads p) b)
+byte-loads s p b h = rw (mark-same s p h) (by-test (isMark (p .kept)) (eqb b newline) refl)
   where
     by-test :
-        (t : Bool) →
-        ltb (s .kept) 601 ≡ t →
-        Stands (cond t (record { load = s .load; text = set (s .text) (s .kept) b; loading = s .loading; kept = s .kept + 1 }) s) (line ++ (b ∷ [])) q
-    by-test true e = record { line = keep-line (s .text) (s .kept) line b (h .line) plain (ltb-true (s .kept) 601 e); phase = h .phase }
-    by-test false e = record { line = long-line (s .text) (s .kept) line b (h .line) plain (ltb-false (s .kept) 601 e); phase = h .phase }
+        (m t : Bool) →
+        isMark (p .kept) ≡ m →
+        Kept (cond (m && t) (textAfter s) (reading (stepByte s b))) (cond (m && t) (textSays s) []) (cond (m && t) (asks (startOn (p .table))) (loads (reader.takeByte p b))) (cond (m && t) (reports (keeping p [])) [])
+    by-test true true q =
+        let same : plainUnmarked p ≡ keeping p [] = ap (λ (m : Bool). keeping p (cond m [] (p .kept))) q in
+        record {
+          stands = (refl, subst (λ (t : Table). Holds (endAfter (withoutMark s)) (startOn t)) (ap (λ (x : Reader). finish x .table) same ∙ ap (λ (x : Reader). x .table) (none-kept p)) (text-holds s p h));
+          says = text-says s p h ∙ ap (λ (x : Reader). reports x) same;
+        }
+    by-test true false q = record { stands = (refl, step-follows s p b h); says = refl }
+    by-test false t q = record { stands = (refl, step-follows s p b h); says = refl }
+
+byte-asks : (s : Load) (p : Reader) (b : ℕ) → Holds s p → Kept (byteBy false s b) (sayBy false s b) (phaseTo (asks p) b) (phaseSays (asks p) b)
+byte-asks s p b h = by-test (eqb b newline)
+  where
+    by-test : (t : Bool) → Kept (cond t (asking (emptied s)) (asking (stepByte s b))) (cond t (answerText s) []) (cond t (asks (keeping p [])) (asks (reader.takeByte p b))) (cond t (answers p) [])
+    by-test true = record { stands = (refl, emptied-holds s p h); says = ap answerLine (answer-same s p h) }
+    by-test false = record { stands = (refl, step-follows s p b h); says = refl }
+
+byte-follows : (s : State) (q : Phase) (b : ℕ) → Stands s q → Kept (takeByte s b) (sayByte s b) (phaseTo q b) (phaseSays q b)
+byte-follows s (loads p) b h = subst (λ (t : Bool). Kept (byteBy t (s .load) b) (sayBy t (s .load) b) (phaseTo (loads p) b) (phaseSays (loads p) b)) (sym (h .0)) (byte-loads (s .load) p b (h .1))
+byte-follows s (asks p) b h = subst (λ (t : Bool). Kept (byteBy t (s .load) b) (sayBy t (s .load) b) (phaseTo (asks p) b) (phaseSays (asks p) b)) (sym (h .0)) (byte-asks (s .load) p b (h .1))
+
+input-follows : (s : State) (q : Phase) (input : List ℕ) → Stands s q → Kept (takeInput s input) (sayInput s input) (phaseOn q input) (saidOn q input)
+input-follows s q [] h = record { stands = h; says = refl }
+input-follows s q (b ∷ bs) h =
+    let one = byte-follows s q b h in
+    let rest = input-follows (takeByte s b) (phaseTo q b) bs (one .stands) in
+    record { stands = rest .stands; says = ap (λ (l : List ℕ). l ++ sayInput (takeByte s b) bs) (one .says) ∙ ap (λ (l : List ℕ). phaseSays q b ++ l) (rest .says) }
+
+last-asks : (s : Load) (p : Reader) → Holds s p → sayLastBy false s ≡ phaseLast (asks p)
+last-asks s p h = by-test (ltb 0 (length (p .kept))) refl
+  where
+    by-test : (t : Bool) → ltb 0 (length (p .kept)) ≡ t → sayLastBy false s ≡ cond t (answers p) []
+    by-test true q = rw (lt-ltb 0 (s .loader .kept) (omega (arith, ltb-true 0 (length (p .kept)) q, h .line .size))) (ap answerLine (answer-same s p h))
+    by-test false q = rw (le-ltb 0 (s .loader .kept) (omega (arith, ltb-false 0 (length (p .kept)) q, h .line .size)))
+
+last-follows : (s : State) (q : Phase) → Stands s q → sayLast s ≡ phaseLast q
+last-follows s (loads p) h = ap (λ (t : Bool). sayLastBy t (s .load)) (h .0) ∙ text-says (s .load) p (h .1)
+last-follows s (asks p) h = ap (λ (t : Bool). sayLastBy t (s .load)) (h .0) ∙ last-asks (s .load) p (h .1)
+
+-- ---- each contract, at a state that stands for what is read
+
+stands-ready : (s : State) (q : Phase) → Stands s q → ready (s .load) ≡ true
+stands-ready s (loads p) h = is-ready (s .load) (h .1 .ready)
+stands-ready s (asks p) h = is-ready (s .load) (h .1 .ready)
+
+-- the front of an output that something was put into
+front-is : (out said : List ℕ) → take (length said) (written out 0 said) ≡ said
+unfolding written
+front-is out said = take-append-seam said _
+
+turn-says : {most : ℕ} {s after s′ : State} {said out out′ : List ℕ} {r : Turn} → Turns most s after said out r s′ out′ → most ≤ length out → ready (s .load) ≡ true → (s′ ≡ after) × (take (wentCount r) out′ ≡ said)
+turn-says {most = most} {said = said} {out = out} {out′ = out′} turn room fine =
+    let p = le-leb most (length out) room in
+    let a = turn .answer in
+    let b = turn .state in
+    let c = turn .output in
+    (rw (p, fine) at b, ap (λ (t : Turn). take (wentCount t) out′) (rw (p, fine) at a) ∙ ap (λ (l : List ℕ). take (length said) l) (rw (p, fine) at c) ∙ front-is out said)
+
+pub feed-law : {s s′ : State} {out out′ : List ℕ} {r : Turn} (q : Phase) (input : List ℕ) → Feeds s input out r s′ out′ → 66 * length input ≤ length out → Stands s q → Kept s′ (take (wentCount r) out′) (phaseOn q input) (saidOn q input)
+feed-law {s} q input turn room h =
+    let t = turn-says turn room (stands-ready s q h) in
+    let k = input-follows s q input h in
+    record { stands = subst (λ (x : State). Stands x (phaseOn q input)) (sym (t .0)) (k .stands); says = t .1 ∙ k .says }
+
+pub finish-law : {s s′ : State} {out out′ : List ℕ} {r : Turn} (q : Phase) → Finishes s out r s′ out′ → 66 ≤ length out → Stands s q → take (wentCount r) out′ ≡ phaseLast q
+finish-law {s} q turn room h = turn-says turn room (stands-ready s q h) .1 ∙ last-follows s q h
+
+pub begun : (st : Store) (line : List ℕ) → Sizes (st .labels) (st .entries) (st .words) → length line ≡ lineLimit → Stands (state (freshStore st) line freshSession) (loads (startOn fresh))
+begun st line sizes full = (refl, subst (λ (t : Table). Holds (load (freshStore st) line freshLoader) (startOn t)) (fresh-is st sizes) (fresh-holds (freshStore st) line (fresh-undamaged st sizes) full))

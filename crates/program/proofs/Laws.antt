@@ -1,209 +1,520 @@
--- Laws of the input in pieces: a piece line by line, and the two calls. Assumes nothing.
-use mathlib.Core.Path.{_≡_, refl, sym, ap, _∙_}
-use mathlib.Core.Bool.{Bool, true, false}
-use mathlib.Core.List.{List, [], _∷_, _++_, append-assoc, append-nil, foldl-append}
-use Prim.Native.Nat.{ℕ, _+_, _-_, _*_, _<_, _≤_}
+-- Laws of the program's exact step: a call's answer, the line under way, and the input up to the byte that ends something. Assumes nothing.
+use mathlib.Core.Path.{_≡_, refl, sym, ap, _∙_, subst}
+use mathlib.Core.Bool.{Bool, true, false, cond, _&&_}
+use mathlib.Core.List.{List, [], _∷_, _++_}
+use Prim.Native.Nat.{ℕ, suc, _+_, _-_, _*_, _<_, _≤_}
 use native.Mathlib.Omega.{arith}
-use lib.Dec.{leb, eqb}
-use borrow.Author.Tests.{lt-ltb, le-ltb, le-leb, lt-leb}
-use lib.ListN.{length, take, drop, take-append-drop}
-use lib.Seq.{length-take-le}
+use native.Mathlib.Numerals.{add-one}
+use lib.Dec.{ltb, leb, eqb}
+use borrow.Author.Tests.{eqb-true, eqb-false, ne-eqb, ltb-true, ltb-false, lt-ltb, le-ltb, le-leb, lt-leb}
+use lib.ListN.{length, take, drop, set, getD, length-drop, drop-of-length-le}
+use lib.Seq.{length-take-le, take-all, getD-set-same, drop-cons, drop-drop}
 use Rattle.search.specs.Bytes.{written}
-use Rattle.store.specs.Layout.{Store}
-use Rattle.load.specs.Loader.{beforeNewline}
-use Rattle.load.proofs.Laws.{NoNewline, run-between, run-last, line-taken, end-behind}
-use Rattle.replies.specs.Put.{Put}
-use Rattle.replies.proofs.Laws.{written-none, put-length, put-said, put-next}
-use Rattle.program_line.specs.declared.Session.{Session}
-use Rattle.program_line.specs.Line.{State, state, closeAfter, closeSays, lineAfter, lineSays, stepByte, sayByte, stepInput, sayInput, readyAll, sessionOf}
-use Rattle.program_line.proofs.Laws.{newline-after, newline-says, run-says}
+use Rattle.search.proofs.Laws.{and-both}
+use Rattle.alphabet.specs.Alphabet.{lineLimit, fields}
+use Rattle.store.specs.Layout.{Store, undamagedOf}
+use Rattle.access.specs.Access.{questionOf}
+use Rattle.access.specs.declared.Answer.the-variants.{Refused}
+use Rattle.reports.specs.declared.Loader.{Loader}
+use Rattle.reports.specs.declared.Report.{Report}
+use Rattle.reports.specs.Report.{withKept, freshLoader, reportOf}
+use Rattle.load.specs.declared.Fed.{Fed}
+use Rattle.load.specs.declared.Fed.the-variants as f
+use Rattle.load.specs.declared.Ended.{Ended}
+use Rattle.load.specs.declared.Ended.the-variants as e
+use Rattle.load.specs.Loader.{Load, load, ready, stepByte, stepPiece, beforeNewline, fedLoader, pieceAnswer, pieceAfter, stepEnd, endedLoader, endAnswer, endAfter}
+use Rattle.load.proofs.Laws.{Ready, ready-is, is-ready, ready-step, ready-piece, run-last, end-within, joins, too-long, byte-empties}
+use Rattle.replies.specs.Replies.{newline}
+use Rattle.replies.specs.Within.{Put, reportText}
+use Rattle.replies.proofs.Laws.{written-none, put-length, put-said, put-none, put-next}
+use Rattle.program.specs.Program.{mark, asked}
+use Rattle.program.specs.Turns.{wentSession, wentCount}
+use Rattle.program.specs.declared.Session.{Session}
+use Rattle.program.specs.declared.Turn.{Turn}
 use Rattle.program.specs.declared.Turn.the-variants as t
-use Rattle.program.specs.Input.{lastAfter, lastSays, feedTest, feedSays, feedAfter, feedAnswer, finishTest, finishSays, finishAfter, finishAnswer, Front}
+use Rattle.program.specs.Within.{State, state, sessionOf, reading, asking, atMark, emptied, unmarked, answerOf, answerText, endedText, withoutMark, textAfter, textSays, takeByte, sayByte, takeInput, sayInput, textEnd, lastBy, sayLastBy, takeLast, sayLast, Front, Turns}
 
--- ---- a piece, line by line
-
-say-append : (s : State) (a b : List ℕ) → sayInput s (a ++ b) ≡ sayInput s a ++ sayInput (stepInput s a) b
-say-append s [] b = refl
-say-append s (x ∷ xs) b = ap (λ (l : List ℕ). sayByte s x ++ l) (say-append (stepByte s x) xs b) ∙ sym (append-assoc (sayByte s x) (sayInput (stepByte s x) xs) (sayInput (stepInput (stepByte s x) xs) b))
-
--- a run and its newline
-line-step : (s : State) (run : List ℕ) → stepInput s (run ++ (10 ∷ [])) ≡ lineAfter (stepInput s run)
-line-step s run = foldl-append stepByte s run (10 ∷ []) ∙ sym (newline-after (stepInput s run) 10 refl)
-
-line-say : (s : State) (run : List ℕ) → NoNewline run → sayInput s (run ++ (10 ∷ [])) ≡ lineSays (stepInput s run)
-line-say s run e =
-    say-append s run (10 ∷ [])
-    ∙ ap (λ (l : List ℕ). l ++ sayInput (stepInput s run) (10 ∷ [])) (run-says s run e)
-    ∙ append-nil (sayByte (stepInput s run) 10)
-    ∙ sym (newline-says (stepInput s run) 10 refl)
-
--- at an index i of the input, whose line ends at `end`: `here` is where the bytes before i lead, `run` where those of the line lead
-module _ (s here run : State) (input : List ℕ) (i end : ℕ) (h : i ≤ length input) (e : end ≡ i + beforeNewline (drop i input)) (p : here ≡ stepInput s (take i input)) (q : run ≡ stepInput here (take (end - i) (drop i input))) where
-  led : run ≡ stepInput (stepInput s (take i input)) (take (end - i) (drop i input))
-  led = q ∙ ap (λ (x : State). stepInput x (take (end - i) (drop i input))) p
-
-  line-after : end < length input → lineAfter run ≡ stepInput s (take (end + 1) input)
-  line-after less =
-      ap lineAfter led
-      ∙ sym (line-step (stepInput s (take i input)) (take (end - i) (drop i input)))
-      ∙ sym (foldl-append stepByte s (take i input) (take (end - i) (drop i input) ++ (10 ∷ [])))
-      ∙ ap (λ (t : List ℕ). stepInput s t) (sym (line-taken input i end h e less))
-
-  line-says : end < length input → sayInput s (take i input) ++ lineSays run ≡ sayInput s (take (end + 1) input)
-  line-says less =
-      ap (λ (l : List ℕ). sayInput s (take i input) ++ l) (ap lineSays led ∙ sym (line-say (stepInput s (take i input)) (take (end - i) (drop i input)) (run-between input i end h e)))
-      ∙ sym (say-append s (take i input) (take (end - i) (drop i input) ++ (10 ∷ [])))
-      ∙ ap (λ (t : List ℕ). sayInput s t) (sym (line-taken input i end h e less))
-
-  -- the same, with what the line puts into the output behind what the bytes before i put there
-  pub line-turn :
-      {next : State} {out mid out′ : List ℕ} {at n : ℕ} →
-      end < length input →
-      66 * length input ≤ length out →
-      next ≡ lineAfter run →
-      Put (66 * i) out 0 (sayInput s (take i input)) mid at →
-      Put 66 mid at (lineSays run) out′ n →
-      (next ≡ stepInput s (take (end + 1) input)) × Put (66 * (end + 1)) out 0 (sayInput s (take (end + 1) input)) out′ n
-  line-turn less room to before turn =
-      let behind = end-behind input i end h e in
-      (to ∙ line-after less, put-said (66 * (end + 1)) (put-next (66 * (end + 1)) before turn (omega (arith, room, h)) (omega (arith, behind))) (line-says less) (omega arith))
-
-  all-taken : end ≡ length input → take i input ++ take (end - i) (drop i input) ≡ input
-  all-taken z = ap (λ (t : List ℕ). take i input ++ t) (run-last input i end h e z) ∙ take-append-drop i input
-
-  pub rest-after : end ≡ length input → run ≡ stepInput s input
-  rest-after z =
-      led
-      ∙ sym (foldl-append stepByte s (take i input) (take (end - i) (drop i input)))
-      ∙ ap (λ (t : List ℕ). stepInput s t) (all-taken z)
-
-  pub rest-says : end ≡ length input → sayInput s (take i input) ≡ sayInput s input
-  rest-says z =
-      sym (append-nil (sayInput s (take i input)))
-      ∙ ap (λ (l : List ℕ). sayInput s (take i input) ++ l) (sym (run-says (stepInput s (take i input)) (take (end - i) (drop i input)) (run-between input i end h e)))
-      ∙ sym (say-append s (take i input) (take (end - i) (drop i input)))
-      ∙ ap (λ (t : List ℕ). sayInput s t) (all-taken z)
-
--- ---- the two calls
-
-same-went : {x y : Session} {m k : ℕ} → x ≡ y → m ≡ k → t.Went x m ≡ t.Went y k
-same-went p q = rw (p, q)
+-- ---- a call, by its answer
 
 front : (n : ℕ) (out : List ℕ) → n ≤ length out → Front n out
 front n out h = (h, sym (length-take-le n out h))
 
-whole-session : (x : Session) → x ≡ record { loading = x .loading; kept = x .kept; loader = x .loader }
-whole-session x = refl
+none-written : (out : List ℕ) → out ≡ written out 0 []
+none-written out = sym (written-none out 0)
 
-ends-at : {m k : ℕ} → m ≡ 0 + k → m ≡ k
-ends-at p = omega (arith, p)
+module _ {most : ℕ} {s after : State} {said : List ℕ} where
+  pub no-room : (out : List ℕ) → length out < most → Turns most s after said out t.NoRoom s out
+  no-room out h =
+      let p = lt-leb most (length out) h in
+      record { answer = rw p; state = rw p; output = rw p (none-written out); front = front 0 out (omega arith); short = omega arith }
 
--- what each answers, of a session's state, a test's number, what an undamaged call says and leaves, and the output
-module _ (s : State) (out : List ℕ) where
-  pub feed-damaged : (input : List ℕ) → readyAll s ≡ false → feedTest s input (length out) ≡ 0
-  unfolding feedTest
-  feed-damaged input e = rw e
+  pub damaged : (out : List ℕ) → most ≤ length out → ready (s .load) ≡ false → Turns most s after said out t.Damaged s out
+  damaged out h q =
+      let p = le-leb most (length out) h in
+      record { answer = rw (p, q); state = rw (p, q); output = rw (p, q) (none-written out); front = front 0 out (omega arith); short = omega arith }
 
-  pub feed-short : (input : List ℕ) → readyAll s ≡ true → length out < 66 * length input → feedTest s input (length out) ≡ 12
-  unfolding feedTest
-  feed-short input e h = rw (e, lt-leb (66 * length input) (length out) h)
+  pub went :
+      {n : ℕ} {x : Session} {st : Store} {line out out′ : List ℕ} →
+      most ≤ length out →
+      ready (s .load) ≡ true →
+      state st line x ≡ after →
+      Put most out 0 said out′ n →
+      Turns most s after said out (t.Went x n) (state st line x) out′
+  went {n = n} {x = x} {out = out} {out′ = out′} h q a w =
+      let p = le-leb most (length out) h in
+      let size = put-length w (omega (arith, w .short, h)) in
+      let counts : n ≡ length said = omega (arith, w .ends) in
+      record {
+        answer = rw (p, q) (ap (λ (y : Session). t.Went y n) (ap sessionOf a) ∙ ap (λ (k : ℕ). t.Went (sessionOf after) k) counts);
+        state = rw (p, q) a;
+        output = rw (p, q) (w .bytes);
+        front = front n out′ (omega (arith, counts, w .short, size, h));
+        short = omega (arith, counts, w .short);
+      }
 
-  pub feed-fine : (input : List ℕ) → readyAll s ≡ true → 66 * length input ≤ length out → feedTest s input (length out) ≡ 1
-  unfolding feedTest
-  feed-fine input e h = rw (e, le-leb (66 * length input) (length out) h)
+-- a call that hands on what another did, of the same output
+module _ {m n : ℕ} {z s after after′ : State} {said said′ out : List ℕ} {r : Turn} {s′ : State} {out′ : List ℕ} (turn : Turns m z after said out r s′ out′) (h : m ≤ n) (k : n ≤ length out) where
+  pub hands-on : ready (z .load) ≡ true → ready (s .load) ≡ true → after ≡ after′ → said ≡ said′ → Turns n s after′ said′ out r s′ out′
+  hands-on fine fine′ a b =
+      let p = le-leb n (length out) k in
+      let q = le-leb m (length out) (omega (arith, h, k)) in
+      record {
+        answer = rw (p, fine′) (handed q ∙ ap (λ (x : State). t.Went (sessionOf x) (length said)) a ∙ ap (λ (l : List ℕ). t.Went (sessionOf after′) (length l)) b);
+        state = rw (p, fine′) (state-is q ∙ a);
+        output = rw (p, fine′) (output-is q ∙ ap (λ (l : List ℕ). written out 0 l) b);
+        front = turn .front;
+        short = omega (arith, turn .short, h);
+      }
+    where
+      handed : leb m (length out) ≡ true → r ≡ t.Went (sessionOf after) (length said)
+      handed q = let z = turn .answer in rw (q, fine) at z
 
-  pub feed-refused :
-      (input : List ℕ) (k : ℕ) →
-      feedTest s input (length out) ≡ k →
-      eqb k 1 ≡ false →
-      (t.Refused k ≡ feedAnswer s input (length out)) × ((s ≡ feedAfter s input (length out)) × ((out ≡ written out 0 (feedSays s input (length out))) × Front 0 out))
-  unfolding feedAnswer feedAfter feedSays
-  feed-refused input k e z = (rw (e, z), (rw (e, z), (rw (e, z) (sym (written-none out 0)), front 0 out (omega arith))))
+      state-is : leb m (length out) ≡ true → s′ ≡ after
+      state-is q = let z = turn .state in rw (q, fine) at z
 
-  pub feed-went :
-      (input : List ℕ) (st : Store) (line text : List ℕ) (x : Session) (out′ : List ℕ) (n : ℕ) →
-      readyAll s ≡ true →
+      output-is : leb m (length out) ≡ true → out′ ≡ written out 0 said
+      output-is q = let z = turn .output in rw (q, fine) at z
+
+-- a state with other slices that are the same
+same-slices : {st : Store} {line : List ℕ} {l : Loader} (s : State) → load st line l ≡ load (s .load .store) (s .load .line) l → state st line (sessionOf s) ≡ s
+same-slices s p = ap (λ (x : Load). state (x .store) (x .line) (sessionOf s)) p
+
+-- ---- the line under way
+
+pub unmarked-yes : (line : List ℕ) (l : Loader) → atMark line l ≡ true → withKept l 0 ≡ unmarked line l
+unfolding unmarked
+unmarked-yes line l p = rw p
+
+pub unmarked-no : (line : List ℕ) (l : Loader) → atMark line l ≡ false → l ≡ unmarked line l
+unfolding unmarked
+unmarked-no line l p = rw p
+
+pub ready-unmarked : (s : Load) → ready (withoutMark s) ≡ ready s
+unfolding ready unmarked
+ready-unmarked s = by-test (atMark (s .line) (s .loader)) refl
+  where
+    by-test :
+        (m : Bool) →
+        atMark (s .line) (s .loader) ≡ m →
+        (undamagedOf (s .store) && (eqb (length (s .line)) lineLimit && leb (cond m (withKept (s .loader) 0) (s .loader) .kept) 601)) ≡ (undamagedOf (s .store) && (eqb (length (s .line)) lineLimit && leb (s .loader .kept) 601))
+    by-test true p = let k = eqb-true (s .loader .kept) 1 (and-both (eqb (s .loader .kept) 1) (eqb (getD (s .line) 0 0) mark) p .0) in rw k
+    by-test false p = refl
+
+-- whether a byte leaves the line `?`
+byte-marks : (s : Load) (b : ℕ) → length (s .line) ≡ lineLimit → atMark (stepByte s b .line) (stepByte s b .loader) ≡ (eqb (s .loader .kept) 0 && eqb b mark)
+byte-marks s b full = by-newline (eqb b newline) refl
+  where
+    by-newline : (x : Bool) → eqb b newline ≡ x → atMark (stepByte s b .line) (stepByte s b .loader) ≡ (eqb (s .loader .kept) 0 && eqb b mark)
+    by-newline true p =
+        let k = eqb-true (stepByte s b .loader .kept) 0 (byte-empties s b ∙ p) in
+        let m = ne-eqb b mark (λ z. let n = eqb-true b newline p in omega (arith, z, n)) in
+        rw (k, m) (by-empty (eqb (s .loader .kept) 0))
+      where
+        by-empty : (y : Bool) → false ≡ (y && false)
+        by-empty true = refl
+        by-empty false = refl
+    by-newline false p = by-room (ltb (s .loader .kept) lineLimit) refl
+      where
+        by-kept : (y : Bool) → eqb (s .loader .kept) 0 ≡ y → (eqb (s .loader .kept + 1) 1 && eqb (getD (set (s .line) (s .loader .kept) b) 0 0) mark) ≡ (y && eqb b mark)
+        by-kept true q =
+            let z = eqb-true (s .loader .kept) 0 q in
+            rw (z, getD-set-same (s .line) 0 b 0 (omega (arith, full)))
+        by-kept false q = rw (ne-eqb (s .loader .kept + 1) 1 (λ z. eqb-false (s .loader .kept) 0 q (omega (arith, z))))
+
+        by-room : (y : Bool) → ltb (s .loader .kept) lineLimit ≡ y → atMark (stepByte s b .line) (stepByte s b .loader) ≡ (eqb (s .loader .kept) 0 && eqb b mark)
+        by-room true q = rw (joins (s .store) (s .line) (s .loader) b (eqb-false b newline p) (ltb-true (s .loader .kept) lineLimit q)) (by-kept (eqb (s .loader .kept) 0) refl)
+        by-room false q =
+            let h = ltb-false (s .loader .kept) lineLimit q in
+            rw (too-long (s .store) (s .line) (s .loader) b (eqb-false b newline p) h, ne-eqb (s .loader .kept) 0 (λ z. omega (arith, z, h)))
+
+-- ---- the input up to a byte that ends something: n bytes before it join the line or end lines, and say nothing
+
+module _ (go stop : Load → State) (said : Load → List ℕ) where
+  pub record Split (s : Load) (input : List ℕ) (n : ℕ) : Type 0 where
+    pub inside : n ≤ length input
+    pub all : n ≡ length input → (takeInput (go s) input ≡ go (stepPiece s input)) × (sayInput (go s) input ≡ [])
+    pub some :
+        n < length input →
+        (takeInput (go s) input ≡ takeInput (stop (stepPiece s (take n input))) (drop (suc n) input))
+        × (sayInput (go s) input ≡ said (stepPiece s (take n input)) ++ sayInput (stop (stepPiece s (take n input))) (drop (suc n) input))
+
+  split-none : (s : Load) → Split s [] 0
+  split-none s = record { inside = omega arith; all = λ e. (refl, refl); some = λ h. absurd (omega (arith, h)) }
+
+  split-here : (s : Load) (b : ℕ) (bs : List ℕ) → takeByte (go s) b ≡ stop s → sayByte (go s) b ≡ said s → Split s (b ∷ bs) 0
+  split-here s b bs p q =
+      record {
+        inside = omega arith;
+        all = λ e. absurd (omega (arith, e));
+        some = λ h. (ap (λ (x : State). takeInput x bs) p, ap (λ (l : List ℕ). l ++ sayInput (takeByte (go s) b) bs) q ∙ ap (λ (x : State). said s ++ sayInput x bs) p);
+      }
+
+  split-later : (s : Load) (b : ℕ) (bs : List ℕ) (n : ℕ) → takeByte (go s) b ≡ go (stepByte s b) → sayByte (go s) b ≡ [] → Split (stepByte s b) bs n → Split s (b ∷ bs) (suc n)
+  split-later s b bs n p q rest =
+      let says : sayInput (go s) (b ∷ bs) ≡ sayInput (go (stepByte s b)) bs = ap (λ (l : List ℕ). l ++ sayInput (takeByte (go s) b) bs) q ∙ ap (λ (x : State). sayInput x bs) p in
+      record {
+        inside = omega (arith, rest .inside);
+        all = λ e. let r = rest .all (omega (arith, e)) in (ap (λ (x : State). takeInput x bs) p ∙ r .0, says ∙ r .1);
+        some = λ h. let r = rest .some (omega (arith, h)) in (ap (λ (x : State). takeInput x bs) p ∙ r .0, says ∙ r .1);
+      }
+
+-- rule text, up to the newline that ends the line `?`
+pub text-split : (s : Load) (input : List ℕ) → Ready s → Split reading textAfter textSays s input (textEnd (eqb (s .loader .kept) 0) (atMark (s .line) (s .loader)) input)
+unfolding textEnd
+text-split s [] r = split-none reading textAfter textSays s
+text-split s (b ∷ bs) r = by-test (atMark (s .line) (s .loader) && eqb b newline) refl (subst (λ (n : ℕ). Split reading textAfter textSays (stepByte s b) bs n) same (text-split (stepByte s b) bs (ready-step s b r)))
+  where
+    same : textEnd (eqb (stepByte s b .loader .kept) 0) (atMark (stepByte s b .line) (stepByte s b .loader)) bs ≡ textEnd (eqb b newline) (eqb (s .loader .kept) 0 && eqb b mark) bs
+    same =
+        ap (λ (x : Bool). textEnd x (atMark (stepByte s b .line) (stepByte s b .loader)) bs) (byte-empties s b)
+        ∙ ap (λ (x : Bool). textEnd (eqb b newline) x bs) (byte-marks s b (r .line))
+
+    by-test :
+        (x : Bool) →
+        (atMark (s .line) (s .loader) && eqb b newline) ≡ x →
+        Split reading textAfter textSays (stepByte s b) bs (textEnd (eqb b newline) (eqb (s .loader .kept) 0 && eqb b mark) bs) →
+        Split reading textAfter textSays s (b ∷ bs) (cond x 0 (suc (textEnd (eqb b newline) (eqb (s .loader .kept) 0 && eqb b mark) bs)))
+    by-test true p rest = split-here reading textAfter textSays s b bs (rw p) (rw p)
+    by-test false p rest = split-later reading textAfter textSays s b bs _ (rw p) (rw p) rest
+
+-- question lines, up to a newline
+pub line-split : (s : Load) (input : List ℕ) → Split asking (λ (x : Load). asking (emptied x)) answerText s input (beforeNewline input)
+unfolding beforeNewline
+line-split s [] = split-none asking (λ (x : Load). asking (emptied x)) answerText s
+line-split s (b ∷ bs) = by-test (eqb b newline) refl (line-split (stepByte s b) bs)
+  where
+    by-test :
+        (x : Bool) →
+        eqb b newline ≡ x →
+        Split asking (λ (y : Load). asking (emptied y)) answerText (stepByte s b) bs (beforeNewline bs) →
+        Split asking (λ (y : Load). asking (emptied y)) answerText s (b ∷ bs) (cond x 0 (suc (beforeNewline bs)))
+    by-test true p rest = split-here asking (λ (y : Load). asking (emptied y)) answerText s b bs (rw p) (rw p)
+    by-test false p rest = split-later asking (λ (y : Load). asking (emptied y)) answerText s b bs _ (rw p) (rw p) rest
+
+-- the same from an index of the input, whose line ends at `end`
+module _ (here : Load) (input : List ℕ) (i end : ℕ) (h : i ≤ length input) (e : end ≡ i + beforeNewline (drop i input)) {there : Load} (took : there ≡ stepPiece here (take (end - i) (drop i input))) where
+  pub lines-over : end ≡ length input → (takeInput (asking here) (drop i input) ≡ asking there) × (sayInput (asking here) (drop i input) ≡ [])
+  lines-over q =
+      let a = line-split here (drop i input) .all (omega (arith, e, q, length-drop i input)) in
+      (a .0 ∙ sym (ap asking (took ∙ ap (stepPiece here) (run-last input i end h e q))), a .1)
+
+  pub line-over :
+      (end ≡ length input → ⊥) →
+      (takeInput (asking here) (drop i input) ≡ takeInput (asking (emptied there)) (drop (end + 1) input))
+      × (sayInput (asking here) (drop i input) ≡ answerText there ++ sayInput (asking (emptied there)) (drop (end + 1) input))
+  line-over q =
+      let a = line-split here (drop i input) .some (omega (arith, e, q, length-drop i input, end-within input i end h e)) in
+      let run : end - i ≡ beforeNewline (drop i input) = omega (arith, e) in
+      let there-is : stepPiece here (take (beforeNewline (drop i input)) (drop i input)) ≡ there = sym (took ∙ ap (λ (n : ℕ). stepPiece here (take n (drop i input))) run) in
+      let past : i + suc (beforeNewline (drop i input)) ≡ end + 1 = omega (arith, e) in
+      let behind : drop (suc (beforeNewline (drop i input))) (drop i input) ≡ drop (end + 1) input = drop-drop (suc (beforeNewline (drop i input))) i input ∙ ap (λ (n : ℕ). drop n input) past in (
+        a .0 ∙ ap (λ (x : Load). takeInput (asking (emptied x)) (drop (suc (beforeNewline (drop i input))) (drop i input))) there-is ∙ ap (takeInput (asking (emptied there))) behind,
+        a .1 ∙ ap (λ (x : Load). answerText x ++ sayInput (asking (emptied x)) (drop (suc (beforeNewline (drop i input))) (drop i input))) there-is ∙ ap (λ (l : List ℕ). answerText there ++ sayInput (asking (emptied there)) l) behind,
+      )
+
+-- ---- where the rule text ends, at an index of the input
+
+module _ (input : List ℕ) (i : ℕ) (none lone : Bool) where
+  pub end-here : i < length input → (lone && eqb (getD input i 0) newline) ≡ true → textEnd none lone (drop i input) ≡ 0
+  unfolding textEnd
+  end-here h p = ap (textEnd none lone) (drop-cons input i 0 h) ∙ rw p
+
+  pub end-later : i < length input → (lone && eqb (getD input i 0) newline) ≡ false → textEnd none lone (drop i input) ≡ suc (textEnd (eqb (getD input i 0) newline) (none && eqb (getD input i 0) mark) (drop (i + 1) input))
+  unfolding textEnd
+  end-later h p =
+      ap (textEnd none lone) (drop-cons input i 0 h)
+      ∙ rw p (ap (λ (k : ℕ). suc (textEnd (eqb (getD input i 0) newline) (none && eqb (getD input i 0) mark) (drop k input))) (sym (add-one i)))
+
+  pub end-none : length input ≤ i → textEnd none lone (drop i input) ≡ 0
+  unfolding textEnd
+  end-none h = ap (textEnd none lone) (drop-of-length-le input {i = i} h)
+
+pub text-inside : (none lone : Bool) (input : List ℕ) → textEnd none lone input ≤ length input
+unfolding textEnd
+text-inside none lone [] = omega arith
+text-inside none lone (b ∷ bs) = by-test (lone && eqb b newline) (text-inside (eqb b newline) (none && eqb b mark) bs)
+  where
+    by-test : (x : Bool) → textEnd (eqb b newline) (none && eqb b mark) bs ≤ length bs → cond x 0 (suc (textEnd (eqb b newline) (none && eqb b mark) bs)) ≤ length (b ∷ bs)
+    by-test true h = omega arith
+    by-test false h = omega (arith, h)
+
+-- the bytes behind an index
+pub rest-is : (input : List ℕ) (k : ℕ) → take (length input - k) (drop k input) ≡ drop k input
+rest-is input k = take-all (length input - k) (drop k input) (omega (arith, length-drop k input))
+
+pub no-first : (line : List ℕ) → length line ≡ 0 → getD line 0 0 ≡ 0
+no-first [] h = refl
+no-first (b ∷ bs) h = absurd (omega (arith, h))
+
+-- ---- a question line that is kept
+
+module _ (st : Store) (line : List ℕ) (kept : ℕ) where
+  pub answer-long : lineLimit < kept → Refused 1 ≡ answerOf st line kept
+  answer-long h = rw (lt-ltb lineLimit kept h)
+
+  pub answer-short : kept ≤ lineLimit → asked (questionOf st) (fields (take kept line)) ≡ answerOf st line kept
+  answer-short h = rw (le-ltb lineLimit kept h)
+
+-- ---- what the loader's calls answer says whether the state is damaged
+
+end-refused : {n : ℕ} (s : Load) → e.Refused n ≡ endAnswer s → ready s ≡ false
+unfolding endAnswer
+end-refused {n} s q = by-test (ready s) refl q
+  where
+    by-test : (b : Bool) → ready s ≡ b → e.Refused n ≡ cond b (e.Report (reportOf (stepEnd s .loader)) freshLoader) (e.Refused 0) → ready s ≡ false
+    by-test true p q = let z : _≡_ {A = ℕ} 0 1 = cc in absurd (omega arith)
+    by-test false p q = p
+
+end-reported : {a : Report} {l : Loader} (s : Load) → e.Report a l ≡ endAnswer s → ready s ≡ true
+unfolding endAnswer
+end-reported {a} {l} s q = by-test (ready s) refl q
+  where
+    by-test : (b : Bool) → ready s ≡ b → e.Report a l ≡ cond b (e.Report (reportOf (stepEnd s .loader)) freshLoader) (e.Refused 0) → ready s ≡ true
+    by-test true p q = p
+    by-test false p q = let z : _≡_ {A = ℕ} 0 1 = cc in absurd (omega arith)
+
+end-stays : (s : Load) → ready s ≡ false → endAfter s ≡ s
+unfolding endAfter
+end-stays s p = rw p
+
+-- ---- the end of the rule text, by what the end call answers and leaves
+
+module _ (s : State) {last : Loader} (p : last ≡ unmarked (s .load .line) (s .load .loader)) {r : Ended} (answer : r ≡ endAnswer (load (s .load .store) (s .load .line) last)) {st : Store} {line : List ℕ} (after : load st line (endedLoader last r) ≡ endAfter (load (s .load .store) (s .load .line) last)) where
+  ended : r ≡ endAnswer (withoutMark (s .load))
+  ended = answer ∙ ap (λ (x : Loader). endAnswer (load (s .load .store) (s .load .line) x)) p
+
+  pub text-damaged : {n : ℕ} (out : List ℕ) → r ≡ e.Refused n → 66 ≤ length out → Turns 66 s (textAfter (s .load)) (textSays (s .load)) out t.Damaged (state st line (sessionOf s)) out
+  text-damaged out told room =
+      let q = end-refused (withoutMark (s .load)) (sym told ∙ ended) in
+      let stays = end-stays (load (s .load .store) (s .load .line) last) (ap (λ (x : Loader). ready (load (s .load .store) (s .load .line) x)) p ∙ q) in
+      subst (λ (x : State). Turns 66 s (textAfter (s .load)) (textSays (s .load)) out t.Damaged x out)
+      (sym (same-slices s (ap (λ (x : Loader). load st line x) (sym (ap (endedLoader last) told)) ∙ after ∙ stays)))
+      (damaged out room (sym (ready-unmarked (s .load)) ∙ q))
+
+  pub text-went :
+      {a : Report} {next : Loader} {n : ℕ} {out out′ : List ℕ} →
+      r ≡ e.Report a next →
+      66 ≤ length out →
+      Put 66 out 0 (reportText a) out′ n →
+      Turns 66 s (textAfter (s .load)) (textSays (s .load)) out (t.Went (record { loading = false; loader = next }) n) (state st line (record { loading = false; loader = next })) out′
+  text-went told room w =
+      went room
+      (sym (ready-unmarked (s .load)) ∙ end-reported (withoutMark (s .load)) (sym told ∙ ended))
+      (ap asking (ap (λ (x : Loader). load st line x) (sym (ap (endedLoader last) told)) ∙ after ∙ ap (λ (x : Loader). endAfter (load (s .load .store) (s .load .line) x)) p))
+      (put-said 66 w (ap endedText (sym told ∙ ended)) (omega arith))
+
+-- ---- and the question lines behind it
+
+module _ (s : State) {out out₁ : List ℕ} {r : Turn} {st : Store} {line : List ℕ} (turn : Turns 66 s (textAfter (s .load)) (textSays (s .load)) out r (state st line (wentSession (sessionOf s) r)) out₁) (room : 66 ≤ length out) where
+  answered : {b : Bool} → ready (s .load) ≡ b → r ≡ cond b (t.Went (sessionOf (textAfter (s .load))) (length (textSays (s .load)))) t.Damaged
+  answered q = let z = turn .answer in rw (le-leb 66 (length out) room, q) at z
+
+  pub over-damaged : {n : ℕ} {after : State} {said : List ℕ} → ((x : Session) (k : ℕ) → r ≡ t.Went x k → ⊥) → n ≤ length out → Turns n s after said out t.Damaged (state st line (sessionOf s)) out₁
+  over-damaged {n} {after} {said} not-went k = by-test (ready (s .load)) refl
+    where
+      by-test : (b : Bool) → ready (s .load) ≡ b → Turns n s after said out t.Damaged (state st line (sessionOf s)) out₁
+      by-test true q = absurd (not-went _ _ (answered q))
+      by-test false q =
+          let p = le-leb 66 (length out) room in
+          let x = turn .state in
+          let y = turn .output in
+          let same = ap (λ (w : Session). state st line w) (sym (ap (wentSession (sessionOf s)) (answered q))) ∙ rw (p, q) at x in
+          let kept = (rw (p, q) at y) ∙ written-none out 0 in
+          subst (λ (w : State). Turns n s after said out t.Damaged w out₁) (sym same) (subst (λ (w : List ℕ). Turns n s after said out t.Damaged s w) (sym kept) (damaged out k q))
+
+  module _ {x : Session} {n : ℕ} (told : r ≡ t.Went x n) where
+    pub undamaged : ready (s .load) ≡ true
+    undamaged = by-test (ready (s .load)) refl
+      where
+        by-test : (b : Bool) → ready (s .load) ≡ b → ready (s .load) ≡ true
+        by-test true q = q
+        by-test false q = let y = sym told ∙ answered q in let z : _≡_ {A = ℕ} 0 1 = cc in absurd (omega arith)
+
+    pub at-most : n ≤ 66
+    at-most = let z = turn .short in let y = ap wentCount told in omega (arith, z, y)
+
+    begins : asking (load st line (x .loader)) ≡ textAfter (s .load)
+    begins =
+        let z = turn .state in
+        let y = rw (le-leb 66 (length out) room, undamaged) at z in
+        ap (λ (w : Session). asking (load st line (w .loader))) (sym (ap (wentSession (sessionOf s)) told))
+        ∙ ap (λ (w : State). asking (w .load)) y
+
+    reported : Put 66 out 0 (textSays (s .load)) out₁ n
+    reported =
+        let z = turn .output in
+        let counts : n ≡ length (textSays (s .load)) = ap wentCount (sym told ∙ answered undamaged) in
+        record { bytes = rw (le-leb 66 (length out) room, undamaged) at z; ends = omega (arith, counts); short = omega (arith, counts, at-most) }
+
+    pub left-size : length out₁ ≡ length out
+    left-size = put-length reported (omega (arith, reported .short, room))
+
+    pub over-went :
+        (input : List ℕ) {line₂ out₂ : List ℕ} {last : Loader} {m : ℕ} →
+        66 * suc (length input) ≤ length out →
+        asking (load st line₂ last) ≡ takeInput (asking (load st line (x .loader))) input →
+        Put (66 * length input) out₁ n (sayInput (asking (load st line (x .loader))) input) out₂ m →
+        Turns (66 * suc (length input)) s (takeInput (textAfter (s .load)) input) (textSays (s .load) ++ sayInput (textAfter (s .load)) input) out (t.Went (record { loading = false; loader = last }) m) (state st line₂ (record { loading = false; loader = last })) out₂
+    over-went input space a w =
+        went space undamaged (a ∙ ap (λ (y : State). takeInput y input) begins)
+        (put-said (66 * suc (length input)) (put-next (66 * suc (length input)) reported w (omega (arith, room)) (omega arith)) (ap (λ (y : State). textSays (s .load) ++ sayInput y input) begins) (omega arith))
+
+-- ---- a piece of rule text, by what the loader answers and leaves
+
+piece-refused : {n : ℕ} (s : Load) (text : List ℕ) → f.Refused n ≡ pieceAnswer s text → ready s ≡ false
+unfolding pieceAnswer
+piece-refused {n} s text q = by-test (ready s) refl q
+  where
+    by-test : (b : Bool) → ready s ≡ b → f.Refused n ≡ cond b (f.Done (stepPiece s text .loader)) (f.Refused 0) → ready s ≡ false
+    by-test true p q = let z : _≡_ {A = ℕ} 0 1 = cc in absurd (omega arith)
+    by-test false p q = p
+
+piece-done : {l : Loader} (s : Load) (text : List ℕ) → f.Done l ≡ pieceAnswer s text → ready s ≡ true
+unfolding pieceAnswer
+piece-done {l} s text q = by-test (ready s) refl q
+  where
+    by-test : (b : Bool) → ready s ≡ b → f.Done l ≡ cond b (f.Done (stepPiece s text .loader)) (f.Refused 0) → ready s ≡ true
+    by-test true p q = p
+    by-test false p q = let z : _≡_ {A = ℕ} 0 1 = cc in absurd (omega arith)
+
+piece-stays : (s : Load) (text : List ℕ) → ready s ≡ false → pieceAfter s text ≡ s
+unfolding pieceAfter
+piece-stays s text p = rw p
+
+piece-leaves : (s : Load) (text : List ℕ) → ready s ≡ true → pieceAfter s text ≡ stepPiece s text
+unfolding pieceAfter
+piece-leaves s text p = rw p
+
+is-reading : (s : State) → s .loading ≡ true → reading (s .load) ≡ s
+is-reading s p = ap (λ (b : Bool). phased b (s .load)) (sym p)
+  where
+    phased : Bool → Load → State
+    phased b l = record { loading = b; load = l }
+
+is-asking : (s : State) → s .loading ≡ false → asking (s .load) ≡ s
+is-asking s p = ap (λ (b : Bool). phased b (s .load)) (sym p)
+  where
+    phased : Bool → Load → State
+    phased b l = record { loading = b; load = l }
+
+module _ (s : State) (p : s .loading ≡ true) (input : List ℕ) (end : ℕ) (e : end ≡ textEnd (eqb (s .load .loader .kept) 0) (atMark (s .load .line) (s .load .loader)) input) {r : Fed} (answer : r ≡ pieceAnswer (s .load) (take end input)) {st : Store} {line : List ℕ} (after : load st line (fedLoader (s .load .loader) r) ≡ pieceAfter (s .load) (take end input)) where
+  pub feed-damaged : {n : ℕ} (out : List ℕ) → r ≡ f.Refused n → 66 * length input ≤ length out → Turns (66 * length input) s (takeInput s input) (sayInput s input) out t.Damaged (state st line (sessionOf s)) out
+  feed-damaged out told room =
+      let q = piece-refused (s .load) (take end input) (sym told ∙ answer) in
+      subst (λ (x : State). Turns (66 * length input) s (takeInput s input) (sayInput s input) out t.Damaged x out)
+      (sym (same-slices s (ap (λ (x : Loader). load st line x) (sym (ap (fedLoader (s .load .loader)) told)) ∙ after ∙ piece-stays (s .load) (take end input) q)))
+      (damaged out room q)
+
+  module _ {next : Loader} (told : r ≡ f.Done next) where
+    fine : ready (s .load) ≡ true
+    fine = piece-done (s .load) (take end input) (sym told ∙ answer)
+
+    led : load st line next ≡ stepPiece (s .load) (take end input)
+    led = ap (λ (x : Loader). load st line x) (sym (ap (fedLoader (s .load .loader)) told)) ∙ after ∙ piece-leaves (s .load) (take end input) fine
+
+    split : Split reading textAfter textSays (s .load) input end
+    split = subst (λ (n : ℕ). Split reading textAfter textSays (s .load) input n) (sym e) (text-split (s .load) input (ready-is (s .load) fine))
+
+    read-ready : ready (load st line next) ≡ true
+    read-ready = ap ready led ∙ is-ready (stepPiece (s .load) (take end input)) (ready-piece (s .load) (take end input) (ready-is (s .load) fine))
+
+    -- all of it is rule text
+    pub feed-all :
+        (out : List ℕ) →
+        66 * length input ≤ length out →
+        end ≡ length input →
+        Turns (66 * length input) s (takeInput s input) (sayInput s input) out (t.Went (record { loading = true; loader = next }) 0) (state st line (record { loading = true; loader = next })) out
+    feed-all out room q =
+        let a = split .all q in
+        went room fine
+        (ap reading (led ∙ ap (stepPiece (s .load)) (take-all end input (omega (arith, q)))) ∙ sym (a .0) ∙ ap (λ (x : State). takeInput x input) (is-reading s p))
+        (put-said (66 * length input) (put-none 0 out 0) (sym (a .1) ∙ ap (λ (x : State). sayInput x input) (is-reading s p)) (omega arith))
+
+    -- the line `?` ends it
+    pub feed-rest :
+        {out out′ rest line₂ : List ℕ} {st₂ : Store} {r₂ : Turn} →
+        rest ≡ drop (end + 1) input →
+        66 * length input ≤ length out →
+        (end ≡ length input → ⊥) →
+        Turns (66 * suc (length rest)) (reading (load st line next)) (takeInput (textAfter (load st line next)) rest) (textSays (load st line next) ++ sayInput (textAfter (load st line next)) rest) out r₂ (state st₂ line₂ (wentSession (record { loading = true; loader = next }) r₂)) out′ →
+        Turns (66 * length input) s (takeInput s input) (sayInput s input) out r₂ (state st₂ line₂ (wentSession (sessionOf s) r₂)) out′
+    feed-rest {out = out} {out′ = out′} {rest = rest} {line₂ = line₂} {st₂ = st₂} {r₂ = r₂} is room some turn =
+        let less : end < length input = omega (arith, some, split .inside) in
+        let small : 66 * suc (length rest) ≤ 66 * length input = omega (arith, ap length is, length-drop (end + 1) input, less) in
+        let q = split .some less in
+        let behind : rest ≡ drop (suc end) input = is ∙ ap (λ (k : ℕ). drop k input) (add-one end) in
+        let answer = turn .answer in
+        let told = rw (le-leb (66 * suc (length rest)) (length out) (omega (arith, small, room)), read-ready) at answer in
+        subst (λ (x : Session). Turns (66 * length input) s (takeInput s input) (sayInput s input) out r₂ (state st₂ line₂ x) out′)
+        (ap (wentSession (record { loading = true; loader = next })) told ∙ sym (ap (wentSession (sessionOf s)) told))
+        (hands-on turn small room read-ready fine
+        (ap (λ (x : Load). takeInput (textAfter x) rest) led
+        ∙ ap (takeInput (textAfter (stepPiece (s .load) (take end input)))) behind
+        ∙ sym (q .0)
+        ∙ ap (λ (y : State). takeInput y input) (is-reading s p))
+        (ap (λ (x : Load). textSays x ++ sayInput (textAfter x) rest) led
+        ∙ ap (λ (l : List ℕ). textSays (stepPiece (s .load) (take end input)) ++ sayInput (textAfter (stepPiece (s .load) (take end input))) l) behind
+        ∙ sym (q .1)
+        ∙ ap (λ (y : State). sayInput y input) (is-reading s p)))
+
+-- ---- question lines, and the end of the input
+
+module _ (s : State) (p : s .loading ≡ false) where
+  pub feed-asked :
+      (input : List ℕ) {out out′ line : List ℕ} {next : Loader} {n : ℕ} →
       66 * length input ≤ length out →
-      state st line text x ≡ stepInput s input →
-      Put (66 * length input) out 0 (sayInput s input) out′ n →
-      (t.Went x n ≡ feedAnswer s input (length out)) × ((state st line text x ≡ feedAfter s input (length out)) × ((out′ ≡ written out 0 (feedSays s input (length out))) × Front n out′))
-  unfolding feedAnswer feedAfter feedSays
-  feed-went input st line text x out′ n e h p q =
-      let z = feed-fine input e h in
-      let size = put-length q (omega (arith, q .short)) in
-      (rw z (same-went (whole-session x ∙ ap sessionOf p) (ends-at (q .ends))), (rw z p, (rw z (q .bytes), front n out′ (omega (arith, q .ends, q .short, size)))))
+      ready (s .load) ≡ true →
+      asking (load (s .load .store) line next) ≡ takeInput (asking (s .load)) input →
+      Put (66 * length input) out 0 (sayInput (asking (s .load)) input) out′ n →
+      Turns (66 * length input) s (takeInput s input) (sayInput s input) out (t.Went (record { loading = false; loader = next }) n) (state (s .load .store) line (record { loading = false; loader = next })) out′
+  feed-asked input room fine a w =
+      went room fine (a ∙ ap (λ (x : State). takeInput x input) (is-asking s p))
+      (put-said (66 * length input) w (ap (λ (x : State). sayInput x input) (is-asking s p)) (omega arith))
 
-  pub finish-damaged : readyAll s ≡ false → finishTest s (length out) ≡ 0
-  unfolding finishTest
-  finish-damaged e = rw e
+  pub finish-none : (out : List ℕ) → 66 ≤ length out → ready (s .load) ≡ true → s .load .loader .kept ≡ 0 → Turns 66 s (takeLast s) (sayLast s) out (t.Went (sessionOf s) 0) s out
+  finish-none out room fine k =
+      went room fine
+      (sym (is-asking s p) ∙ ap (λ (n : ℕ). asking (load (s .load .store) (s .load .line) (withKept (s .load .loader) n))) k ∙ sym (ap (λ (b : Bool). lastBy b (s .load)) p))
+      (put-said 66 (put-none 0 out 0) (sym (ap (λ (b : Bool). sayLastBy b (s .load)) p ∙ silent)) (omega arith))
+    where
+      silent : sayLastBy false (s .load) ≡ []
+      silent = rw (le-ltb 0 (s .load .loader .kept) (omega (arith, k)))
 
-  pub finish-short : readyAll s ≡ true → length out < 132 → finishTest s (length out) ≡ 12
-  unfolding finishTest
-  finish-short e h = rw (e, lt-leb 132 (length out) h)
+  pub finish-asked :
+      {out out′ : List ℕ} {next : Loader} {n : ℕ} →
+      66 ≤ length out →
+      ready (s .load) ≡ true →
+      (s .load .loader .kept ≡ 0 → ⊥) →
+      next ≡ withKept (s .load .loader) 0 →
+      Put 66 out 0 (answerText (s .load)) out′ n →
+      Turns 66 s (takeLast s) (sayLast s) out (t.Went (record { loading = false; loader = next }) n) (state (s .load .store) (s .load .line) (record { loading = false; loader = next })) out′
+  finish-asked room fine k q w =
+      went room fine
+      (ap (λ (l : Loader). asking (load (s .load .store) (s .load .line) l)) q ∙ sym (ap (λ (b : Bool). lastBy b (s .load)) p))
+      (put-said 66 w (sym (ap (λ (b : Bool). sayLastBy b (s .load)) p ∙ says)) (omega arith))
+    where
+      says : sayLastBy false (s .load) ≡ answerText (s .load)
+      says = rw (lt-ltb 0 (s .load .loader .kept) (omega (arith, k)))
 
-  pub finish-fine : readyAll s ≡ true → 132 ≤ length out → finishTest s (length out) ≡ 1
-  unfolding finishTest
-  finish-fine e h = rw (e, le-leb 132 (length out) h)
-
-  pub finish-refused :
-      (k : ℕ) →
-      finishTest s (length out) ≡ k →
-      eqb k 1 ≡ false →
-      (t.Refused k ≡ finishAnswer s (length out)) × ((s ≡ finishAfter s (length out)) × ((out ≡ written out 0 (finishSays s (length out))) × Front 0 out))
-  unfolding finishAnswer finishAfter finishSays
-  finish-refused k e z = (rw (e, z), (rw (e, z), (rw (e, z) (sym (written-none out 0)), front 0 out (omega arith))))
-
-  finish-went :
-      (st : Store) (line text : List ℕ) (x : Session) (out′ : List ℕ) (n : ℕ) →
-      readyAll s ≡ true →
-      132 ≤ length out →
-      state st line text x ≡ closeAfter (lastAfter s) →
-      Put 132 out 0 (lastSays s ++ closeSays (lastAfter s)) out′ n →
-      (t.Went x n ≡ finishAnswer s (length out)) × ((state st line text x ≡ finishAfter s (length out)) × ((out′ ≡ written out 0 (finishSays s (length out))) × Front n out′))
-  unfolding finishAnswer finishAfter finishSays
-  finish-went st line text x out′ n e h p q =
-      let z = finish-fine e h in
-      let size = put-length q (omega (arith, q .short)) in
-      (rw z (same-went (whole-session x ∙ ap sessionOf p) (ends-at (q .ends))), (rw z p, (rw z (q .bytes), front n out′ (omega (arith, q .ends, q .short, size)))))
-
--- the last line: none, or one that has a byte
-module _ (s : State) where
-  last-none : s .kept ≡ 0 → s ≡ lastAfter s
-  last-none e = rw (le-ltb 0 (s .kept) (omega (arith, e)))
-
-  last-silent : s .kept ≡ 0 → [] ≡ lastSays s
-  last-silent e = rw (le-ltb 0 (s .kept) (omega (arith, e)))
-
-  last-some : 0 < s .kept → lineAfter s ≡ lastAfter s
-  last-some h = rw (lt-ltb 0 (s .kept) h)
-
-  last-says : 0 < s .kept → lineSays s ≡ lastSays s
-  last-says h = rw (lt-ltb 0 (s .kept) h)
-
-  -- what the end of the input comes to, with no byte after the last newline, and with some
-  pub finish-none :
-      (out : List ℕ) {st : Store} {line text : List ℕ} {x : Session} {out′ : List ℕ} {n : ℕ} →
-      readyAll s ≡ true →
-      132 ≤ length out →
-      s .kept ≡ 0 →
-      state st line text x ≡ closeAfter s →
-      Put 66 out 0 (closeSays s) out′ n →
-      (t.Went x n ≡ finishAnswer s (length out)) × ((state st line text x ≡ finishAfter s (length out)) × ((out′ ≡ written out 0 (finishSays s (length out))) × Front n out′))
-  finish-none out {st} {line} {text} {x} {out′} {n} e h z p q =
-      finish-went s out st line text x out′ n e h (p ∙ ap closeAfter (last-none z))
-      (put-said 132 q (ap (λ (y : State). closeSays y) (last-none z) ∙ ap (λ (l : List ℕ). l ++ closeSays (lastAfter s)) (last-silent z)) (omega arith))
-
-  pub finish-some :
-      (out : List ℕ) {ended : State} {mid : List ℕ} {m : ℕ} {st : Store} {line text : List ℕ} {x : Session} {out′ : List ℕ} {n : ℕ} →
-      readyAll s ≡ true →
-      132 ≤ length out →
-      0 < s .kept →
-      ended ≡ lineAfter s →
-      Put 66 out 0 (lineSays s) mid m →
-      state st line text x ≡ closeAfter ended →
-      Put 66 mid m (closeSays ended) out′ n →
-      (t.Went x n ≡ finishAnswer s (length out)) × ((state st line text x ≡ finishAfter s (length out)) × ((out′ ≡ written out 0 (finishSays s (length out))) × Front n out′))
-  finish-some out {st = st} {line} {text} {x} {out′} {n} e h z a b p q =
-      let after = a ∙ last-some z in
-      finish-went s out st line text x out′ n e h (p ∙ ap closeAfter after)
-      (put-next 132 (put-said 66 b (last-says z) (omega arith)) (put-said 66 q (ap closeSays after) (omega arith)) (omega (arith, h)) (omega arith))
+pub finish-text : {s s′ : State} {out out′ : List ℕ} {r : Turn} → s .loading ≡ true → Turns 66 s (textAfter (s .load)) (textSays (s .load)) out r s′ out′ → Turns 66 s (takeLast s) (sayLast s) out r s′ out′
+finish-text {s} {s′} {out} {out′} {r} p turn = subst (λ (b : Bool). Turns 66 s (lastBy b (s .load)) (sayLastBy b (s .load)) out r s′ out′) (sym p) turn

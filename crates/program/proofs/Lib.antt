@@ -1,5 +1,4 @@
 pub mod Laws
+pub mod Questions
 pub mod Follows
-pub mod Whole
-pub mod Every
-pub mod RuleText
+pub mod Plain

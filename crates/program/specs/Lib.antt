@@ -1,2 +1,3 @@
 pub mod Program
-pub mod Input
+pub mod Turns
+pub mod Within

@@ -1,14 +1,17 @@
 -- 01, What the program reads and writes: all that it writes, as a function of all that it reads. Assumes nothing.
 use Prim.Native.Nat.{ℕ}
-use mathlib.Core.Bool.{cond}
+use mathlib.Core.Bool.{Bool, true, false, cond}
 use mathlib.Core.List.{List, [], _∷_, _++_}
 use lib.ListN.{length}
 use lib.Dec.{ltb, eqb}
+use Rattle.search.specs.Bytes.{sameBytes}
+use Rattle.alphabet.specs.Alphabet.{lineLimit, fields}
 use Rattle.store.specs.Table.{Table, fresh}
 use Rattle.access.specs.Access.{answer}
+use Rattle.access.specs.declared.Answer.{Answer}
+use Rattle.access.specs.declared.Answer.the-variants.{Refused}
 use Rattle.lists.specs.Reader.{Totals, Reader, startOn, takePiece, finish, limitedTotals}
-use Rattle.replies.specs.Replies.{answerTo, numbersLine, answerLine}
-use Rattle.program_line.specs.Line.{isMark}
+use Rattle.replies.specs.Replies.{newline, numbersLine, answerLine}
 
 -- ---- the lines of the input
 
@@ -16,10 +19,17 @@ use Rattle.program_line.specs.Line.{isMark}
 -- more line
 abbrev pub linesFrom : List ℕ → List ℕ → List (List ℕ)
 linesFrom kept [] = cond (ltb 0 (length kept)) (kept ∷ []) []
-linesFrom kept (b ∷ bs) = cond (eqb b 10) (kept ∷ linesFrom [] bs) (linesFrom (kept ++ (b ∷ [])) bs)
+linesFrom kept (b ∷ bs) = cond (eqb b newline) (kept ∷ linesFrom [] bs) (linesFrom (kept ++ (b ∷ [])) bs)
 
 abbrev pub lines : List ℕ → List (List ℕ)
 lines input = linesFrom [] input
+
+-- the line that is exactly `?`
+abbrev pub mark : ℕ
+mark = 63
+
+abbrev pub isMark : List ℕ → Bool
+isMark line = sameBytes line (mark ∷ [])
 
 -- the lines before the first line that is exactly `?` are rule text, those after it are questions; where there is none, all are rule text
 abbrev pub ruleLines : List (List ℕ) → List (List ℕ)
@@ -33,7 +43,23 @@ questionLines (l ∷ ls) = cond (isMark l) ls (questionLines ls)
 -- lines as text, each with its newline
 abbrev pub asText : List (List ℕ) → List ℕ
 asText [] = []
-asText (l ∷ ls) = (l ++ (10 ∷ [])) ++ asText ls
+asText (l ∷ ls) = (l ++ (newline ∷ [])) ++ asText ls
+
+-- ---- a question line
+
+-- the question that a line's fields ask: subject, object, request and, where the asker has the capability, a fourth field `o`. Other
+-- fields are refused with 2, before the question's own refusals
+abbrev pub asked : (List ℕ → List ℕ → List ℕ → Bool → Answer) → List (List ℕ) → Answer
+asked ask [] = Refused 2
+asked ask (s ∷ []) = Refused 2
+asked ask (s ∷ o ∷ []) = Refused 2
+asked ask (s ∷ o ∷ r ∷ []) = ask s o r false
+asked ask (s ∷ o ∷ r ∷ c ∷ []) = cond (sameBytes c (111 ∷ [])) (ask s o r true) (Refused 2)
+asked ask (s ∷ o ∷ r ∷ c ∷ x ∷ more) = Refused 2
+
+-- a line over 600 bytes is refused with 1, before 2 and the question's own.
+unfoldable pub answerTo : (List ℕ → List ℕ → List ℕ → Bool → Answer) → List ℕ → Answer
+answerTo ask line = cond (ltb lineLimit (length line)) (Refused 1) (asked ask (fields line))
 
 -- ---- what is written
 

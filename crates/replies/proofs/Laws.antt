@@ -1,4 +1,4 @@
--- Laws of what is written: bytes put one behind the other, decimal numbers, a report and an answer, a question line by its fields. Assumes nothing.
+-- Laws of what is written: bytes put one behind the other, decimal numbers, a report and an answer. Assumes nothing.
 use mathlib.Core.Path.{_≡_, refl, sym, ap, _∙_, subst}
 use mathlib.Core.Bool.{Bool, true, false, cond}
 use mathlib.Core.List.{List, [], _∷_, _++_, append-assoc}
@@ -9,19 +9,13 @@ use lib.Dec.{ltb}
 use borrow.Author.Tests.{lt-ltb, le-ltb, ltb-true, ltb-false}
 use lib.ListN.{length, take, drop, set, length-append, take-append-drop}
 use lib.Seq.{take-at, drop-append-add, drop-drop, set-split, length-take-le}
-use Rattle.search.specs.Bytes.{written, sameBytes}
+use Rattle.search.specs.Bytes.{written}
 use Rattle.search.proofs.Laws.{length-written}
-use Rattle.alphabet.specs.Alphabet.{fields}
-use Rattle.alphabet.specs.Within.{fieldAt, part}
-use Rattle.alphabet.specs.declared.Field.the-variants.{Part, End}
-use Rattle.alphabet.proofs.Laws.{field-some, field-none}
-use Rattle.lines.proofs.Answers.{One, Two, Three, Four}
-use Rattle.answers.specs.Answers.{shown}
-use Rattle.answers.specs.declared.Shown.{Shown}
+use Rattle.access.specs.Access.{shown}
+use Rattle.access.specs.declared.Shown.{Shown}
 use Rattle.access.specs.declared.Answer.{Answer}
-use Rattle.access.specs.declared.Answer.the-variants.{Refused}
-use Rattle.replies.specs.Replies.{digits, decimal, wordOf, endingOf, answerLine, asked, answerTo}
-use Rattle.replies.specs.Put.{Put}
+use Rattle.replies.specs.Replies.{digits, decimal, wordOf, endingOf, answerLine}
+use Rattle.replies.specs.Within.{Put}
 
 -- ---- bytes put one behind the other
 
@@ -186,60 +180,3 @@ answer-said a sh b p q =
     append-assoc (wordOf a) (decimal (sh .number)) (endingOf b)
     ∙ ap (λ (t : Bool). wordOf a ++ (decimal (sh .number) ++ endingOf t)) (sym q)
     ∙ ap (λ (x : Shown). wordOf a ++ (decimal (x .number) ++ endingOf (x .bringup))) p
-
--- ---- a question line, by its fields
-
-pub asks-long : (ask : List ℕ → List ℕ → List ℕ → Bool → Answer) (line : List ℕ) → 600 < length line → Refused 1 ≡ answerTo ask line
-unfolding answerTo
-asks-long ask line h = rw (lt-ltb 600 (length line) h)
-
-asks-fields : (ask : List ℕ → List ℕ → List ℕ → Bool → Answer) (line : List ℕ) (fs : List (List ℕ)) → length line ≤ 600 → fields line ≡ fs → asked ask fs ≡ answerTo ask line
-unfolding answerTo
-asks-fields ask line fs h e = rw (le-ltb 600 (length line) h, e)
-
-module _ (ask : List ℕ → List ℕ → List ℕ → Bool → Answer) where
-  pub asks-none : (line : List ℕ) → length line ≤ 600 → fieldAt line 0 ≡ End → Refused 2 ≡ answerTo ask line
-  asks-none line h e = asks-fields ask line [] h (field-none line 0 e)
-
-  module _ {line : List ℕ} {a b : ℕ} (w : One line a b) where
-    first-field : fields line ≡ part line a b ∷ fields (drop b line)
-    first-field = field-some line 0 a b (w .field) .first-of
-
-    pub asks-one : fieldAt line b ≡ End → Refused 2 ≡ answerTo ask line
-    asks-one e = asks-fields ask line (part line a b ∷ []) (w .short) (first-field ∙ ap (λ (l : List (List ℕ)). part line a b ∷ l) (field-none line b e))
-
-  module _ {line : List ℕ} {a b c d : ℕ} (w : Two line a b c d) where
-    two-fields : fields line ≡ part line a b ∷ part line c d ∷ fields (drop d line)
-    two-fields = first-field (w .first) ∙ ap (λ (l : List (List ℕ)). part line a b ∷ l) (field-some line b c d (w .field) .first-of)
-
-    pub asks-two : fieldAt line d ≡ End → Refused 2 ≡ answerTo ask line
-    asks-two e = asks-fields ask line (part line a b ∷ part line c d ∷ []) (w .first .short) (two-fields ∙ ap (λ (l : List (List ℕ)). part line a b ∷ part line c d ∷ l) (field-none line d e))
-
-  module _ {line : List ℕ} {a b c d e f : ℕ} (w : Three line a b c d e f) where
-    abbrev fields-before : List (List ℕ) → List (List ℕ)
-    fields-before l = part line a b ∷ part line c d ∷ part line e f ∷ l
-
-    three-fields : fields line ≡ fields-before (fields (drop f line))
-    three-fields = two-fields (w .first) ∙ ap (λ (l : List (List ℕ)). part line a b ∷ part line c d ∷ l) (field-some line d e f (w .field) .first-of)
-
-    pub asks-three : fieldAt line f ≡ End → ask (part line a b) (part line c d) (part line e f) false ≡ answerTo ask line
-    asks-three x = asks-fields ask line (fields-before []) (w .first .first .short) (three-fields ∙ ap fields-before (field-none line f x))
-
-  module _ {line : List ℕ} {a b c d e f g h : ℕ} (w : Four line a b c d e f g h) where
-    four-fields : fields line ≡ fields-before (w .first) (part line g h ∷ fields (drop h line))
-    four-fields = three-fields (w .first) ∙ ap (fields-before (w .first)) (field-some line f g h (w .field) .first-of)
-
-    pub asks-five : {i j : ℕ} → fieldAt line h ≡ Part i j → Refused 2 ≡ answerTo ask line
-    asks-five {i} {j} x =
-        asks-fields ask line (fields-before (w .first) (part line g h ∷ part line i j ∷ fields (drop j line))) (w .first .first .first .short)
-        (four-fields ∙ ap (λ (l : List (List ℕ)). fields-before (w .first) (part line g h ∷ l)) (field-some line h i j x .first-of))
-
-    pub asks-four :
-        {t : Bool} →
-        fieldAt line h ≡ End →
-        sameBytes (part line g h) (111 ∷ []) ≡ t →
-        cond t (ask (part line a b) (part line c d) (part line e f) true) (Refused 2) ≡ answerTo ask line
-    asks-four x q =
-        ap (λ (z : Bool). cond z (ask (part line a b) (part line c d) (part line e f) true) (Refused 2)) (sym q)
-        ∙ asks-fields ask line (fields-before (w .first) (part line g h ∷ [])) (w .first .first .first .short)
-        (four-fields ∙ ap (λ (l : List (List ℕ)). fields-before (w .first) (part line g h ∷ l)) (field-none line h x))

@@ -1,2 +1,2 @@
 pub mod Replies
-pub mod Put
+pub mod Within

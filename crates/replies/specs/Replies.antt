@@ -1,33 +1,14 @@
--- 01, What the program reads and writes: the answer to a question line, and the lines that are written, as bytes. Assumes nothing.
+-- 01, What the program reads and writes: the lines that are written, as bytes. Assumes nothing.
 use Prim.Native.Nat.{ℕ, zero, suc, _+_, _/_, _%_}
 use mathlib.Core.Bool.{Bool, true, false, cond}
 use mathlib.Core.List.{List, [], _∷_, _++_}
-use lib.ListN.{length}
 use lib.Dec.{ltb}
-use Rattle.search.specs.Bytes.{sameBytes}
-use Rattle.alphabet.specs.Alphabet.{lineLimit, fields}
-use Rattle.answers.specs.Answers.{shown}
+use Rattle.access.specs.Access.{shown}
 use Rattle.access.specs.declared.Answer.{Answer}
 use Rattle.access.specs.declared.Answer.the-variants.{Granted, Denied, Override, Refused}
-use Rattle.reports.specs.declared.Report.{Report}
 
--- ---- a question line
-
--- the question that a line's fields ask: subject, object, request and, where the asker has the capability, a fourth field `o`. Other
--- fields are refused with 2, before the question's own refusals
-abbrev pub asked : (List ℕ → List ℕ → List ℕ → Bool → Answer) → List (List ℕ) → Answer
-asked ask [] = Refused 2
-asked ask (s ∷ []) = Refused 2
-asked ask (s ∷ o ∷ []) = Refused 2
-asked ask (s ∷ o ∷ r ∷ []) = ask s o r false
-asked ask (s ∷ o ∷ r ∷ c ∷ []) = cond (sameBytes c (111 ∷ [])) (ask s o r true) (Refused 2)
-asked ask (s ∷ o ∷ r ∷ c ∷ x ∷ more) = Refused 2
-
--- a line over 600 bytes is refused with 1, before 2 and the question's own. (The program has tested the state before: 0 comes first there)
-unfoldable pub answerTo : (List ℕ → List ℕ → List ℕ → Bool → Answer) → List ℕ → Answer
-answerTo ask line = cond (ltb lineLimit (length line)) (Refused 1) (asked ask (fields line))
-
--- ---- what is written
+abbrev pub newline : ℕ
+newline = 10
 
 -- a number in decimal digits, with no leading zero
 abbrev pub digits : ℕ → ℕ → List ℕ
@@ -39,13 +20,9 @@ decimal n = digits (suc n) n
 
 -- numbers on one line, with a space between
 abbrev pub numbersLine : List ℕ → List ℕ
-numbersLine [] = 10 ∷ []
-numbersLine (n ∷ []) = decimal n ++ (10 ∷ [])
+numbersLine [] = newline ∷ []
+numbersLine (n ∷ []) = decimal n ++ (newline ∷ [])
 numbersLine (n ∷ m ∷ ms) = (decimal n ++ (32 ∷ [])) ++ numbersLine (m ∷ ms)
-
--- the report: lines, accepted, skipped, refused, first refused line, its reason
-abbrev pub reportText : Report → List ℕ
-reportText r = numbersLine (r .lines ∷ r .accepted ∷ r .skipped ∷ r .refused ∷ r .first ∷ r .reason ∷ [])
 
 -- `granted `, `denied `, `override `, `refused `
 abbrev pub wordOf : Answer → List ℕ
@@ -56,8 +33,8 @@ wordOf (Refused n) = 114 ∷ 101 ∷ 102 ∷ 117 ∷ 115 ∷ 101 ∷ 100 ∷ 32 
 
 -- the line's end: ` b` where the rule has b, and a newline
 abbrev pub endingOf : Bool → List ℕ
-endingOf true = 32 ∷ 98 ∷ 10 ∷ []
-endingOf false = 10 ∷ []
+endingOf true = 32 ∷ 98 ∷ newline ∷ []
+endingOf false = newline ∷ []
 
 -- `granted 6`, `granted 6 b`, `denied 7`, `override 7` or `refused 3`, with the number that applies
 unfoldable pub answerLine : Answer → List ℕ

@@ -1,19 +1,12 @@
-// The lines that the program writes (01, What the program reads and writes): the report and the answers, as bytes of an output; and the
-// answer to a question line.
+// The lines that the program writes (01, What the program reads and writes): the report and the answers, as bytes of an output.
 use access::Answer;
-use alphabet::Field;
 use reports::Report;
 ghost use mathlib.Core.Path.{_≡_};
 ghost use mathlib.Core.List.{[], _∷_, _++_};
 ghost use Prim.Native.Nat.{_+_, _≤_};
 ghost use lib.ListN.{length};
-ghost use Rattle.store.specs.Layout.{store};
-ghost use Rattle.access.specs.Access.{questionOf};
-ghost use Rattle.replies.specs.Replies.{decimal, reportText, wordOf, answerLine, answerTo};
-ghost use Rattle.replies.specs.Put.{Put};
-
-// The most bytes of a question line.
-const LIMIT: usize = 600;
+ghost use Rattle.replies.specs.Replies.{decimal, wordOf, answerLine};
+ghost use Rattle.replies.specs.Within.{Put, reportText};
 
 // Writes a number in decimal digits from index `at`, and answers the index behind it. Who calls it has made sure that there is room.
 fn write_number(out: &mut [u8], at: usize, n: u32) -> usize
@@ -39,7 +32,7 @@ fn write_field(out: &mut [u8], at: usize, n: u32, behind: u8) -> usize
     next + 1
 }
 
-// Writes the report on one line, from index `at`. Who calls it has made sure that there is room for it: `program::feed` and `program::finish` test it.
+// Writes the report on one line, from index `at`. Who calls it has made sure that there is room for it: `program::feed` and `program::finish` test that.
 pub fn write_report(out: &mut [u8], at: usize, report: Report) -> usize
     requires { ⌜ at + 66 ≤ length (now out) ⌝ }
     ensures { λ r. ⌜ Put 66 (now (out .entry)) at (reportText report) (now (out .exit)) r ⌝ }
@@ -81,7 +74,7 @@ fn write_word(out: &mut [u8], at: usize, answer: Answer) -> usize
     }
 }
 
-// Writes an answer on one line, from index `at`. Who calls it has made sure that there is room for it: `program::feed` and `program::finish` test it.
+// Writes an answer on one line, from index `at`. Who calls it has made sure that there is room for it: `program::feed` and `program::finish` test that.
 pub fn write_answer(out: &mut [u8], at: usize, answer: Answer) -> usize
     requires { ⌜ at + 66 ≤ length (now out) ⌝ }
     ensures { λ r. ⌜ Put 66 (now (out .entry)) at (answerLine answer) (now (out .exit)) r ⌝ }
@@ -96,50 +89,4 @@ pub fn write_answer(out: &mut [u8], at: usize, answer: Answer) -> usize
     }
     out[end] = 10;
     end + 1
-}
-
-// The answer to a question line: refusals 1 and 2 before the question's own. Where the state is damaged a line that asks is refused with 0 by
-// the question; the program tests the whole state before it looks at a line, so none of its lines gets 1 or 2 before 0.
-pub fn question_line(labels: &[u8], entries: &[u8], words: &[u64], line: &[u8]) -> Answer
-    ensures { λ r. ⌜ r ≡ answerTo (questionOf (store (now (labels .entry)) (now (entries .entry)) (now (words .entry)))) (now (line .entry)) ⌝ }
-{
-    if LIMIT < line.len() {
-        return Answer::Refused(1);
-    }
-    let Field::Part { start: a, end: b } = alphabet::next_field(line, 0) else {
-        return Answer::Refused(2);
-    };
-    let Field::Part { start: c, end: d } = alphabet::next_field(line, b) else {
-        return Answer::Refused(2);
-    };
-    let Field::Part { start: e, end: f } = alphabet::next_field(line, d) else {
-        return Answer::Refused(2);
-    };
-    let Field::Part { start: g, end: h } = alphabet::next_field(line, f) else {
-        return access::question(
-            labels,
-            entries,
-            words,
-            &line[a..b],
-            &line[c..d],
-            &line[e..f],
-            false,
-        );
-    };
-    let Field::End = alphabet::next_field(line, h) else {
-        return Answer::Refused(2);
-    };
-    let capability = [111u8];
-    if search::same_bytes(&line[g..h], &capability) {
-        return access::question(
-            labels,
-            entries,
-            words,
-            &line[a..b],
-            &line[c..d],
-            &line[e..f],
-            true,
-        );
-    }
-    Answer::Refused(2)
 }

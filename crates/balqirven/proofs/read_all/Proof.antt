@@ -10,23 +10,21 @@ use Rattle.balqirven.proofs.read_all.Statement.{statement}
 use Rattle.balqirven.proofs.read_all.Tie as tie
 
 -- each slice has the size that it began with
-record Sizes (labels labels₀ entries entries₀ words words₀ line line₀ text text₀ out out₀ : List ℕ) : Type 0 where
+record Sizes (labels labels₀ entries entries₀ words words₀ line line₀ out out₀ : List ℕ) : Type 0 where
   pub labels-size : length labels ≡ length labels₀
   pub entries-size : length entries ≡ length entries₀
   pub words-size : length words ≡ length words₀
   pub line-size : length line ≡ length line₀
-  pub text-size : length text ≡ length text₀
   pub out-size : length out ≡ length out₀
 
 abbrev Inv-loop : tie.InvT-loop
-Inv-loop labels₀ entries₀ words₀ line₀ text₀ out₀ s₀ turns₀ labels entries words line text out s turns =
-    Sizes labels labels₀ entries entries₀ words words₀ line line₀ text text₀ out out₀
+Inv-loop labels₀ entries₀ words₀ line₀ out₀ s₀ turns₀ labels entries words line out s turns = Sizes labels labels₀ entries entries₀ words words₀ line line₀ out out₀
 
 abbrev μ-loop : tie.MeasureT-loop
-μ-loop labels₀ entries₀ words₀ line₀ text₀ out₀ s₀ turns₀ labels entries words line text out s turns = turns
+μ-loop labels₀ entries₀ words₀ line₀ out₀ s₀ turns₀ labels entries words line out s turns = turns
 
 loop-holds : tie.Need-loop-holds Inv-loop μ-loop
-loop-holds c = record { labels-size = refl; entries-size = refl; words-size = refl; line-size = refl; text-size = refl; out-size = refl }
+loop-holds c = record { labels-size = refl; entries-size = refl; words-size = refl; line-size = refl; out-size = refl }
 
 read-once-requires : tie.Need-read-once-requires Inv-loop μ-loop
 read-once-requires c κs = search needs
@@ -38,22 +36,19 @@ enum-told : tie.Need-enum-told Inv-loop μ-loop
 enum-told c = search needs
 
 same-length : tie.Need-same-length Inv-loop μ-loop
-same-length c = c .before .before .before .before .before .before .before .before .before .before .before .before .before .before .read-once .kept .0 ∙ c .before .before .before .before .before .before .before .before .before .before .before .before .before .before .before .before .before .before .before .before .before .before .loop .inv .labels-size
+same-length c = c .before .before .before .before .before .before .before .before .before .before .before .before .read-once .kept .0 ∙ c .before .before .before .before .before .before .before .before .before .before .before .before .before .before .before .before .before .before .before .loop .inv .labels-size
 
 same-length-2 : tie.Need-same-length-2 Inv-loop μ-loop
-same-length-2 c = c .before .before .before .before .before .before .before .before .before .before .before .before .before .before .read-once .kept .1 .0 ∙ c .before .before .before .before .before .before .before .before .before .before .before .before .before .before .before .before .before .before .before .before .before .before .loop .inv .entries-size
+same-length-2 c = c .before .before .before .before .before .before .before .before .before .before .before .before .read-once .kept .1 .0 ∙ c .before .before .before .before .before .before .before .before .before .before .before .before .before .before .before .before .before .before .before .loop .inv .entries-size
 
 same-length-3 : tie.Need-same-length-3 Inv-loop μ-loop
-same-length-3 c = c .before .before .before .before .before .before .before .before .before .before .before .before .before .before .read-once .kept .1 .1 .0 ∙ c .before .before .before .before .before .before .before .before .before .before .before .before .before .before .before .before .before .before .before .before .before .before .loop .inv .words-size
+same-length-3 c = c .before .before .before .before .before .before .before .before .before .before .before .before .read-once .kept .1 .1 .0 ∙ c .before .before .before .before .before .before .before .before .before .before .before .before .before .before .before .before .before .before .before .loop .inv .words-size
 
 same-length-4 : tie.Need-same-length-4 Inv-loop μ-loop
-same-length-4 c = c .before .before .before .before .before .before .before .before .before .before .before .before .before .before .read-once .kept .1 .1 .1 .0 ∙ c .before .before .before .before .before .before .before .before .before .before .before .before .before .before .before .before .before .before .before .before .before .before .loop .inv .line-size
+same-length-4 c = c .before .before .before .before .before .before .before .before .before .before .before .before .read-once .kept .1 .1 .1 .0 ∙ c .before .before .before .before .before .before .before .before .before .before .before .before .before .before .before .before .before .before .before .loop .inv .line-size
 
 same-length-5 : tie.Need-same-length-5 Inv-loop μ-loop
-same-length-5 c = c .before .before .before .before .before .before .before .before .before .before .before .before .before .before .read-once .kept .1 .1 .1 .1 .0 ∙ c .before .before .before .before .before .before .before .before .before .before .before .before .before .before .before .before .before .before .before .before .before .before .loop .inv .text-size
-
-same-length-6 : tie.Need-same-length-6 Inv-loop μ-loop
-same-length-6 c = c .before .before .before .before .before .before .before .before .before .before .before .before .before .before .read-once .kept .1 .1 .1 .1 .1 .0 ∙ c .before .before .before .before .before .before .before .before .before .before .before .before .before .before .before .before .before .before .before .before .before .before .loop .inv .out-size
+same-length-5 c = c .before .before .before .before .before .before .before .before .before .before .before .before .read-once .kept .1 .1 .1 .1 .0 ∙ c .before .before .before .before .before .before .before .before .before .before .before .before .before .before .before .before .before .before .before .loop .inv .out-size
 
 returns : tie.Need-returns Inv-loop μ-loop
 returns c = tt
@@ -65,36 +60,31 @@ loop-less : tie.Need-loop-less Inv-loop μ-loop
 loop-less c = omega arith
 
 loop-again : tie.Need-loop-again Inv-loop μ-loop
-loop-again c =
-    record {
-      labels-size = c .before .before .before .before .before .before .before .before .before .before .before .before .before .before .before .read-once .kept .0 ∙ c .before .before .before .before .before .before .before .before .before .before .before .before .before .before .before .before .before .before .before .before .before .before .before .loop .inv .labels-size;
-      entries-size = c .before .before .before .before .before .before .before .before .before .before .before .before .before .before .before .read-once .kept .1 .0 ∙ c .before .before .before .before .before .before .before .before .before .before .before .before .before .before .before .before .before .before .before .before .before .before .before .loop .inv .entries-size;
-      words-size = c .before .before .before .before .before .before .before .before .before .before .before .before .before .before .before .read-once .kept .1 .1 .0 ∙ c .before .before .before .before .before .before .before .before .before .before .before .before .before .before .before .before .before .before .before .before .before .before .before .loop .inv .words-size;
-      line-size = c .before .before .before .before .before .before .before .before .before .before .before .before .before .before .before .read-once .kept .1 .1 .1 .0 ∙ c .before .before .before .before .before .before .before .before .before .before .before .before .before .before .before .before .before .before .before .before .before .before .before .loop .inv .line-size;
-      text-size = c .before .before .before .before .before .before .before .before .before .before .before .before .before .before .before .read-once .kept .1 .1 .1 .1 .0 ∙ c .before .before .before .before .before .before .before .before .before .before .before .before .before .before .before .before .before .before .before .before .before .before .before .loop .inv .text-size;
-      out-size = c .before .before .before .before .before .before .before .before .before .before .before .before .before .before .before .read-once .kept .1 .1 .1 .1 .1 .0 ∙ c .before .before .before .before .before .before .before .before .before .before .before .before .before .before .before .before .before .before .before .before .before .before .before .loop .inv .out-size;
-    }
+loop-again c = record {
+  labels-size = c .before .before .before .before .before .before .before .before .before .before .before .before .before .read-once .kept .0 ∙ c .before .before .before .before .before .before .before .before .before .before .before .before .before .before .before .before .before .before .before .before .loop .inv .labels-size;
+  entries-size = c .before .before .before .before .before .before .before .before .before .before .before .before .before .read-once .kept .1 .0 ∙ c .before .before .before .before .before .before .before .before .before .before .before .before .before .before .before .before .before .before .before .before .loop .inv .entries-size;
+  words-size = c .before .before .before .before .before .before .before .before .before .before .before .before .before .read-once .kept .1 .1 .0 ∙ c .before .before .before .before .before .before .before .before .before .before .before .before .before .before .before .before .before .before .before .before .loop .inv .words-size;
+  line-size = c .before .before .before .before .before .before .before .before .before .before .before .before .before .read-once .kept .1 .1 .1 .0 ∙ c .before .before .before .before .before .before .before .before .before .before .before .before .before .before .before .before .before .before .before .before .loop .inv .line-size;
+  out-size = c .before .before .before .before .before .before .before .before .before .before .before .before .before .read-once .kept .1 .1 .1 .1 .0 ∙ c .before .before .before .before .before .before .before .before .before .before .before .before .before .before .before .before .before .before .before .before .loop .inv .out-size;
+}
 
 out-of-turns-requires : tie.Need-out-of-turns-requires Inv-loop μ-loop
 out-of-turns-requires c κs = search needs
 
+same-length-6 : tie.Need-same-length-6 Inv-loop μ-loop
+same-length-6 c = c .before .before .loop .inv .labels-size
+
 same-length-7 : tie.Need-same-length-7 Inv-loop μ-loop
-same-length-7 c = c .before .before .loop .inv .labels-size
+same-length-7 c = c .before .before .loop .inv .entries-size
 
 same-length-8 : tie.Need-same-length-8 Inv-loop μ-loop
-same-length-8 c = c .before .before .loop .inv .entries-size
+same-length-8 c = c .before .before .loop .inv .words-size
 
 same-length-9 : tie.Need-same-length-9 Inv-loop μ-loop
-same-length-9 c = c .before .before .loop .inv .words-size
+same-length-9 c = c .before .before .loop .inv .line-size
 
 same-length-10 : tie.Need-same-length-10 Inv-loop μ-loop
-same-length-10 c = c .before .before .loop .inv .line-size
-
-same-length-11 : tie.Need-same-length-11 Inv-loop μ-loop
-same-length-11 c = c .before .before .loop .inv .text-size
-
-same-length-12 : tie.Need-same-length-12 Inv-loop μ-loop
-same-length-12 c = c .before .before .loop .inv .out-size
+same-length-10 c = c .before .before .loop .inv .out-size
 
 returns-2 : tie.Need-returns-2 Inv-loop μ-loop
 returns-2 c = tt
@@ -114,16 +104,14 @@ read-all-spec =
     same-length-3
     same-length-4
     same-length-5
-    same-length-6
     returns
     sub-turns
     loop-less
     loop-again
     out-of-turns-requires
+    same-length-6
     same-length-7
     same-length-8
     same-length-9
     same-length-10
-    same-length-11
-    same-length-12
     returns-2)

@@ -2,7 +2,7 @@
 use mathlib.Core.Path.{ap}
 use mathlib.Core.Bool.{true}
 use Rattle.reports.specs.declared.Loader.{Loader}
-use Rattle.program_line.specs.declared.Session.{Session}
+use Rattle.program.specs.declared.Session.{Session}
 use borrow.Author.Needs.{needs}
 use Rattle.program.proofs.begin.Statement.{statement}
 use Rattle.program.proofs.begin.Tie as tie
@@ -20,8 +20,7 @@ same-length-2 : tie.Need-same-length-2
 same-length-2 c = search needs
 
 returns : tie.Need-returns
-returns c =
-    let same : Loader → Session = λ l. record { loading = true; kept = 0; loader = l } in
+returns c = let same : Loader → Session = λ l. record { loading = true; loader = l } in
     (ap same (c .fresh .ensures), c .before .before .before .before .before .fresh-table .ensures .1)
 
 pub begin-spec : {M : Type 1} → statement M
