@@ -7,8 +7,8 @@ use native.Mathlib.Omega.{arith}
 use native.Mathlib.Numerals.{add-one}
 use lib.Dec.{ltb, leb, eqb}
 use borrow.Author.Tests.{eqb-true, eqb-false, ne-eqb, ltb-true, ltb-false, lt-ltb, le-ltb, le-leb, lt-leb}
-use lib.ListN.{length, take, drop, set, getD, length-drop, drop-of-length-le}
-use lib.Seq.{length-take-le, take-all, getD-set-same, drop-cons, drop-drop}
+use lib.ListN.{length, take, drop, set, getD, length-drop, drop-of-length-le, length-append}
+use lib.Seq.{length-take-le, take-all, take-append-seam, getD-set-same, drop-cons, drop-drop}
 use Rattle.search.specs.Bytes.{written}
 use Rattle.search.proofs.Laws.{and-both}
 use Rattle.alphabet.specs.Alphabet.{lineLimit, fields}
@@ -32,7 +32,7 @@ use Rattle.program.specs.Turns.{wentSession, wentCount}
 use Rattle.program.specs.declared.Session.{Session}
 use Rattle.program.specs.declared.Turn.{Turn}
 use Rattle.program.specs.declared.Turn.the-variants as t
-use Rattle.program.specs.Within.{State, state, sessionOf, reading, asking, atMark, emptied, unmarked, answerOf, answerText, endedText, withoutMark, textAfter, textSays, takeByte, sayByte, takeInput, sayInput, textEnd, lastBy, sayLastBy, takeLast, sayLast, Front, Turns}
+use Rattle.program.specs.Within.{State, state, sessionOf, reading, asking, atMark, emptied, unmarked, answerOf, answerText, endedText, withoutMark, textAfter, textSays, takeByte, sayByte, takeInput, sayInput, textEnd, lastBy, sayLastBy, takeLast, sayLast, turnOf, Front, Turns}
 
 -- ---- a call, by its answer
 
@@ -46,12 +46,12 @@ module _ {most : ℕ} {s after : State} {said : List ℕ} where
   pub no-room : (out : List ℕ) → length out < most → Turns most s after said out t.NoRoom s out
   no-room out h =
       let p = lt-leb most (length out) h in
-      record { answer = rw p; state = rw p; output = rw p (none-written out); front = front 0 out (omega arith); short = omega arith }
+      record { answer = rw p; state = rw p; output = rw p (none-written out); front = front 0 out (omega arith) }
 
   pub damaged : (out : List ℕ) → most ≤ length out → ready (s .load) ≡ false → Turns most s after said out t.Damaged s out
   damaged out h q =
       let p = le-leb most (length out) h in
-      record { answer = rw (p, q); state = rw (p, q); output = rw (p, q) (none-written out); front = front 0 out (omega arith); short = omega arith }
+      record { answer = rw (p, q); state = rw (p, q); output = rw (p, q) (none-written out); front = front 0 out (omega arith) }
 
   pub went :
       {n : ℕ} {x : Session} {st : Store} {line out out′ : List ℕ} →
@@ -69,7 +69,6 @@ module _ {most : ℕ} {s after : State} {said : List ℕ} where
         state = rw (p, q) a;
         output = rw (p, q) (w .bytes);
         front = front n out′ (omega (arith, counts, w .short, size, h));
-        short = omega (arith, counts, w .short);
       }
 
 -- a call that hands on what another did, of the same output
@@ -83,7 +82,6 @@ module _ {m n : ℕ} {z s after after′ : State} {said said′ out : List ℕ} 
         state = rw (p, fine′) (state-is q ∙ a);
         output = rw (p, fine′) (output-is q ∙ ap (λ (l : List ℕ). written out 0 l) b);
         front = turn .front;
-        short = omega (arith, turn .short, h);
       }
     where
       handed : leb m (length out) ≡ true → r ≡ t.Went (sessionOf after) (length said)
@@ -275,6 +273,32 @@ module _ (st : Store) (line : List ℕ) (kept : ℕ) where
   pub answer-short : kept ≤ lineLimit → asked (questionOf st) (fields (take kept line)) ≡ answerOf st line kept
   answer-short h = rw (le-ltb lineLimit kept h)
 
+-- ---- a call of a state that answers as a contract says
+
+front-there : (out l : List ℕ) → Front (length l) (written out 0 l)
+unfolding written
+front-there out l = (simp length-append (omega arith), sym (ap length (take-append-seam l _)))
+
+module _ (most : ℕ) (st : Store) (line : List ℕ) (x : Session) (after : State) (said out : List ℕ) where
+  abbrev given : State
+  given = state st line x
+
+  abbrev goes : State
+  goes = cond (leb most (length out) && ready (given .load)) after given
+
+  pub some-turn : Turns most given after said out (turnOf (leb most (length out)) given after said) (state (goes .load .store) (goes .load .line) (wentSession x (turnOf (leb most (length out)) given after said))) (written out 0 (cond (leb most (length out) && ready (given .load)) said []))
+  some-turn = record { answer = refl; state = by-state (leb most (length out)) (ready (given .load)); output = refl; front = by-front (leb most (length out)) (ready (given .load)) }
+    where
+      by-state : (a b : Bool) → state (cond (a && b) after given .load .store) (cond (a && b) after given .load .line) (wentSession x (cond a (cond b (t.Went (sessionOf after) (length said)) t.Damaged) t.NoRoom)) ≡ cond (a && b) after given
+      by-state true true = refl
+      by-state true false = refl
+      by-state false b = refl
+
+      by-front : (a b : Bool) → Front (wentCount (cond a (cond b (t.Went (sessionOf after) (length said)) t.Damaged) t.NoRoom)) (written out 0 (cond (a && b) said []))
+      by-front true true = front-there out said
+      by-front true false = front-there out []
+      by-front false b = front-there out []
+
 -- ---- what the loader's calls answer says whether the state is damaged
 
 end-refused : {n : ℕ} (s : Load) → e.Refused n ≡ endAnswer s → ready s ≡ false
@@ -325,7 +349,7 @@ module _ (s : State) {last : Loader} (p : last ≡ unmarked (s .load .line) (s .
 
 -- ---- and the question lines behind it
 
-module _ (s : State) {out out₁ : List ℕ} {r : Turn} {st : Store} {line : List ℕ} (turn : Turns 66 s (textAfter (s .load)) (textSays (s .load)) out r (state st line (wentSession (sessionOf s) r)) out₁) (room : 66 ≤ length out) where
+module _ (s : State) {out out₁ : List ℕ} {r : Turn} {st : Store} {line : List ℕ} (turn : Turns 66 s (textAfter (s .load)) (textSays (s .load)) out r (state st line (wentSession (sessionOf s) r)) out₁) (room : 66 ≤ length out) (small : wentCount r ≤ 66) where
   answered : {b : Bool} → ready (s .load) ≡ b → r ≡ cond b (t.Went (sessionOf (textAfter (s .load))) (length (textSays (s .load)))) t.Damaged
   answered q = let z = turn .answer in rw (le-leb 66 (length out) room, q) at z
 
@@ -351,7 +375,7 @@ module _ (s : State) {out out₁ : List ℕ} {r : Turn} {st : Store} {line : Lis
         by-test false q = let y = sym told ∙ answered q in let z : _≡_ {A = ℕ} 0 1 = cc in absurd (omega arith)
 
     pub at-most : n ≤ 66
-    at-most = let z = turn .short in let y = ap wentCount told in omega (arith, z, y)
+    at-most = let y = ap wentCount told in omega (arith, small, y)
 
     begins : asking (load st line (x .loader)) ≡ textAfter (s .load)
     begins =

@@ -147,7 +147,6 @@ pub record Turns (most : ℕ) (s after : State) (said out : List ℕ) (r : Turn)
   pub state : s′ ≡ cond (leb most (length out) && ready (s .load)) after s
   pub output : out′ ≡ written out 0 (cond (leb most (length out) && ready (s .load)) said [])
   pub front : Front (wentCount r) out′
-  pub short : wentCount r ≤ most
 
 -- ---- what each function ensures, of the state and the output that it is lent and those that it leaves
 

@@ -15,7 +15,7 @@ ghost use Rattle.store.specs.Layout.{store};
 ghost use Rattle.store.specs.Judged.{freshStore};
 ghost use Rattle.access.specs.Access.{questionOf};
 ghost use Rattle.program.specs.Program.{asked};
-ghost use Rattle.program.specs.Turns.{wentSession};
+ghost use Rattle.program.specs.Turns.{wentSession, wentCount};
 ghost use Rattle.program.specs.Within as within;
 
 // The most bytes of a question line, and the size of the lent line.
@@ -208,6 +208,7 @@ fn end_text(
 ) -> Turn
     requires { ⌜ 66 ≤ length (now out) ⌝ }
     ensures { λ r. ⌜ within.TextEnds (within.enters labels entries words line s) (now (out .entry)) r (within.leaves labels entries words line (wentSession s r)) (now (out .exit)) ⌝ }
+    ensures { λ r. ⌜ wentCount r ≤ 66 ⌝ }
 {
     let last = unmarked(line, s.loader);
     let Ended::Report(report, fresh) = load::end(labels, entries, words, line, last) else {

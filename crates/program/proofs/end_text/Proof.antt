@@ -33,7 +33,7 @@ same-length-4 c = search needs
 
 returns : tie.Need-returns
 returns c = let a = c .before .before .before .before .before .before .before .before .before .before .before .before .before .before .before .before .before .before .before .before .before .before .args in
-    text-damaged (state (store (a .labels .now) (a .entries .now) (a .words .now)) (a .line .now) (a .s)) (c .before .before .before .before .before .before .before .before .before .before .before .before .before .before .before .unmarked .ensures) (c .before .before .before .before .before .before .before .before .before .before .end .ensures .0) (c .before .before .before .before .before .before .before .before .before .before .end .ensures .1) (a .out .now) (c .enum-told .given .1) (c .before .before .before .before .before .before .before .before .before .before .before .before .before .before .before .before .before .before .before .before .before .before .pre)
+    (text-damaged (state (store (a .labels .now) (a .entries .now) (a .words .now)) (a .line .now) (a .s)) (c .before .before .before .before .before .before .before .before .before .before .before .before .before .before .before .unmarked .ensures) (c .before .before .before .before .before .before .before .before .before .before .end .ensures .0) (c .before .before .before .before .before .before .before .before .before .before .end .ensures .1) (a .out .now) (c .enum-told .given .1) (c .before .before .before .before .before .before .before .before .before .before .before .before .before .before .before .before .before .before .before .before .before .before .pre), omega arith)
 
 write-report-requires : tie.Need-write-report-requires
 write-report-requires c κs = omega (arith, c .before .before .before .before .before .before .before .before .before .before .before .before .before .before .before .before .before .before .before .before .before .before .before .before .pre)
@@ -55,7 +55,7 @@ same-length-9 c = search needs
 
 returns-2 : tie.Need-returns-2
 returns-2 c = let a = c .before .before .before .before .before .before .before .before .before .before .before .before .before .before .before .before .before .before .before .before .before .before .before .before .before .before .before .args in
-    text-went (state (store (a .labels .now) (a .entries .now) (a .words .now)) (a .line .now) (a .s)) (c .before .before .before .before .before .before .before .before .before .before .before .before .before .before .before .before .before .before .before .before .unmarked .ensures) (c .before .before .before .before .before .before .before .before .before .before .before .before .before .before .before .end .ensures .0) (c .before .before .before .before .before .before .before .before .before .before .before .before .before .before .before .end .ensures .1) (c .before .before .before .before .before .report .given .1) (c .before .before .before .before .before .before .before .before .before .before .before .before .before .before .before .before .before .before .before .before .before .before .before .before .before .before .before .pre) (c .before .before .write-report .ensures)
+    (text-went (state (store (a .labels .now) (a .entries .now) (a .words .now)) (a .line .now) (a .s)) (c .before .before .before .before .before .before .before .before .before .before .before .before .before .before .before .before .before .before .before .before .unmarked .ensures) (c .before .before .before .before .before .before .before .before .before .before .before .before .before .before .before .end .ensures .0) (c .before .before .before .before .before .before .before .before .before .before .before .before .before .before .before .end .ensures .1) (c .before .before .before .before .before .report .given .1) (c .before .before .before .before .before .before .before .before .before .before .before .before .before .before .before .before .before .before .before .before .before .before .before .before .before .before .before .pre) (c .before .before .write-report .ensures), omega (arith, c .before .before .write-report .ensures .ends, c .before .before .write-report .ensures .short))
 
 pub end-text-spec : {M : Type 1} → statement M
 end-text-spec =
