@@ -10,7 +10,9 @@ use denote.Ref.{RefT, now}
 use Rattle.search.specs.Bytes.{written}
 use Rattle.alphabet.specs.Alphabet.{lineLimit}
 use Rattle.store.specs.Table.{fresh}
-use Rattle.store.specs.Layout.{Store, store, Sizes, fullSizes, freshLabels, freshWords, freshStore}
+use Rattle.store.specs.Layout.{Store, store, Sizes}
+use Rattle.store.specs.Judged.{freshStore}
+use Rattle.store.proofs.Judged.{fresh-entries}
 use Rattle.load.specs.Loader.{ready}
 use Rattle.lists.specs.Called.{first, second, third, fourth, fifth, sixth, seventh, lent, left}
 use Rattle.lists.specs.Reader.{startOn}
@@ -51,15 +53,6 @@ writes k line pieces said sizes full run =
 abbrev lends : List ℕ → RefT (List ℕ)
 lends x = record { ptr = (0, 0); name = 0; now = x }
 
--- a fresh table leaves the entries
-entries-stay : (st : Store) → store (freshStore st .labels) (st .entries) (freshStore st .words) ≡ freshStore st
-unfolding freshStore
-entries-stay st = by-test (fullSizes st) (store (freshLabels (st .labels)) (st .entries) (freshWords (st .words))) refl
-  where
-    by-test : (b : Bool) (new : Store) → new .entries ≡ st .entries → store (cond b new st .labels) (st .entries) (cond b new st .words) ≡ cond b new st
-    by-test true new e = rw (sym e)
-    by-test false new e = refl
-
 abbrev begin-call : (st : Store) → Called-begin
 begin-call st =
     record {
@@ -68,7 +61,7 @@ begin-call st =
       asked = tt;
       result = freshSession;
       last = (freshStore st .labels, (tt, (freshStore st .words, tt)));
-      ensures = (refl, entries-stay st);
+      ensures = (refl, fresh-entries st);
     }
 
 -- what a call leaves that goes on to `after` and says so much

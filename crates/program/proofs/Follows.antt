@@ -10,11 +10,11 @@ use borrow.Author.Tests.{lt-ltb, le-ltb, ltb-true, ltb-false, ne-eqb, eq-eqb, le
 use lib.ListN.{length, take, getD}
 use lib.Seq.{take-all, getD-take, take-append-seam}
 use Rattle.search.specs.Bytes.{sameBytes, written}
-use Rattle.alphabet.specs.Alphabet.{lineLimit, fields}
+use Rattle.alphabet.specs.Alphabet.{lineLimit, fields, newline}
 use Rattle.store.specs.Table.{Table, fresh}
 use Rattle.store.specs.Layout.{Store, Sizes}
 use Rattle.store.specs.Judged.{freshStore}
-use Rattle.store.proofs.Laws.{fresh-is, fresh-undamaged}
+use Rattle.store.proofs.Judged.{fresh-is, fresh-undamaged}
 use Rattle.access.specs.Access.{answer, questionOf}
 use Rattle.access.specs.declared.Answer.{Answer}
 use Rattle.access.specs.declared.Answer.the-variants.{Refused}
@@ -28,7 +28,7 @@ use Rattle.lists.specs.Reader.{Totals, Reader, startOn, finish, limitedTotals, 
 use Rattle.lists.specs.Reader as reader
 use Rattle.lists.proofs.Follows.{SameLine, SameTotals, Holds, step-follows, fresh-holds}
 use Rattle.lists.proofs.Steps.{totals-of, end-reply, end-law, question-law}
-use Rattle.replies.specs.Replies.{newline, answerLine}
+use Rattle.replies.specs.Replies.{answerLine}
 use Rattle.program.specs.Program.{mark, isMark, asked, answerTo, reportLine}
 use Rattle.program.specs.declared.Turn.{Turn}
 use Rattle.program.specs.Turns.{wentCount}

@@ -11,7 +11,7 @@ use lib.ListN.{length, take, drop, set, getD, length-drop, drop-of-length-le, le
 use lib.Seq.{length-take-le, take-all, take-append-seam, getD-set-same, drop-cons, drop-drop}
 use Rattle.search.specs.Bytes.{written}
 use Rattle.search.proofs.Laws.{and-both}
-use Rattle.alphabet.specs.Alphabet.{lineLimit, fields}
+use Rattle.alphabet.specs.Alphabet.{lineLimit, fields, newline}
 use Rattle.store.specs.Layout.{Store, undamagedOf}
 use Rattle.access.specs.Access.{questionOf}
 use Rattle.access.specs.declared.Answer.the-variants.{Refused}
@@ -24,7 +24,6 @@ use Rattle.load.specs.declared.Ended.{Ended}
 use Rattle.load.specs.declared.Ended.the-variants as e
 use Rattle.load.specs.Loader.{Load, load, ready, stepByte, stepPiece, beforeNewline, fedLoader, pieceAnswer, pieceAfter, stepEnd, endedLoader, endAnswer, endAfter}
 use Rattle.load.proofs.Laws.{Ready, ready-is, is-ready, ready-step, ready-piece, run-last, end-within, joins, too-long, byte-empties}
-use Rattle.replies.specs.Replies.{newline}
 use Rattle.replies.specs.Within.{Put, reportText}
 use Rattle.replies.proofs.Laws.{written-none, put-length, put-said, put-none, put-next}
 use Rattle.program.specs.Program.{mark, asked}

@@ -13,7 +13,8 @@ use Rattle.search.proofs.Laws.{all-snoc, and-both}
 use Rattle.store.specs.Table.{Table, fresh}
 use Rattle.access.specs.Access.{answer}
 use Rattle.lists.specs.Reader.{Totals, zeros, Reader, startOn, endLine, takeByte, takePiece, finish, limitedTotals}
-use Rattle.replies.specs.Replies.{newline, answerLine}
+use Rattle.replies.specs.Replies.{answerLine}
+use Rattle.alphabet.specs.Alphabet.{newline}
 use Rattle.program.specs.Program.{linesFrom, lines, isMark, ruleLines, questionLines, asText, answerTo, reportLine, answerLines, output}
 use Rattle.program.specs.Within.{saying}
 

@@ -5,13 +5,13 @@ use mathlib.Core.List.{List, [], _∷_, _++_}
 use lib.ListN.{length}
 use lib.Dec.{ltb, eqb}
 use Rattle.search.specs.Bytes.{sameBytes}
-use Rattle.alphabet.specs.Alphabet.{lineLimit, fields}
+use Rattle.alphabet.specs.Alphabet.{lineLimit, fields, newline}
 use Rattle.store.specs.Table.{Table, fresh}
 use Rattle.access.specs.Access.{answer}
 use Rattle.access.specs.declared.Answer.{Answer}
 use Rattle.access.specs.declared.Answer.the-variants.{Refused}
 use Rattle.lists.specs.Reader.{Totals, Reader, startOn, takePiece, finish, limitedTotals}
-use Rattle.replies.specs.Replies.{newline, numbersLine, answerLine}
+use Rattle.replies.specs.Replies.{numbersLine, answerLine}
 
 -- ---- the lines of the input
 

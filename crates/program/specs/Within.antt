@@ -9,7 +9,7 @@ use lib.Dec.{ltb, leb, eqb}
 use denote.Ref.{RefT, now}
 use denote.Triple.Both.{Both}
 use Rattle.search.specs.Bytes.{written}
-use Rattle.alphabet.specs.Alphabet.{lineLimit, fields}
+use Rattle.alphabet.specs.Alphabet.{lineLimit, fields, newline}
 use Rattle.store.specs.Layout.{Store, store}
 use Rattle.access.specs.Access.{questionOf}
 use Rattle.access.specs.declared.Answer.{Answer}
@@ -19,7 +19,7 @@ use Rattle.reports.specs.Report.{freshLoader, withKept}
 use Rattle.load.specs.declared.Ended.{Ended}
 use Rattle.load.specs.declared.Ended.the-variants as e
 use Rattle.load.specs.Loader.{Load, load, ready, stepByte, endAfter, endAnswer}
-use Rattle.replies.specs.Replies.{newline, answerLine}
+use Rattle.replies.specs.Replies.{answerLine}
 use Rattle.replies.specs.Within.{reportText, Put}
 use Rattle.program.specs.Program.{mark, asked}
 use Rattle.program.specs.Turns.{wentCount}

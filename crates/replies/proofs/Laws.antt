@@ -11,8 +11,8 @@ use lib.ListN.{length, take, drop, set, length-append, take-append-drop}
 use lib.Seq.{take-at, drop-append-add, drop-drop, set-split, length-take-le}
 use Rattle.search.specs.Bytes.{written}
 use Rattle.search.proofs.Laws.{length-written}
-use Rattle.access.specs.Access.{shown}
-use Rattle.access.specs.declared.Shown.{Shown}
+use Rattle.answers.specs.Answers.{shown}
+use Rattle.answers.specs.declared.Shown.{Shown}
 use Rattle.access.specs.declared.Answer.{Answer}
 use Rattle.replies.specs.Replies.{digits, decimal, wordOf, endingOf, answerLine}
 use Rattle.replies.specs.Within.{Put}

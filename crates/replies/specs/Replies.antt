@@ -3,12 +3,10 @@ use Prim.Native.Nat.{ℕ, zero, suc, _+_, _/_, _%_}
 use mathlib.Core.Bool.{Bool, true, false, cond}
 use mathlib.Core.List.{List, [], _∷_, _++_}
 use lib.Dec.{ltb}
-use Rattle.access.specs.Access.{shown}
+use Rattle.alphabet.specs.Alphabet.{newline}
+use Rattle.answers.specs.Answers.{shown}
 use Rattle.access.specs.declared.Answer.{Answer}
 use Rattle.access.specs.declared.Answer.the-variants.{Granted, Denied, Override, Refused}
-
-abbrev pub newline : ℕ
-newline = 10
 
 -- a number in decimal digits, with no leading zero
 abbrev pub digits : ℕ → ℕ → List ℕ

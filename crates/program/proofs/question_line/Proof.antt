@@ -1,7 +1,7 @@
 -- `program::question_line` meets its contract: each answer is the definition's, by the fields that were read. Assumes nothing.
 use mathlib.Core.Path.{_≡_, sym, _∙_}
 use native.Mathlib.Omega.{arith}
-use Rattle.alphabet.specs.Alphabet.{fieldAt}
+use Rattle.alphabet.specs.Within.{fieldAt}
 use Rattle.alphabet.specs.declared.Field.the-variants.{Part}
 use Rattle.alphabet.proofs.Laws.{FieldFrom, field-some}
 use Rattle.program.proofs.Questions.{asks-none, asks-one, asks-two, asks-three, asks-four, asks-five}
