@@ -1,12 +1,12 @@
 -- Laws of the access check. Assumes nothing.
 use mathlib.Core.Path.{_≡_, refl, sym, ap, _∙_}
-use mathlib.Core.Bool.{Bool, true, false, cond, _&&_, and-true, and-false}
+use mathlib.Core.Bool.{Bool, true, false, cond, _&&_, and-true}
 use mathlib.Core.List.{List, [], _∷_, _++_}
 use Prim.Native.Nat.{ℕ, zero, suc, _+_, _<_, _≤_}
 use native.Mathlib.Omega.{arith}
-use lib.Dec.{eqb, ltb}
+use lib.Dec.{eqb}
 use lib.ListN.{length, getD}
-use borrow.Author.Tests.{eq-eqb, ne-eqb, ltb-true}
+use borrow.Author.Tests.{eq-eqb, ne-eqb}
 use Rattle.search.specs.Search.{first, all, later, entries, placeOf}
 use Rattle.search.specs.Bytes.{sameBytes}
 use Rattle.search.specs.declared.Found.{Found}
@@ -16,7 +16,7 @@ use Rattle.alphabet.specs.Alphabet.{wellFormed}
 use Rattle.modes.specs.Modes.{readModes, requestLetters}
 use Rattle.modes.specs.declared.Access.the-variants.{Modes}
 use Rattle.store.specs.declared.Rule.{Rule}
-use Rattle.store.specs.Table.{Table, labelIn, isPair, pairIn, soundRule, soundTable}
+use Rattle.store.specs.Table.{Table, labelIn, isPair}
 use Rattle.store.specs.Layout.{store, tableOf, ruleAt}
 use Rattle.access.specs.Rules.{holds, bringUp, Clause, rule6, rule7, firstOf, sevenRules}
 use Rattle.store.specs.Pairs.{ruleBetween, has-modes, modesFound, modesBetween}

@@ -1,5 +1,5 @@
--- 01, Questions: the seven rules, in the paper's order. Above each stand its sentence of the Smack text (source document 000, section 'Access Rules'; 001 and
--- 004 have the same words) and 01's. The first that applies decides, by the whole request. Assumes nothing.
+-- 01, Questions: the seven rules, in the paper's order. Above each stand its sentence of the Smack text (000 is source document 000, section 'Access Rules';
+-- documents 001 and 004 have the same words) and 01's. The first that applies decides, by the whole request. Assumes nothing.
 use Prim.Native.Nat.{ℕ}
 use mathlib.Core.Bool.{Bool, true, false, cond, _&&_}
 use mathlib.Core.List.{List, [], _∷_}
@@ -35,7 +35,7 @@ modesPass no-rule test = false
 
 -- ---- the seven, of a subject s, an object o, the pair's modes and what is wanted
 
--- one of them: when it applies, and what it then says
+-- one of them: when it applies, and what it then says: granted, with its number and whether the pair's rule has b; or denied
 pub record Clause : Type 0 where
   pub applies : Bool
   pub says : Verdict
@@ -43,36 +43,42 @@ pub record Clause : Type 0 where
 abbrev pub clause : Bool → Verdict → Clause
 clause applies says = record { applies = applies; says = says }
 
--- 'Any access requested by a task labeled "*" is denied.' 01: Subject is *: denied.
+-- 000: 1. Any access requested by a task labeled "*" is denied.
+-- 01:  1. Subject is *: denied.
 abbrev pub rule1 : List ℕ → Clause
 rule1 s = clause (sameBytes s star) (Denies StarSubject)
 
--- 'A read or execute access requested by a task labeled "^" is permitted.' 01: Subject is ^ and the request has only r and x: granted.
+-- 000: 2. A read or execute access requested by a task labeled "^" is permitted.
+-- 01:  2. Subject is ^ and the request has only r and x: granted.
 abbrev pub rule2 : List ℕ → ℕ → Clause
 rule2 s wanted = clause (sameBytes s hat && onlyReadExecute wanted) (Grants 2 false)
 
--- 'A read or execute access requested on an object labeled "_" is permitted.' 01: Object is _ and the request has only r and x: granted.
+-- 000: 3. A read or execute access requested on an object labeled "_" is permitted.
+-- 01:  3. Object is _ and the request has only r and x: granted.
 abbrev pub rule3 : List ℕ → ℕ → Clause
 rule3 o wanted = clause (sameBytes o floor && onlyReadExecute wanted) (Grants 3 false)
 
--- 'Any access requested on an object labeled "*" is permitted.' 01: Object is *: granted.
+-- 000: 4. Any access requested on an object labeled "*" is permitted.
+-- 01:  4. Object is *: granted.
 abbrev pub rule4 : List ℕ → Clause
 rule4 o = clause (sameBytes o star) (Grants 4 false)
 
--- 'Any access requested by a task on an object with the same label is permitted.' 01: Subject equals object: granted.
+-- 000: 5. Any access requested by a task on an object with the same label is permitted.
+-- 01:  5. Subject equals object: granted.
 abbrev pub rule5 : List ℕ → List ℕ → Clause
 rule5 s o = clause (sameBytes s o) (Grants 5 false)
 
--- 'Any access requested that is explicitly defined in the loaded rule set is permitted.' 01: The pair has a rule whose modes hold every requested
--- letter: granted. The answer then says whether the rule has b
+-- 000: 6. Any access requested that is explicitly defined in the loaded rule set is permitted.
+-- 01:  6. The pair has a rule whose modes hold every requested letter: granted.
 abbrev pub rule6 : PairModes → ℕ → Clause
 rule6 pair wanted = clause (modesPass pair (holds wanted)) (Grants 6 (modesPass pair bringUp))
 
--- 'Any other access is denied.' 01: Denied.
+-- 000: 7. Any other access is denied.
+-- 01:  7. Denied.
 abbrev pub rule7 : Clause
 rule7 = clause true (Denies AnyOther)
 
--- in their order
+-- the seven in their order, by the pair's modes, and of a table
 abbrev pub rulesFor : List ℕ → List ℕ → PairModes → ℕ → List Clause
 rulesFor s o pair wanted = rule1 s ∷ rule2 s wanted ∷ rule3 o wanted ∷ rule4 o ∷ rule5 s o ∷ rule6 pair wanted ∷ rule7 ∷ []
 

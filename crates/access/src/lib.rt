@@ -46,12 +46,10 @@ const HAT: u8 = b'^';
 
 const STAR: u8 = b'*';
 
-// The bits of r and x, of b, and of the letters that a request may have, r w x a.
+// The bits of r and x, and of b.
 const READ_EXECUTE: u8 = 40;
 
 const BRING_UP: u8 = 1;
-
-const REQUEST: u8 = 60;
 
 // Whether a label is one byte, that one. Labels with a rule of their own are known by their bytes: a lent table may hold others in places
 // 0 to 2.
@@ -220,7 +218,7 @@ pub fn question(
     if request.len() == 0 {
         return Answer::Refused(refusals::BAD_REQUEST);
     }
-    let Access::Modes(wanted) = modes::read_modes(request, REQUEST, false) else {
+    let Access::Modes(wanted) = modes::read_modes(request, modes::REQUEST_LETTERS, false) else {
         return Answer::Refused(refusals::BAD_REQUEST);
     };
     decide(labels, entries, words, subject, object, wanted, capable)

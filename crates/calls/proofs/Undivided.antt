@@ -15,7 +15,6 @@ use Rattle.revoke.specs.declared.Revoked.the-variants as v
 use Rattle.onlycap.specs.Onlycap.{onlycapAnswer}
 use Rattle.cipso.specs.Cipso.{mapAnswer}
 use Rattle.listing.specs.Listing.{labelAnswer}
-use Rattle.access.specs.Access.{answer}
 use Rattle.answers.specs.Answers.{shown}
 use Rattle.reports.specs.declared.Loader.{Loader}
 use Rattle.load.specs.declared.Fed.{Fed}
@@ -25,7 +24,7 @@ use Rattle.load.specs.declared.Ended.the-variants as e
 use Rattle.load.specs.Loader.{Load, load, ready, pieceAnswer, pieceAfter, endAnswer, endAfter}
 use Rattle.answers.specs.Answers.{writeShown, revokeShown, pieceShown, endShown, listShown, lookupShown, searchShown}
 use Rattle.answers.specs.declared.Length.{Length}
-use Rattle.lists.specs.Called.{first, third, fourth, fifth, sixth, seventh, lent, left, loading, loaded}
+use Rattle.lists.specs.Called.{first, third, fourth, fifth, sixth, seventh, lent, loading, loaded}
 use Rattle.lists.specs.Reader as r
 use Rattle.lists.specs.Reader.{Reader, startOn, takePiece, Call, Reply, doneReply, countReply, Write, writeSays, writeOn, askSays, after, afterAll, saysAll, Event, events, reports}
 use Rattle.lists.proofs.Follows.{Holds, fresh-holds}

@@ -1,7 +1,7 @@
 -- The listing call, asked for each rule's number in turn, writes the listing. Assumes nothing.
-use mathlib.Core.Path.{_≡_, refl, sym, ap, _∙_, subst}
+use mathlib.Core.Path.{_≡_, sym, ap, _∙_, subst}
 use mathlib.Core.Bool.{true}
-use mathlib.Core.List.{List, [], _∷_, _++_}
+use mathlib.Core.List.{List, _++_}
 use Prim.Native.Nat.{ℕ, zero, suc, _+_, _<_, _≤_}
 use native.Mathlib.Omega.{arith}
 use borrow.Author.Tests.{lt-ltb, le-ltb}
@@ -10,7 +10,6 @@ use lib.Seq.{drop-cons, take-append-seam}
 use Rattle.search.specs.Bytes.{written}
 use Rattle.search.proofs.Laws.{entries-length}
 use Rattle.modes.proofs.Laws.{text-long}
-use Rattle.store.specs.declared.Rule.{Rule}
 use Rattle.store.specs.Table.{ruleNumbered}
 use Rattle.store.specs.Layout.{Store, ruleAt, tableOf, undamagedOf}
 use Rattle.store.proofs.Laws.{undamaged-is}

@@ -2,7 +2,7 @@
 -- Assumes nothing.
 use mathlib.Core.Path.{_≡_, refl, sym, ap, _∙_, subst}
 use mathlib.Core.Bool.{Bool, true, false, cond, not, _&&_, _||_}
-use mathlib.Core.List.{List, [], _∷_, _++_}
+use mathlib.Core.List.{List, [], _∷_}
 use Prim.Native.Nat.{ℕ, _+_, _≤_}
 use native.Mathlib.Omega.{arith}
 use lib.Dec.{eqb, ltb, leb}
@@ -21,19 +21,17 @@ use Rattle.store.specs.declared.Rule.{Rule}
 use Rattle.store.specs.Table.{Table, labelIn, isPair, pairIn, soundTable, noPlace}
 use Rattle.store.specs.Layout.{Store, labelAt, tableOf, undamagedOf}
 use Rattle.store.proofs.Laws.{sound-more, undamaged-is}
-use Rattle.rules.specs.declared.Place.the-variants as p
 use Rattle.rules.specs.Rules.{pairLabels, withPair}
 use Rattle.rules.proofs.Pairs.{pair-length}
-use Rattle.rules.specs.Within.{judgedAt, placing, labelsAfter, modesOfRule}
+use Rattle.rules.specs.Within.{modesOfRule}
 use Rattle.lines.specs.Lines.{Said, refused, rule, change, ruleOf, changeOf, ruleWith, ruleBy, ruleFields}
 use Rattle.lines.proofs.Laws.{Taken, Sound, rule-sound, change-sound}
 use Rattle.writes.specs.Writes.{judged, changed}
-use Rattle.writes.proofs.Laws.{rule-at}
 use Rattle.store.specs.Judged.{Judged, is-skipped, is-refused, is-accepted, tableAfter}
 use Rattle.access.specs.Rules.{rulesFor, firstOf, sevenRules}
-use Rattle.store.specs.Pairs.{ruleBetween, PairModes, has-modes, no-rule, modesFound, modesBetween, modesSoFar}
+use Rattle.store.specs.Pairs.{ruleBetween, PairModes, has-modes, modesFound, modesBetween, modesSoFar}
 use Rattle.access.specs.Access.{effective, answered, decide, byRequest, answer}
-use Rattle.store.proofs.Pairs.{not-listed, not-subject, not-object, between-read}
+use Rattle.store.proofs.Pairs.{not-listed, not-subject, not-object}
 use Rattle.grown.specs.Pairs.{SoundTable, Triple, newLabels, hasRule, hasRoom, isAccepted, SetsPair}
 use Rattle.grown.proofs.Sane.{subjectAt, objectAt, paired, subject-number, object-number, pair-front, one-label, Paired, rule-paired, change-paired}
 

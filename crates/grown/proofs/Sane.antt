@@ -2,23 +2,23 @@
 -- a pair that is set. Assumes nothing.
 use mathlib.Core.Path.{_≡_, refl, sym, ap, _∙_, subst}
 use mathlib.Core.Bool.{Bool, true, false, _&&_}
-use mathlib.Core.List.{List, [], _∷_, _++_}
+use mathlib.Core.List.{List, [], _++_}
 use Prim.Native.Nat.{ℕ, zero, suc, _<_}
 use native.Mathlib.Omega.{arith}
 use lib.Dec.{eqb, ltb}
 use borrow.Author.Tests.{eqb-true, eq-eqb, ne-eqb, lt-ltb, ltb-true}
 use lib.ListN.{length, getD, take, drop, take-append-drop}
 use lib.Seq.{take-at}
-use Rattle.search.specs.Search.{first, all, put, placeOf, countOf}
+use Rattle.search.specs.Search.{first, all, put}
 use Rattle.search.specs.Bytes.{sameBytes}
 use Rattle.search.specs.declared.Found.{Found}
 use Rattle.search.specs.declared.Found.the-variants.{At, Nothing}
-use Rattle.search.proofs.Laws.{no, and-both, same-refl, same-equal, same-sym, all-snoc, all-at, all-put, first-is, first-snoc, first-last, length-put, Same, Distinct, distinct-put, Front, front-same, front-more, front-length}
+use Rattle.search.proofs.Laws.{no, and-both, same-refl, same-equal, same-sym, all-at, all-put, first-is, length-put, Same, distinct-put, Front, front-more, front-length}
 use Rattle.alphabet.specs.Alphabet.{labelByte, wellFormed}
 use Rattle.store.specs.declared.Rule.{Rule}
 use Rattle.store.specs.Table.{Table, fresh, labelIn, labelsEntered, enter, isPair, pairIn, soundRule, soundMapping, soundTable, labelNumbered, ruleNumbered}
 use Rattle.store.proofs.Laws.{sound-more}
-use Rattle.store.proofs.Pairs.{same-bytes, enter-front, enter-other, enter-once, enter-all}
+use Rattle.store.proofs.Pairs.{enter-front, enter-other, enter-once, enter-all}
 use Rattle.rules.specs.declared.Spot.{Spot}
 use Rattle.rules.specs.declared.Place.{Place}
 use Rattle.rules.specs.declared.Place.the-variants as p

@@ -3,14 +3,12 @@
 use Prim.Native.Nat.{ℕ, _<_, _≤_}
 use mathlib.Core.Bool.{Bool, true, not}
 use mathlib.Core.Path.{_≡_}
-use mathlib.Core.List.{List, []}
-use lib.ListN.{length, getD, take}
+use lib.ListN.{length, take}
 use lib.Dec.{eqb}
 use Rattle.search.specs.Search.{all}
 use Rattle.search.specs.declared.Found.the-variants.{At}
 use Rattle.alphabet.specs.Alphabet.{wellFormed}
 use Rattle.store.specs.declared.Rule.{Rule}
-use Rattle.store.specs.declared.Mapping.{Mapping}
 use Rattle.store.specs.Table.{Table, fresh, labelIn, pairIn, labelNumbered, ruleNumbered, mappingNumbered, soundTable, labelLimit, ruleLimit, mappingLimit, onlycapLimit}
 use Rattle.cipso.specs.Cipso.{mappingIn}
 

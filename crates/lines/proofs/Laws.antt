@@ -228,10 +228,3 @@ change-fields-sound (s ∷ o ∷ a ∷ d ∷ x ∷ more) = tt
 pub change-sound : (line : List ℕ) → Sound (changeOf line)
 unfolding changeOf
 change-sound line = limit-or _ (length line) (changeFields (fields line)) (change-fields-sound (fields line))
-
--- an answer that names labels names such as are taken
-pub rule-told : (line : List ℕ) (x : RuleLine) → x ≡ ruleLineAt line → Sound (ruleSaid line x)
-rule-told line x e = rw (e, rule-right line .0) (rule-sound line)
-
-pub change-told : (line : List ℕ) (x : ChangeLine) → x ≡ changeLineAt line → Sound (changeSaid line x)
-change-told line x e = rw (e, change-right line .0) (change-sound line)

@@ -1,12 +1,12 @@
 -- The loader follows the plain reader: what each step of the lent state does, the plain reader does to what that state stands for. Assumes
 -- nothing.
-use mathlib.Core.Path.{_≡_, refl, sym, ap, _∙_, subst}
-use mathlib.Core.Bool.{Bool, true, false, cond, _&&_}
-use mathlib.Core.List.{List, [], _∷_, _++_, foldl}
+use mathlib.Core.Path.{_≡_, refl, sym, ap, _∙_}
+use mathlib.Core.Bool.{Bool, true, false, cond}
+use mathlib.Core.List.{List, [], _∷_, _++_}
 use Prim.Native.Nat.{ℕ, zero, suc, _+_, _<_, _≤_, min}
 use native.Mathlib.Numerals.{add-one}
 use native.Mathlib.Omega.{arith}
-use lib.Dec.{ltb, leb, eqb}
+use lib.Dec.{ltb, eqb}
 use borrow.Author.Tests.{eqb-true, eqb-false, eq-eqb, ne-eqb, lt-ltb, le-ltb, ltb-true, ltb-false}
 use lib.ListN.{length, take, set, length-set, length-append}
 use lib.Seq.{take-all, take-suc-set, take-append-le}
@@ -19,7 +19,7 @@ use Rattle.writes.specs.declared.Outcome.{Outcome}
 use Rattle.writes.specs.declared.Outcome.the-variants as v
 use Rattle.writes.proofs.Laws.{line-table}
 use Rattle.reports.specs.declared.Loader.{Loader}
-use Rattle.lists.specs.Reader.{Totals, zeros, counted, Reader, startOn, endLine, takeByte, takePiece, finish, limited}
+use Rattle.lists.specs.Reader.{Totals, counted, Reader, startOn, endLine, takeByte, takePiece, finish, limited}
 use Rattle.reports.specs.Report.{more, count, withKept, freshLoader}
 use Rattle.load.specs.Loader.{Load, load, endKept, keepByte, stepByte, stepPiece, stepEnd}
 use Rattle.load.proofs.Laws.{Ready, count-kept, ready-end, ready-step}

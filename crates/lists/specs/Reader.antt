@@ -3,7 +3,7 @@
 -- for those of 01's tables and lines. Demand 3 speaks of pieces, end calls and questions; here are the other calls too, a single write of which acts at
 -- once. Assumes nothing.
 use Prim.Native.Nat.{ℕ, _+_, min}
-use mathlib.Core.Bool.{Bool, true, cond}
+use mathlib.Core.Bool.{Bool, cond}
 use mathlib.Core.List.{List, [], _∷_, _++_, foldl, map}
 use lib.ListN.{length}
 use lib.Dec.{ltb, eqb}

@@ -7,8 +7,12 @@ ghost use mathlib.Core.Path.{_≡_};
 ghost use mathlib.Core.Bool.{true};
 ghost use Prim.Native.Nat.{_+_};
 ghost use lib.ListN.{length, drop};
+ghost use Rattle.alphabet.specs.Alphabet.{lineLimit};
 ghost use Rattle.store.specs.Layout.{Store, store, lent, left};
 ghost use Rattle.load.specs.Loader.{endKept, beforeNewline, stepPiece, ready, load, fedLoader, pieceAfter, pieceAnswer, endedLoader, endAfter, endAnswer};
+
+// The kept length that marks a line of more bytes than a line may have.
+const OVER_LONG: usize = alphabet::LINE_LIMIT + 1;
 
 // What a piece answers: done, with the loader for the next call, or refused.
 pub enum Fed {
@@ -34,7 +38,7 @@ fn end_line(
     ensures { λ r. ⌜ load (left labels entries words) (now (line .entry)) r ≡ endKept (load (lent labels entries words) (now (line .entry)) l) ⌝ }
 {
     let kept = l.kept;
-    if 600 < kept {
+    if alphabet::LINE_LIMIT < kept {
         return reports::count_line(l, Outcome::Refused(1));
     }
     let outcome = writes::write_line(labels, entries, words, &line[..kept]);
@@ -58,7 +62,7 @@ pub fn line_end(text: &[u8], from: usize) -> usize
 // Takes bytes of one line, none of them its newline. They join the kept line in one go, as many as there is room for. Who calls it has tested the
 // line's size: `piece` here, and `program::feed` for a question line, which is kept as a line of rule text is.
 pub fn take_run(line: &mut [u8], l: Loader, run: &[u8]) -> Loader
-    requires { ⌜ (length (now line) ≡ 600) × (beforeNewline (now run) ≡ length (now run)) ⌝ }
+    requires { ⌜ (length (now line) ≡ lineLimit) × (beforeNewline (now run) ≡ length (now run)) ⌝ }
     ensures { λ r. ⌜ ((st : Store) → load st (now (line .exit)) r ≡ stepPiece (load st (now (line .entry)) l) (now (run .entry))) ⌝ }
 {
     let kept = l.kept;
@@ -66,16 +70,16 @@ pub fn take_run(line: &mut [u8], l: Loader, run: &[u8]) -> Loader
     if n == 0 {
         return l;
     }
-    if 600 < kept {
-        return reports::keep(l, 601);
+    if alphabet::LINE_LIMIT < kept {
+        return reports::keep(l, OVER_LONG);
     }
-    let room = 600 - kept;
+    let room = alphabet::LINE_LIMIT - kept;
     if n <= room {
         search::copy_at(line, kept, run);
         return reports::keep(l, kept + n);
     }
     search::copy_at(line, kept, &run[..room]);
-    reports::keep(l, 601)
+    reports::keep(l, OVER_LONG)
 }
 
 // Whether the lent state is undamaged, the loader too: refusal 0 otherwise.
@@ -85,10 +89,10 @@ pub fn is_ready(labels: &[u8], entries: &[u8], words: &[u64], line: &[u8], l: Lo
     if !damage::undamaged(labels, entries, words) {
         return false;
     }
-    if line.len() != 600 {
+    if line.len() != alphabet::LINE_LIMIT {
         return false;
     }
-    l.kept <= 601
+    l.kept <= OVER_LONG
 }
 
 // Takes a piece of rule text: any bytes, any length, also none.

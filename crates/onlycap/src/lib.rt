@@ -8,18 +8,12 @@ ghost use Prim.Native.Nat.{_<_, _≤_};
 ghost use lib.ListN.{length, take};
 ghost use Rattle.search.specs.Search.{first, all, placeOf, countOf, entries};
 ghost use Rattle.search.specs.Bytes.{sameBytes};
-ghost use Rattle.alphabet.specs.Alphabet.{wellFormed, fields};
-ghost use Rattle.store.specs.Layout.{store, labelAt, lent, left};
+ghost use Rattle.alphabet.specs.Alphabet.{wellFormed, fields, lineLimit};
+ghost use Rattle.store.specs.Table.{labelLimit};
+ghost use Rattle.store.specs.Layout.{store, labelAt, lent, left, labelsSize};
 ghost use Rattle.rules.specs.Within.{entered};
 ghost use Rattle.onlycap.specs.Onlycap.{loneDash, onlycapAnswer, onlycapStore};
 ghost use Rattle.onlycap.specs.Within.{appearsIn, joined, countWith, listSet, Fits};
-
-// The most bytes of a single write, and the most labels of the list and of the table.
-const LIMIT: usize = 600;
-
-const LISTED: usize = 8;
-
-const STORED: usize = 64;
 
 // How many different labels a write has, and how many labels the table would have with them.
 pub struct Counted {
@@ -84,7 +78,7 @@ fn seen_before(text: &[u8], count: usize, label: &[u8]) -> bool
 // Counts one field, of which `seen` says whether it stood before. A write of 600 bytes has at most 300 fields, so neither count comes near
 // 1000.
 fn count_label(labels: &[u8], stored: usize, label: &[u8], seen: bool, counted: Counted) -> Counted
-    requires { ⌜ (length (now labels) ≡ 16384) × (stored ≤ 64) × (counted .different ≤ 1000) × (counted .labels ≤ 1000) ⌝ }
+    requires { ⌜ (length (now labels) ≡ labelsSize) × (stored ≤ labelLimit) × (counted .different ≤ 1000) × (counted .labels ≤ 1000) ⌝ }
     ensures { λ r. ⌜ r ≡ countWith counted seen (first (sameBytes (now (label .entry))) (entries (labelAt (now (labels .entry))) stored)) ⌝ }
 {
     if seen {
@@ -105,7 +99,7 @@ fn count_label(labels: &[u8], stored: usize, label: &[u8], seen: bool, counted: 
 
 // How many different labels a write has, and how many labels the table would have with them. Nothing is stored.
 fn count(labels: &[u8], stored: usize, text: &[u8]) -> Counted
-    requires { ⌜ (length (now labels) ≡ 16384) × (stored ≤ 64) × (length (now text) ≤ 600) ⌝ }
+    requires { ⌜ (length (now labels) ≡ labelsSize) × (stored ≤ labelLimit) × (length (now text) ≤ lineLimit) ⌝ }
     ensures { λ r. ⌜ r ≡ record { different = length (joined [] (fields (now (text .entry))) (length (fields (now (text .entry))))); labels = length (joined (entries (labelAt (now (labels .entry))) stored) (fields (now (text .entry))) (length (fields (now (text .entry))))) } ⌝ }
 {
     let mut counted = Counted {
@@ -127,7 +121,7 @@ fn count(labels: &[u8], stored: usize, text: &[u8]) -> Counted
 
 // A label's number; a new label enters first. Who calls it has made sure that there is room.
 fn enter(labels: &mut [u8], stored: usize, label: &[u8]) -> Numbered
-    requires { ⌜ (length (now labels) ≡ 16384) × (stored ≤ 64) × (placeOf (first (sameBytes (now label)) (entries (labelAt (now labels)) stored)) stored < 64) × (length (now label) ≤ 255) ⌝ }
+    requires { ⌜ (length (now labels) ≡ labelsSize) × (stored ≤ labelLimit) × (placeOf (first (sameBytes (now label)) (entries (labelAt (now labels)) stored)) stored < labelLimit) × (length (now label) ≤ 255) ⌝ }
     ensures { λ r. ⌜ r ≡ record { number = placeOf (first (sameBytes (now (label .entry))) (entries (labelAt (now (labels .entry))) stored)) stored; stored = countOf (first (sameBytes (now (label .entry))) (entries (labelAt (now (labels .entry))) stored)) stored } ⌝ }
     ensures { λ _. ⌜ now (labels .exit) ≡ entered (first (sameBytes (now (label .entry))) (entries (labelAt (now (labels .entry))) stored)) (now (labels .entry)) stored (now (label .entry)) ⌝ }
 {
@@ -149,20 +143,20 @@ fn apply(labels: &mut [u8], entries: &mut [u8], words: &mut [u64], text: &[u8])
     requires { ⌜ Fits (store (now labels) (now entries) (now words)) (now text) ⌝ }
     ensures { λ _. ⌜ left labels entries words ≡ listSet (lent labels entries words) (fields (now (text .entry))) ⌝ }
 {
-    let mut stored = words[0] as usize;
+    let mut stored = words[store::LABEL_COUNT] as usize;
     let mut listed = 0;
     let mut at = 0;
     let mut i = 0;
     loop {
         let Field::Part { start, end } = alphabet::next_field(text, at) else {
-            words[0] = stored as u64;
-            words[3] = listed as u64;
+            words[store::LABEL_COUNT] = stored as u64;
+            words[store::ONLYCAP_COUNT] = listed as u64;
             return;
         };
         let numbered = enter(labels, stored, &text[start..end]);
         stored = numbered.stored;
         if !seen_before(text, i, &text[start..end]) {
-            entries[832 + listed] = numbered.number as u8;
+            entries[store::ONLYCAP_FROM + listed] = numbered.number as u8;
             listed += 1;
         }
         at = end;
@@ -176,27 +170,27 @@ pub fn set_onlycap(labels: &mut [u8], entries: &mut [u8], words: &mut [u64], tex
     ensures { λ _. ⌜ left labels entries words ≡ onlycapStore (lent labels entries words) (now (text .entry)) ⌝ }
 {
     if !damage::undamaged(labels, entries, words) {
-        return Done::Refused(0);
+        return Done::Refused(refusals::DAMAGED);
     }
-    if LIMIT < text.len() {
-        return Done::Refused(1);
+    if alphabet::LINE_LIMIT < text.len() {
+        return Done::Refused(refusals::TOO_LONG);
     }
     let Field::Part { start: _, end: _ } = alphabet::next_field(text, 0) else {
-        return Done::Refused(2);
+        return Done::Refused(refusals::WRONG_FIELDS);
     };
     if lone_dash(text) {
-        words[3] = 0;
+        words[store::ONLYCAP_COUNT] = 0;
         return Done::Done;
     }
     if !all_formed(text) {
-        return Done::Refused(3);
+        return Done::Refused(refusals::BAD_LABEL);
     }
-    let counted = count(labels, words[0] as usize, text);
-    if LISTED < counted.different {
-        return Done::Refused(11);
+    let counted = count(labels, words[store::LABEL_COUNT] as usize, text);
+    if store::ONLYCAP_LIMIT < counted.different {
+        return Done::Refused(refusals::TOO_MANY_OVERRIDES);
     }
-    if STORED < counted.labels {
-        return Done::Refused(6);
+    if store::LABEL_LIMIT < counted.labels {
+        return Done::Refused(refusals::LABELS_FULL);
     }
     apply(labels, entries, words, text);
     Done::Done

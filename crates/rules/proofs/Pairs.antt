@@ -12,7 +12,7 @@ use Rattle.search.specs.declared.Found.the-variants.{At, Nothing}
 use Rattle.search.proofs.Laws.{same-sym}
 use Rattle.store.specs.Table.{Table, labelIn, enter, noPlace, soundTable}
 use Rattle.store.specs.Pairs.{modesFound, modesBetween, modesSoFar}
-use Rattle.store.specs.Judged.{Judged, is-refused, is-accepted}
+use Rattle.store.specs.Judged.{is-refused, is-accepted}
 use Rattle.store.proofs.Pairs.{enter-number, enter-other, enter-length, between-read}
 use Rattle.rules.specs.Rules.{pairLabels, pairRule, withPair, pairJudged}
 use Rattle.rules.specs.Within.{subjectNumber, objectNumber, labelsAfter, ruleOfPair, modesOfRule, placing, withPairAt, judgedAt}

@@ -1,5 +1,5 @@
 -- Where the code finds the rule of a pair of labels, or puts it: by a search for each label and one for the rule. Nobody has to believe this. Assumes nothing.
-use Prim.Native.Nat.{ℕ, _+_, _<_, _≤_}
+use Prim.Native.Nat.{ℕ, _+_, _≤_}
 use mathlib.Core.Bool.{cond}
 use mathlib.Core.Path.{_≡_}
 use mathlib.Core.List.{List}

@@ -257,10 +257,6 @@ unfolding entries
 entries-length f zero = refl
 entries-length f (suc n) = simp (length-append, entries-length f n) (omega arith)
 
-pub entries-none : {A : Type 0} (f : ℕ → A) → entries f 0 ≡ []
-unfolding entries
-entries-none f = refl
-
 pub entries-at : {A : Type 0} (f : ℕ → A) (d : A) (n k : ℕ) → k < n → getD (entries f n) k d ≡ f k
 unfolding entries
 entries-at f d zero k h = absurd (omega arith)
@@ -305,28 +301,6 @@ found-place p f n m h = by-case (first p (entries f n)) (λ i e. omega (arith, f
 pub last-entry : {A : Type 0} (f g : ℕ → A) (n : ℕ) (v : A) → ((k : ℕ) → k < n → f k ≡ g k) → g n ≡ v → entries g (suc n) ≡ entries f n ++ (v ∷ [])
 unfolding entries
 last-entry f g n v other here = rw (entries-same g f n (λ k kh. sym (other k kh)), here)
-
--- a table with one entry set, in a place that it has or in the next one
-pub entries-put :
-    {A : Type 0} (f g : ℕ → A) (n : ℕ) (r : Found) (v : A) →
-    placeOf r n < countOf r n →
-    ((k : ℕ) → k < n → (k ≡ placeOf r n → ⊥) → f k ≡ g k) →
-    g (placeOf r n) ≡ v →
-    entries g (countOf r n) ≡ put r (entries f n) v
-unfolding put
-entries-put f g n (At i) v h other here =
-    ext-getD v (entries g n) (set (entries f n) i v) (entries-length g n ∙ sym (length-set (entries f n) i v ∙ entries-length f n))
-    (λ k hk. let hk′ : k < n = rw entries-length at hk in entries-at g v n k hk′ ∙ by-place k hk′ (eqb k i) refl)
-  where
-    by-place : (k : ℕ) → k < n → (b : Bool) → eqb k i ≡ b → g k ≡ getD (set (entries f n) i v) k v
-    by-place k hk true e =
-        let z : k ≡ i = eqb-true k i e in
-        let hi : i < length (entries f n) = rw entries-length h in
-        rw z (here ∙ sym (getD-set-same (entries f n) i v v hi))
-    by-place k hk false e =
-        let z = eqb-false k i e in
-        sym (other k hk z) ∙ sym (getD-set-other (entries f n) i k v v z ∙ entries-at f v n k hk)
-entries-put f g n Nothing v h other here = rw add-one (last-entry f g n v (λ k kh. other k kh (λ e. absurd (omega arith))) here)
 
 -- ---- an entry put where a search says
 

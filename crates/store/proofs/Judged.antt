@@ -1,7 +1,7 @@
 -- Laws of what a write does: a refusal leaves every byte, and what an accepted write leaves holds its tables and is undamaged. The fresh table. Assumes nothing.
 use mathlib.Core.Path.{_≡_, refl, sym, ap, _∙_}
 use mathlib.Core.Bool.{Bool, true, false, cond, _&&_}
-use mathlib.Core.List.{List, []}
+use mathlib.Core.List.{[]}
 use Prim.Native.Nat.{ℕ, zero, suc, _≤_}
 use native.Mathlib.Omega.{arith}
 use lib.Dec.{eqb}
@@ -16,7 +16,7 @@ use Rattle.store.specs.Layout.{Store, store, tableOf, undamagedOf, fullS
 use Rattle.store.specs.Laid.{laid}
 use Rattle.store.specs.Within.{freshLabels, freshWords}
 use Rattle.store.specs.Judged.{Judged, is-skipped, is-refused, is-accepted, tableAfter, storeAfter, doneOf, onState, freshWrite, freshAnswer, freshStore}
-use Rattle.store.proofs.Laws.{Undamaged, undamaged-is, is-undamaged}
+use Rattle.store.proofs.Laws.{Undamaged, is-undamaged}
 use Rattle.store.proofs.Laid.{Fits, laid-table, laid-undamaged, laid-fresh}
 
 -- ---- by the test of the state

@@ -1,23 +1,22 @@
 -- Laws of the layout. Assumes nothing.
-use mathlib.Core.Path.{_≡_, refl, sym, ap, _∙_, subst}
-use mathlib.Core.Bool.{Bool, true, false, cond, _&&_}
+use mathlib.Core.Path.{_≡_, sym, _∙_}
+use mathlib.Core.Bool.{true}
 use mathlib.Core.List.{List, [], _∷_, _++_, append-assoc}
-use Prim.Native.Nat.{ℕ, zero, suc, _+_, _*_, _-_, _%_, _<_, _≤_}
+use Prim.Native.Nat.{ℕ, suc, _+_, _*_, _<_, _≤_}
 use native.Mathlib.Numerals.{add-one}
 use native.Mathlib.Omega.{arith}
 use lib.Dec.{eqb, ltb, leb}
 use borrow.Author.Tests.{eqb-true, leb-true, eq-eqb, le-leb, ltb-true, lt-ltb}
-use lib.ListN.{length, take, drop, getD, set, length-append, length-take, length-drop, length-set, take-append-drop}
-use lib.Seq.{take-suc, take-append-le, take-append-seam, drop-append-le, take-take, drop-at, getD-take, getD-drop, length-take-le, take-suc-set, drop-set-lt, drop-cons, getD-set-same, getD-set-other}
-use Rattle.search.specs.Search.{first, all, entries, placeOf, countOf}
+use lib.ListN.{length, take, drop, getD, set, length-drop, take-append-drop}
+use lib.Seq.{take-append-le, take-append-seam, drop-append-le, take-take, drop-at, length-take-le, take-suc-set, drop-set-lt}
+use Rattle.search.specs.Search.{all, entries}
 use Rattle.search.specs.Bytes.{written}
-use Rattle.search.proofs.Laws.{and-both, and-assoc, all-snoc, all-weaker, entries-same, entries-none, last-entry, length-written}
+use Rattle.search.proofs.Laws.{and-both, all-weaker, length-written}
 use Rattle.store.specs.declared.Rule.{Rule}
 use Rattle.store.specs.declared.Mapping.{Mapping}
-use Rattle.store.specs.Table.{Table, floor, hat, star, huh, web, fresh, soundRule, soundMapping, soundTable}
-use Rattle.store.specs.Layout.{Store, store, labelAt, ruleAt, mappingAt, onlycapAt, tableOf, undamagedOf, held, Sizes}
-use Rattle.store.specs.Within.{withLabel, withRule, freshLabels, freshWords, Counts}
-use Rattle.store.specs.Judged.{freshStore}
+use Rattle.store.specs.Table.{Table, soundRule, soundMapping, soundTable}
+use Rattle.store.specs.Layout.{Store, labelAt, tableOf, undamagedOf, Sizes}
+use Rattle.store.specs.Within.{withLabel, Counts}
 
 -- ---- the label store
 

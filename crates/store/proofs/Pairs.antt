@@ -1,7 +1,7 @@
 -- Laws of labels that enter, and of the rule of a pair. Assumes nothing.
-use mathlib.Core.Path.{_≡_, refl, sym, ap, _∙_}
-use mathlib.Core.Bool.{Bool, true, false, _&&_, and-false}
-use mathlib.Core.List.{List, [], _∷_, _++_}
+use mathlib.Core.Path.{_≡_, refl, ap, _∙_}
+use mathlib.Core.Bool.{Bool, true, false, and-false}
+use mathlib.Core.List.{List, [], _∷_}
 use Prim.Native.Nat.{ℕ, _+_}
 use native.Mathlib.Omega.{arith}
 use lib.Dec.{eqb, ltb}
@@ -13,7 +13,7 @@ use Rattle.search.specs.declared.Found.{Found}
 use Rattle.search.specs.declared.Found.the-variants.{At, Nothing}
 use Rattle.search.proofs.Laws.{and-both, same-refl, same-equal, all-snoc, first-snoc, first-last, length-put, Same, Distinct, distinct-put, Front, front-same}
 use Rattle.store.specs.declared.Rule.{Rule}
-use Rattle.store.specs.Table.{Table, labelIn, labelsEntered, enter, isPair, pairIn, soundRule, soundTable}
+use Rattle.store.specs.Table.{Table, labelsEntered, enter, isPair, pairIn, soundRule, soundTable}
 use Rattle.store.specs.Pairs.{ruleBetween}
 
 pub same-bytes : Same sameBytes

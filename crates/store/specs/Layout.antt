@@ -4,21 +4,18 @@
 --            the onlycap list from 832 to 840
 --   words    the counts of labels, rules, mappings and onlycap labels; from 4 to 36 the mappings' category sets
 -- What stands at or past a count means nothing, and no answer depends on it. (A search or a test may read it, in a block of places.)
-use Prim.Native.Nat.{ℕ, _+_, _*_, _≤_}
-use mathlib.Core.Bool.{Bool, true, false, cond, _&&_}
+use Prim.Native.Nat.{ℕ, _+_, _*_}
+use mathlib.Core.Bool.{Bool, _&&_}
 use mathlib.Core.Path.{_≡_}
-use mathlib.Core.List.{List, [], _∷_, _++_}
+use mathlib.Core.List.{List, [], _∷_}
 use lib.ListN.{length, take, drop, getD, set}
-use lib.Dec.{eqb, ltb, leb}
+use lib.Dec.{eqb, leb}
 use denote.Ref.{RefT, now}
 use denote.Triple.Both.{Both}
 use Rattle.search.specs.Search.{entries}
-use Rattle.search.specs.Bytes.{written}
 use Rattle.store.specs.declared.Rule.{Rule}
 use Rattle.store.specs.declared.Mapping.{Mapping}
-use Rattle.store.specs.declared.Done.{Done}
-use Rattle.store.specs.declared.Done.the-variants as d
-use Rattle.store.specs.Table.{Table, floor, hat, star, huh, web, soundTable, labelLimit, ruleLimit, mappingLimit, onlycapLimit}
+use Rattle.store.specs.Table.{Table, soundTable, labelLimit, ruleLimit, mappingLimit, onlycapLimit}
 
 -- the three lent slices
 pub record Store : Type 0 where

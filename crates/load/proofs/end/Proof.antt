@@ -6,7 +6,6 @@ use borrow.Author.Tests.{not-true, not-false, lt-ltb, le-ltb}
 use Rattle.store.specs.Layout.{store}
 use Rattle.reports.specs.declared.Loader.{Loader}
 use Rattle.reports.specs.declared.Report.{Report}
-use Rattle.load.specs.declared.Ended.{Ended}
 use Rattle.load.specs.declared.Ended.the-variants as e
 use Rattle.reports.specs.Report.{reportOf}
 use Rattle.load.specs.Loader.{Load, load, ready, endAnswer, endAfter, stepEnd}

@@ -4,7 +4,6 @@ use lib.Seq.{length-take-le}
 use borrow.Author.Tests.{lt-ltb, le-ltb}
 use Rattle.store.specs.Layout.{store}
 use Rattle.writes.specs.declared.Outcome.{Outcome}
-use Rattle.reports.specs.declared.Loader.{Loader}
 use Rattle.reports.specs.Report.{count}
 use Rattle.load.specs.Loader.{load}
 use borrow.Author.Needs.{needs}

@@ -14,7 +14,7 @@ use Rattle.store.specs.Table.{isPair, noPlace}
 use Rattle.store.specs.Layout.{labelAt, ruleAt}
 use Rattle.rules.specs.declared.Numbered.{Numbered}
 use borrow.Author.Needs.{needs}
-use Rattle.rules.proofs.Laws.{placing-store, subjectFound, objectFound, ruleFound, placeBy}
+use Rattle.rules.proofs.Laws.{placing-store, ruleFound}
 use Rattle.rules.proofs.find_place.Statement.{statement}
 use Rattle.rules.proofs.find_place.Tie as tie
 

@@ -1,5 +1,4 @@
 -- `rules::full` meets its contract, by the search's answer. Assumes nothing.
-use mathlib.Core.Path.{sym}
 use borrow.Author.Needs.{needs}
 use Rattle.rules.proofs.full.Statement.{statement}
 use Rattle.rules.proofs.full.Tie as tie

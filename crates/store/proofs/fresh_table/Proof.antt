@@ -1,12 +1,12 @@
 -- `store::fresh_table` meets its contract: five labels are written, and four counts. Assumes nothing.
 use Prim.Native.Nat.{ℕ}
-use mathlib.Core.Path.{_≡_, refl, _∙_, ap}
+use mathlib.Core.Path.{_≡_, _∙_, ap}
 use mathlib.Core.List.{List}
 use native.Mathlib.Omega.{arith}
 use borrow.Author.Tests.{eq-eqb, eqb-true, ne-eqb}
 use lib.ListN.{length, length-set}
-use Rattle.store.specs.Table.{floor, hat, star, huh, web}
-use Rattle.store.specs.Layout.{Store, store, Sizes}
+use Rattle.store.specs.Table.{hat, star, huh, web}
+use Rattle.store.specs.Layout.{store, Sizes}
 use Rattle.store.specs.Within.{withLabel, freshLabels, freshWords}
 use Rattle.store.specs.Judged.{freshWrite, freshStore, freshAnswer}
 use Rattle.store.proofs.Laid.{laid-fresh}

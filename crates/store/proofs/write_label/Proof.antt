@@ -1,6 +1,6 @@
 -- `store::write_label` meets its contract: the length byte and the label behind it are one write. Assumes nothing.
 use Prim.Native.Nat.{_*_, _<_}
-use mathlib.Core.Path.{_≡_, _∙_}
+use mathlib.Core.Path.{_∙_}
 use lib.ListN.{length, length-set}
 use Rattle.store.specs.Within.{withLabel}
 use borrow.Author.Needs.{needs}

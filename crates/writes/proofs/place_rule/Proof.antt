@@ -1,10 +1,7 @@
 -- `writes::place_rule` meets its contract, by the place that was found. Assumes nothing.
-use mathlib.Core.Path.{_≡_, sym, _∙_}
-use Rattle.store.specs.Layout.{store, tableOf}
+use mathlib.Core.Path.{sym, _∙_}
+use Rattle.store.specs.Layout.{store}
 use Rattle.store.proofs.Laws.{undamaged-is}
-use Rattle.rules.specs.Within.{placing}
-use Rattle.rules.specs.declared.Place.{Place}
-use Rattle.rules.specs.declared.Place.the-variants as p
 use borrow.Author.Needs.{needs}
 use Rattle.writes.proofs.Laws.{placed-is}
 use Rattle.writes.proofs.place_rule.Statement.{statement}
