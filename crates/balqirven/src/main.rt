@@ -3,16 +3,7 @@
 use program::Session;
 use program::Turn;
 ghost use Rattle.program.specs.Turns.{wentCount};
-ghost use Rattle.program.specs.Within.{Front};
-
-// The full sizes of the lent slices.
-const LABELS: usize = 16384;
-
-const ENTRIES: usize = 840;
-
-const WORDS: usize = 36;
-
-const LINE: usize = 600;
+ghost use Rattle.program.specs.Steps.{Front};
 
 // How much is read at once, and the room for what so much input may say.
 const PIECE: usize = 1024;
@@ -109,10 +100,10 @@ fn read_all(
 }
 
 fn main() {
-    let mut labels = [0u8; LABELS];
-    let mut entries = [0u8; ENTRIES];
-    let mut words = [0u64; WORDS];
-    let mut line = [0u8; LINE];
+    let mut labels = [0u8; store::LABELS_SIZE];
+    let mut entries = [0u8; store::ENTRIES_SIZE];
+    let mut words = [0u64; store::WORDS_SIZE];
+    let mut line = [0u8; alphabet::LINE_LIMIT];
     let mut out = [0u8; OUT];
     let s = program::begin(&mut labels, &entries, &mut words);
     read_all(

@@ -1,24 +1,24 @@
 -- What the program writes: every run of its calls says what 01 has written, and every input has a run. Assumes nothing.
 use mathlib.Core.Path.{_≡_, refl, sym, ap, _∙_, subst}
-use mathlib.Core.Bool.{Bool, true, false, cond, _&&_}
+use mathlib.Core.Bool.{cond, _&&_}
 use mathlib.Core.List.{List, [], _∷_, _++_}
 use Prim.Native.Nat.{ℕ, _*_, _≤_}
 use native.Mathlib.Omega.{arith}
 use lib.Dec.{leb}
-use lib.ListN.{length, take, replicate, length-replicate}
+use lib.ListN.{length, replicate, length-replicate}
 use denote.Ref.{RefT, now}
 use Rattle.search.specs.Bytes.{written}
 use Rattle.alphabet.specs.Alphabet.{lineLimit}
 use Rattle.store.specs.Table.{fresh}
-use Rattle.store.specs.Layout.{Store, store, Sizes}
+use Rattle.store.specs.Layout.{Store, Sizes}
 use Rattle.store.specs.Judged.{freshStore}
 use Rattle.store.proofs.Judged.{fresh-entries}
 use Rattle.load.specs.Loader.{ready}
-use Rattle.lists.specs.Called.{first, second, third, fourth, fifth, sixth, seventh, lent, left}
+use Rattle.lists.specs.Called.{first, second, third, fourth, seventh, lent, left}
 use Rattle.lists.specs.Reader.{startOn}
 use Rattle.program.specs.declared.Session.{Session}
 use Rattle.program.specs.Program.{output}
-use Rattle.program.specs.Within.{State, state, freshSession, sessionOf, turnOf, takeInput, sayInput, takeLast, sayLast, Turns}
+use Rattle.program.specs.Steps.{State, state, freshSession, turnOf, takeInput, sayInput, takeLast, sayLast}
 use Rattle.program.specs.Turns.{wentSession}
 use Rattle.program.proofs.Laws.{some-turn}
 use Rattle.program.proofs.Plain.{Phase, loads, phaseOn, saidOn, saidFrom, said-append, plain-output}

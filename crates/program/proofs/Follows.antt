@@ -3,14 +3,14 @@
 use mathlib.Core.Path.{_≡_, refl, sym, ap, _∙_, subst}
 use mathlib.Core.Bool.{Bool, true, false, cond, _&&_}
 use mathlib.Core.List.{List, [], _∷_, _++_}
-use Prim.Native.Nat.{ℕ, suc, _*_, _≤_}
+use Prim.Native.Nat.{ℕ, _*_, _≤_}
 use native.Mathlib.Omega.{arith}
 use lib.Dec.{ltb, eqb}
-use borrow.Author.Tests.{lt-ltb, le-ltb, ltb-true, ltb-false, ne-eqb, eq-eqb, le-leb}
+use borrow.Author.Tests.{lt-ltb, le-ltb, ltb-true, ltb-false, ne-eqb, le-leb}
 use lib.ListN.{length, take, getD}
 use lib.Seq.{take-all, getD-take, take-append-seam}
 use Rattle.search.specs.Bytes.{sameBytes, written}
-use Rattle.alphabet.specs.Alphabet.{lineLimit, fields, newline}
+use Rattle.alphabet.specs.Alphabet.{newline, lineLimit, fields}
 use Rattle.store.specs.Table.{Table, fresh}
 use Rattle.store.specs.Layout.{Store, Sizes}
 use Rattle.store.specs.Judged.{freshStore}
@@ -19,20 +19,20 @@ use Rattle.access.specs.Access.{answer, questionOf}
 use Rattle.access.specs.declared.Answer.{Answer}
 use Rattle.access.specs.declared.Answer.the-variants.{Refused}
 use Rattle.reports.specs.declared.Loader.{Loader}
-use Rattle.reports.specs.Report.{freshLoader, withKept}
+use Rattle.reports.specs.Report.{freshLoader}
 use Rattle.load.specs.declared.Ended.{Ended}
 use Rattle.load.specs.declared.Ended.the-variants as e
 use Rattle.load.specs.Loader.{Load, load, ready, stepByte, endAnswer, endAfter}
 use Rattle.load.proofs.Laws.{is-ready}
 use Rattle.lists.specs.Reader.{Totals, Reader, startOn, finish, limitedTotals, report}
 use Rattle.lists.specs.Reader as reader
-use Rattle.lists.proofs.Follows.{SameLine, SameTotals, Holds, step-follows, fresh-holds}
+use Rattle.lists.proofs.Follows.{SameLine, Holds, step-follows, fresh-holds}
 use Rattle.lists.proofs.Steps.{totals-of, end-reply, end-law, question-law}
 use Rattle.replies.specs.Replies.{answerLine}
 use Rattle.program.specs.Program.{mark, isMark, asked, answerTo, reportLine}
 use Rattle.program.specs.declared.Turn.{Turn}
 use Rattle.program.specs.Turns.{wentCount}
-use Rattle.program.specs.Within.{State, state, freshSession, asking, reading, atMark, emptied, unmarked, withoutMark, answerOf, answerText, endedText, textAfter, textSays, byteBy, sayBy, takeByte, sayByte, takeInput, sayInput, lastBy, sayLastBy, sayLast, Turns, Feeds, Finishes}
+use Rattle.program.specs.Steps.{State, state, freshSession, asking, reading, atMark, emptied, unmarked, withoutMark, answerOf, answerText, endedText, textAfter, textSays, byteBy, sayBy, takeByte, sayByte, takeInput, sayInput, sayLastBy, takeLast, sayLast, Turns}
 use Rattle.program.proofs.Laws.{unmarked-yes, unmarked-no}
 use Rattle.program.proofs.Plain.{Phase, loads, asks, keeping, plainUnmarked, phaseTo, reports, answers, phaseSays, phaseLast, phaseOn, saidOn}
 
@@ -191,13 +191,13 @@ turn-says {most = most} {said = said} {out = out} {out′ = out′} turn room fi
     let c = turn .output in
     (rw (p, fine) at b, ap (λ (t : Turn). take (wentCount t) out′) (rw (p, fine) at a) ∙ ap (λ (l : List ℕ). take (length said) l) (rw (p, fine) at c) ∙ front-is out said)
 
-pub feed-law : {s s′ : State} {out out′ : List ℕ} {r : Turn} (q : Phase) (input : List ℕ) → Feeds s input out r s′ out′ → 66 * length input ≤ length out → Stands s q → Kept s′ (take (wentCount r) out′) (phaseOn q input) (saidOn q input)
+pub feed-law : {s s′ : State} {out out′ : List ℕ} {r : Turn} (q : Phase) (input : List ℕ) → Turns (66 * length input) s (takeInput s input) (sayInput s input) out r s′ out′ → 66 * length input ≤ length out → Stands s q → Kept s′ (take (wentCount r) out′) (phaseOn q input) (saidOn q input)
 feed-law {s} q input turn room h =
     let t = turn-says turn room (stands-ready s q h) in
     let k = input-follows s q input h in
     record { stands = subst (λ (x : State). Stands x (phaseOn q input)) (sym (t .0)) (k .stands); says = t .1 ∙ k .says }
 
-pub finish-law : {s s′ : State} {out out′ : List ℕ} {r : Turn} (q : Phase) → Finishes s out r s′ out′ → 66 ≤ length out → Stands s q → take (wentCount r) out′ ≡ phaseLast q
+pub finish-law : {s s′ : State} {out out′ : List ℕ} {r : Turn} (q : Phase) → Turns 66 s (takeLast s) (sayLast s) out r s′ out′ → 66 ≤ length out → Stands s q → take (wentCount r) out′ ≡ phaseLast q
 finish-law {s} q turn room h = turn-says turn room (stands-ready s q h) .1 ∙ last-follows s q h
 
 pub begun : (st : Store) (line : List ℕ) → Sizes (st .labels) (st .entries) (st .words) → length line ≡ lineLimit → Stands (state (freshStore st) line freshSession) (loads (startOn fresh))

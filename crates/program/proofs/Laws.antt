@@ -11,7 +11,7 @@ use lib.ListN.{length, take, drop, set, getD, length-drop, drop-of-length-le, le
 use lib.Seq.{length-take-le, take-all, take-append-seam, getD-set-same, drop-cons, drop-drop}
 use Rattle.search.specs.Bytes.{written}
 use Rattle.search.proofs.Laws.{and-both}
-use Rattle.alphabet.specs.Alphabet.{lineLimit, fields, newline}
+use Rattle.alphabet.specs.Alphabet.{newline, lineLimit, fields}
 use Rattle.store.specs.Layout.{Store, undamagedOf}
 use Rattle.access.specs.Access.{questionOf}
 use Rattle.access.specs.declared.Answer.the-variants.{Refused}
@@ -24,14 +24,16 @@ use Rattle.load.specs.declared.Ended.{Ended}
 use Rattle.load.specs.declared.Ended.the-variants as e
 use Rattle.load.specs.Loader.{Load, load, ready, stepByte, stepPiece, beforeNewline, fedLoader, pieceAnswer, pieceAfter, stepEnd, endedLoader, endAnswer, endAfter}
 use Rattle.load.proofs.Laws.{Ready, ready-is, is-ready, ready-step, ready-piece, run-last, end-within, joins, too-long, byte-empties}
-use Rattle.replies.specs.Within.{Put, reportText}
+use Rattle.replies.specs.Replies.{reportText}
+use Rattle.replies.specs.Within.{Put}
 use Rattle.replies.proofs.Laws.{written-none, put-length, put-said, put-none, put-next}
 use Rattle.program.specs.Program.{mark, asked}
 use Rattle.program.specs.Turns.{wentSession, wentCount}
 use Rattle.program.specs.declared.Session.{Session}
 use Rattle.program.specs.declared.Turn.{Turn}
 use Rattle.program.specs.declared.Turn.the-variants as t
-use Rattle.program.specs.Within.{State, state, sessionOf, reading, asking, atMark, emptied, unmarked, answerOf, answerText, endedText, withoutMark, textAfter, textSays, takeByte, sayByte, takeInput, sayInput, textEnd, lastBy, sayLastBy, takeLast, sayLast, turnOf, Front, Turns}
+use Rattle.program.specs.Steps.{State, state, sessionOf, reading, asking, atMark, emptied, unmarked, answerOf, answerText, endedText, withoutMark, textAfter, textSays, takeByte, sayByte, takeInput, sayInput, lastBy, sayLastBy, takeLast, sayLast, turnOf, Front, Turns}
+use Rattle.program.specs.Within.{textEnd}
 
 -- ---- a call, by its answer
 

@@ -10,13 +10,13 @@ use lib.ListN.{length}
 use Rattle.search.specs.Search.{all}
 use Rattle.search.specs.Bytes.{sameBytes}
 use Rattle.search.proofs.Laws.{all-snoc, and-both}
-use Rattle.store.specs.Table.{Table, fresh}
+use Rattle.store.specs.Table.{fresh}
 use Rattle.access.specs.Access.{answer}
-use Rattle.lists.specs.Reader.{Totals, zeros, Reader, startOn, endLine, takeByte, takePiece, finish, limitedTotals}
-use Rattle.replies.specs.Replies.{answerLine}
+use Rattle.lists.specs.Reader.{Reader, startOn, endLine, takeByte, takePiece, finish, limitedTotals}
 use Rattle.alphabet.specs.Alphabet.{newline}
-use Rattle.program.specs.Program.{linesFrom, lines, isMark, ruleLines, questionLines, asText, answerTo, reportLine, answerLines, output}
-use Rattle.program.specs.Within.{saying}
+use Rattle.replies.specs.Replies.{answerLine}
+use Rattle.program.specs.Program.{linesFrom, isMark, ruleLines, questionLines, asText, answerTo, reportLine, answerLines, output}
+use Rattle.program.specs.Steps.{saying}
 
 -- ---- rule text is still read, or questions are
 

@@ -1,3 +1,4 @@
 pub mod Program
 pub mod Turns
+pub mod Steps
 pub mod Within

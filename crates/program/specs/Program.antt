@@ -5,7 +5,8 @@ use mathlib.Core.List.{List, [], _∷_, _++_}
 use lib.ListN.{length}
 use lib.Dec.{ltb, eqb}
 use Rattle.search.specs.Bytes.{sameBytes}
-use Rattle.alphabet.specs.Alphabet.{lineLimit, fields, newline}
+use Rattle.refusals.specs.Refusals.{tooLong, wrongFields}
+use Rattle.alphabet.specs.Alphabet.{newline, lineLimit, fields}
 use Rattle.store.specs.Table.{Table, fresh}
 use Rattle.access.specs.Access.{answer}
 use Rattle.access.specs.declared.Answer.{Answer}
@@ -50,16 +51,16 @@ asText (l ∷ ls) = (l ++ (newline ∷ [])) ++ asText ls
 -- the question that a line's fields ask: subject, object, request and, where the asker has the capability, a fourth field `o`. Other
 -- fields are refused with 2, before the question's own refusals
 abbrev pub asked : (List ℕ → List ℕ → List ℕ → Bool → Answer) → List (List ℕ) → Answer
-asked ask [] = Refused 2
-asked ask (s ∷ []) = Refused 2
-asked ask (s ∷ o ∷ []) = Refused 2
+asked ask [] = Refused wrongFields
+asked ask (s ∷ []) = Refused wrongFields
+asked ask (s ∷ o ∷ []) = Refused wrongFields
 asked ask (s ∷ o ∷ r ∷ []) = ask s o r false
-asked ask (s ∷ o ∷ r ∷ c ∷ []) = cond (sameBytes c (111 ∷ [])) (ask s o r true) (Refused 2)
-asked ask (s ∷ o ∷ r ∷ c ∷ x ∷ more) = Refused 2
+asked ask (s ∷ o ∷ r ∷ c ∷ []) = cond (sameBytes c (111 ∷ [])) (ask s o r true) (Refused wrongFields)
+asked ask (s ∷ o ∷ r ∷ c ∷ x ∷ more) = Refused wrongFields
 
 -- a line over 600 bytes is refused with 1, before 2 and the question's own.
 unfoldable pub answerTo : (List ℕ → List ℕ → List ℕ → Bool → Answer) → List ℕ → Answer
-answerTo ask line = cond (ltb lineLimit (length line)) (Refused 1) (asked ask (fields line))
+answerTo ask line = cond (ltb lineLimit (length line)) (Refused tooLong) (asked ask (fields line))
 
 -- ---- what is written
 

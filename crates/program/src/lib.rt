@@ -11,15 +11,13 @@ ghost use mathlib.Core.Bool.{true};
 ghost use Prim.Native.Nat.{suc, _+_, _*_, _≤_};
 ghost use lib.ListN.{length};
 ghost use Rattle.alphabet.specs.Alphabet.{lineLimit, fields};
-ghost use Rattle.store.specs.Layout.{store};
+ghost use Rattle.store.specs.Layout.{store, lent};
 ghost use Rattle.store.specs.Judged.{freshStore};
 ghost use Rattle.access.specs.Access.{questionOf};
 ghost use Rattle.program.specs.Program.{asked};
-ghost use Rattle.program.specs.Turns.{wentSession, wentCount};
+ghost use Rattle.program.specs.Turns.{wentCount};
+ghost use Rattle.program.specs.Steps as steps;
 ghost use Rattle.program.specs.Within as within;
-
-// The most bytes of a question line, and the size of the lent line.
-const LIMIT: usize = 600;
 
 // The most bytes that a line of output has.
 const ROOM: usize = 66;
@@ -50,8 +48,8 @@ struct Step {
 
 // Begins: a fresh table in the lent memory, and a fresh session.
 pub fn begin(labels: &mut [u8], entries: &[u8], words: &mut [u64]) -> Session
-    ensures { λ r. ⌜ r ≡ within.freshSession ⌝ }
-    ensures { λ _. ⌜ store (now (labels .exit)) (now (entries .entry)) (now (words .exit)) ≡ freshStore (within.lent labels entries words) ⌝ }
+    ensures { λ r. ⌜ r ≡ steps.freshSession ⌝ }
+    ensures { λ _. ⌜ store (now (labels .exit)) (now (entries .entry)) (now (words .exit)) ≡ freshStore (lent labels entries words) ⌝ }
 {
     store::fresh_table(labels, entries, words);
     let loading = true;
@@ -63,7 +61,7 @@ pub fn begin(labels: &mut [u8], entries: &[u8], words: &mut [u64]) -> Session
 
 // Whether the line under way is exactly `?`.
 fn is_mark(line: &[u8], l: Loader) -> bool
-    ensures { λ r. ⌜ r ≡ within.atMark (now (line .entry)) l ⌝ }
+    ensures { λ r. ⌜ r ≡ steps.atMark (now (line .entry)) l ⌝ }
 {
     if l.kept != 1 {
         return false;
@@ -76,7 +74,7 @@ fn is_mark(line: &[u8], l: Loader) -> bool
 
 // The loader without the line under way, where that is exactly `?`.
 fn unmarked(line: &[u8], l: Loader) -> Loader
-    ensures { λ r. ⌜ r ≡ within.unmarked (now (line .entry)) l ⌝ }
+    ensures { λ r. ⌜ r ≡ steps.unmarked (now (line .entry)) l ⌝ }
 {
     if is_mark(line, l) {
         return reports::keep(l, 0);
@@ -107,16 +105,16 @@ fn text_end(input: &[u8], empty: bool, marked: bool) -> usize
 // The answer to a question line that is not too long: refusal 2 before the question's own. It is asked of a state that `feed` or `finish` has tested, so
 // that 0 comes first.
 fn question_line(labels: &[u8], entries: &[u8], words: &[u64], line: &[u8]) -> Answer
-    ensures { λ r. ⌜ r ≡ asked (questionOf (within.lent labels entries words)) (fields (now (line .entry))) ⌝ }
+    ensures { λ r. ⌜ r ≡ asked (questionOf (lent labels entries words)) (fields (now (line .entry))) ⌝ }
 {
     let Field::Part { start: a, end: b } = alphabet::next_field(line, 0) else {
-        return Answer::Refused(2);
+        return Answer::Refused(refusals::WRONG_FIELDS);
     };
     let Field::Part { start: c, end: d } = alphabet::next_field(line, b) else {
-        return Answer::Refused(2);
+        return Answer::Refused(refusals::WRONG_FIELDS);
     };
     let Field::Part { start: e, end: f } = alphabet::next_field(line, d) else {
-        return Answer::Refused(2);
+        return Answer::Refused(refusals::WRONG_FIELDS);
     };
     let Field::Part { start: g, end: h } = alphabet::next_field(line, f) else {
         return access::question(
@@ -130,7 +128,7 @@ fn question_line(labels: &[u8], entries: &[u8], words: &[u64], line: &[u8]) -> A
         );
     };
     let Field::End = alphabet::next_field(line, h) else {
-        return Answer::Refused(2);
+        return Answer::Refused(refusals::WRONG_FIELDS);
     };
     let capability = [111u8];
     if search::same_bytes(&line[g..h], &capability) {
@@ -144,7 +142,7 @@ fn question_line(labels: &[u8], entries: &[u8], words: &[u64], line: &[u8]) -> A
             true,
         );
     }
-    Answer::Refused(2)
+    Answer::Refused(refusals::WRONG_FIELDS)
 }
 
 // Answers the question line that is kept, from index `at` of the output on. Who calls it has tested the line's size and the room.
@@ -158,10 +156,10 @@ fn answer_line(
     at: usize,
 ) -> usize
     requires { ⌜ (length (now line) ≡ lineLimit) × (at + 66 ≤ length (now out)) ⌝ }
-    ensures { λ r. ⌜ within.Answers (within.lent labels entries words) (now (line .entry)) kept (now (out .entry)) at (now (out .exit)) r ⌝ }
+    ensures { λ r. ⌜ within.Answers (lent labels entries words) (now (line .entry)) kept (now (out .entry)) at (now (out .exit)) r ⌝ }
 {
-    if LIMIT < kept {
-        return replies::write_answer(out, at, Answer::Refused(1));
+    if alphabet::LINE_LIMIT < kept {
+        return replies::write_answer(out, at, Answer::Refused(refusals::TOO_LONG));
     }
     let answer = question_line(labels, entries, words, &line[..kept]);
     replies::write_answer(out, at, answer)
@@ -179,8 +177,8 @@ fn answer_lines(
     input: &[u8],
 ) -> Step
     requires { ⌜ (length (now line) ≡ lineLimit) × (from + 66 * length (now input) ≤ length (now out)) ⌝ }
-    ensures { λ r. ⌜ within.asks labels entries words (now (line .exit)) (r .loader) ≡ within.takeInput (within.asks labels entries words (now (line .entry)) l) (now (input .entry)) ⌝ }
-    ensures { λ r. ⌜ within.Says (within.asks labels entries words (now (line .entry)) l) (now (input .entry)) (now (out .entry)) from (now (out .exit)) (r .at) ⌝ }
+    ensures { λ r. ⌜ within.asksOn labels entries words line (r .loader) ≡ steps.takeInput (within.asks labels entries words line l) (now (input .entry)) ⌝ }
+    ensures { λ r. ⌜ within.Says (within.asks labels entries words line l) (now (input .entry)) (now (out .entry)) from (now (out .exit)) (r .at) ⌝ }
 {
     let mut next = l;
     let mut at = from;
@@ -207,7 +205,7 @@ fn end_text(
     s: Session,
 ) -> Turn
     requires { ⌜ 66 ≤ length (now out) ⌝ }
-    ensures { λ r. ⌜ within.TextEnds (within.enters labels entries words line s) (now (out .entry)) r (within.leaves labels entries words line (wentSession s r)) (now (out .exit)) ⌝ }
+    ensures { λ r. ⌜ within.TextEnds (steps.enters labels entries words line s) out r (steps.leaves labels entries words line s r) ⌝ }
     ensures { λ r. ⌜ wentCount r ≤ 66 ⌝ }
 {
     let last = unmarked(line, s.loader);
@@ -235,7 +233,7 @@ fn turn_to_questions(
     input: &[u8],
 ) -> Turn
     requires { ⌜ 66 * suc (length (now input)) ≤ length (now out) ⌝ }
-    ensures { λ r. ⌜ within.TurnsToQuestions (within.enters labels entries words line s) (now (input .entry)) (now (out .entry)) r (within.leaves labels entries words line (wentSession s r)) (now (out .exit)) ⌝ }
+    ensures { λ r. ⌜ within.TurnsOver (steps.enters labels entries words line s) (now (input .entry)) out r (steps.leaves labels entries words line s r) ⌝ }
 {
     let Turn::Went(ended, at) = end_text(labels, entries, words, line, out, s) else {
         return Turn::Damaged;
@@ -259,7 +257,7 @@ fn take_text(
     input: &[u8],
 ) -> Turn
     requires { ⌜ (s .loading ≡ true) × (66 * length (now input) ≤ length (now out)) ⌝ }
-    ensures { λ r. ⌜ within.Feeds (within.enters labels entries words line s) (now (input .entry)) (now (out .entry)) r (within.leaves labels entries words line (wentSession s r)) (now (out .exit)) ⌝ }
+    ensures { λ r. ⌜ steps.Feeds (steps.enters labels entries words line s) (now (input .entry)) out r (steps.leaves labels entries words line s r) ⌝ }
 {
     let l = s.loader;
     let end = text_end(input, l.kept == 0, is_mark(line, l));
@@ -287,7 +285,7 @@ pub fn feed(
     s: Session,
     input: &[u8],
 ) -> Turn
-    ensures { λ r. ⌜ within.Feeds (within.enters labels entries words line s) (now (input .entry)) (now (out .entry)) r (within.leaves labels entries words line (wentSession s r)) (now (out .exit)) ⌝ }
+    ensures { λ r. ⌜ steps.Feeds (steps.enters labels entries words line s) (now (input .entry)) out r (steps.leaves labels entries words line s r) ⌝ }
 {
     if out.len() / ROOM < input.len() {
         return Turn::NoRoom;
@@ -314,7 +312,7 @@ pub fn finish(
     out: &mut [u8],
     s: Session,
 ) -> Turn
-    ensures { λ r. ⌜ within.Finishes (within.enters labels entries words line s) (now (out .entry)) r (within.leaves labels entries words line (wentSession s r)) (now (out .exit)) ⌝ }
+    ensures { λ r. ⌜ steps.Finishes (steps.enters labels entries words line s) out r (steps.leaves labels entries words line s r) ⌝ }
 {
     if out.len() < ROOM {
         return Turn::NoRoom;

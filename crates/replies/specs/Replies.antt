@@ -5,6 +5,7 @@ use mathlib.Core.List.{List, [], _∷_, _++_}
 use lib.Dec.{ltb}
 use Rattle.alphabet.specs.Alphabet.{newline}
 use Rattle.answers.specs.Answers.{shown}
+use Rattle.reports.specs.declared.Report.{Report}
 use Rattle.access.specs.declared.Answer.{Answer}
 use Rattle.access.specs.declared.Answer.the-variants.{Granted, Denied, Override, Refused}
 
@@ -21,6 +22,10 @@ abbrev pub numbersLine : List ℕ → List ℕ
 numbersLine [] = newline ∷ []
 numbersLine (n ∷ []) = decimal n ++ (newline ∷ [])
 numbersLine (n ∷ m ∷ ms) = (decimal n ++ (32 ∷ [])) ++ numbersLine (m ∷ ms)
+
+-- a report, as it is written: lines, accepted, skipped, refused, first refused line, its reason
+abbrev pub reportText : Report → List ℕ
+reportText r = numbersLine (r .lines ∷ r .accepted ∷ r .skipped ∷ r .refused ∷ r .first ∷ r .reason ∷ [])
 
 -- `granted `, `denied `, `override `, `refused `
 abbrev pub wordOf : Answer → List ℕ

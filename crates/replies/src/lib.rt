@@ -1,12 +1,11 @@
 // The lines that the program writes (01, What the program reads and writes): the report and the answers, as bytes of an output.
 use access::Answer;
 use reports::Report;
-ghost use mathlib.Core.Path.{_≡_};
 ghost use mathlib.Core.List.{[], _∷_, _++_};
 ghost use Prim.Native.Nat.{_+_, _≤_};
 ghost use lib.ListN.{length};
-ghost use Rattle.replies.specs.Replies.{decimal, wordOf, answerLine};
-ghost use Rattle.replies.specs.Within.{Put, reportText};
+ghost use Rattle.replies.specs.Replies.{decimal, reportText, wordOf, answerLine};
+ghost use Rattle.replies.specs.Within.{Put};
 
 // Writes a number in decimal digits from index `at`, and answers the index behind it. Who calls it has made sure that there is room.
 fn write_number(out: &mut [u8], at: usize, n: u32) -> usize

@@ -2,7 +2,7 @@
 use mathlib.Core.Path.{subst}
 use Rattle.program.specs.declared.Turn.{Turn}
 use Rattle.program.specs.Turns.{wentCount}
-use Rattle.program.specs.Within.{Front}
+use Rattle.program.specs.Steps.{Front}
 use borrow.Author.Needs.{needs}
 use Rattle.balqirven.proofs.put_out.Statement.{statement}
 use Rattle.balqirven.proofs.put_out.Tie as tie

@@ -13,7 +13,7 @@ use Rattle.load.specs.Loader.{Load, load}
 use Rattle.load.proofs.Laws.{end-behind, end-within, run-between}
 use Rattle.replies.specs.Within.{Put}
 use Rattle.replies.proofs.Laws.{put-none, put-said, put-next, put-left, put-length}
-use Rattle.program.specs.Within.{State, asking, emptied, answerText, takeInput, sayInput}
+use Rattle.program.specs.Steps.{State, asking, emptied, answerText, takeInput, sayInput}
 use Rattle.program.proofs.Laws.{lines-over, line-over}
 use Rattle.program.proofs.answer_lines.Statement.{statement}
 use Rattle.program.proofs.answer_lines.Tie as tie

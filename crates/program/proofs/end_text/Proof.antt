@@ -1,7 +1,7 @@
 -- `program::end_text` meets its contract: it writes the report that the end call answers. Assumes nothing.
 use native.Mathlib.Omega.{arith}
 use Rattle.store.specs.Layout.{store}
-use Rattle.program.specs.Within.{state}
+use Rattle.program.specs.Steps.{state}
 use Rattle.program.proofs.Laws.{text-damaged, text-went}
 use borrow.Author.Needs.{needs}
 use Rattle.program.proofs.end_text.Statement.{statement}

@@ -4,7 +4,7 @@ use native.Mathlib.Omega.{arith}
 use borrow.Author.Tests.{not-true, not-false}
 use Rattle.store.specs.Layout.{store}
 use Rattle.load.proofs.Laws.{ready-is}
-use Rattle.program.specs.Within.{State, state}
+use Rattle.program.specs.Steps.{State, state}
 use Rattle.program.proofs.Laws.{no-room, damaged, feed-asked}
 use borrow.Author.Needs.{needs}
 use Rattle.program.proofs.feed.Statement.{statement}

@@ -1,12 +1,12 @@
 -- `program::finish` meets its contract: rule text ends, or the last question line is answered. Assumes nothing.
-use mathlib.Core.Path.{_≡_, sym, _∙_}
+use mathlib.Core.Path.{sym, _∙_}
 use mathlib.Core.Bool.{true}
 use native.Mathlib.Omega.{arith}
 use borrow.Author.Tests.{not-true, not-false}
 use Rattle.store.specs.Layout.{store}
 use Rattle.load.specs.Loader.{ready}
 use Rattle.load.proofs.Laws.{ready-is}
-use Rattle.program.specs.Within.{State, state}
+use Rattle.program.specs.Steps.{State, state}
 use Rattle.program.proofs.Laws.{no-room, damaged, finish-text, finish-none, finish-asked}
 use borrow.Author.Needs.{needs}
 use Rattle.program.proofs.finish.Statement.{statement}

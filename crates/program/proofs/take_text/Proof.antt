@@ -7,7 +7,8 @@ use lib.Dec.{eqb}
 use lib.ListN.{length, length-drop}
 use lib.Seq.{length-take-le}
 use Rattle.store.specs.Layout.{store}
-use Rattle.program.specs.Within.{State, state, atMark, textEnd}
+use Rattle.program.specs.Steps.{State, state, atMark}
+use Rattle.program.specs.Within.{textEnd}
 use Rattle.program.proofs.Laws.{text-inside, rest-is, feed-damaged, feed-all, feed-rest}
 use borrow.Author.Needs.{needs}
 use Rattle.program.proofs.take_text.Statement.{statement}

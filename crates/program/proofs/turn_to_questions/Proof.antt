@@ -1,5 +1,5 @@
 -- `program::turn_to_questions` meets its contract: the report is written, and then the answers. Assumes nothing.
-use mathlib.Core.Path.{_≡_, subst, _∙_}
+use mathlib.Core.Path.{subst, _∙_}
 use mathlib.Core.List.{[], _∷_}
 use native.Mathlib.Omega.{arith}
 use denote.Enum.Declared.{tagOf}
@@ -7,7 +7,7 @@ use types.Run.{OneOf, miss}
 use Rattle.store.specs.Layout.{store}
 use Rattle.load.proofs.Laws.{ready-is}
 use Rattle.program.specs.declared.Turn.{Turn}
-use Rattle.program.specs.Within.{State, state}
+use Rattle.program.specs.Steps.{State, state}
 use Rattle.program.proofs.Turn.{the-type}
 use Rattle.program.proofs.Laws.{over-damaged, over-went, undamaged, at-most, left-size}
 use borrow.Author.Needs.{needs}
