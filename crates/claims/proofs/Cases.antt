@@ -1,6 +1,6 @@
 -- The cases P1 to P12 are computed on the definitions. Assumes nothing.
 use mathlib.Core.Path.{_≡_, refl, ap, _∙_}
-use mathlib.Core.Bool.{Bool, true, and-true}
+use mathlib.Core.Bool.{true, and-true}
 use mathlib.Core.List.{List, [], _∷_}
 use Prim.Native.Nat.{ℕ}
 use Rattle.search.specs.Search.{first, all, put, entries}
@@ -9,7 +9,7 @@ use Rattle.alphabet.specs.Alphabet.{isBlank, labelByte, wellFormed, fields}
 use Rattle.modes.specs.Modes.{bitOf, allowedByte, modesOf, readModes, modesText}
 use Rattle.numbers.specs.Numbers.{numberOf}
 use Rattle.numbers.specs.Categories.{categories, withCategory}
-use Rattle.store.specs.Table.{Table, fresh, isPair}
+use Rattle.store.specs.Table.{fresh, isPair}
 use Rattle.store.specs.Judged.{tableAfter}
 use Rattle.lines.specs.Lines.{ruleBy, ruleOf, changeBy, changeOf}
 use Rattle.rules.specs.Rules.{withPair}
@@ -17,7 +17,7 @@ use Rattle.store.specs.Pairs.{modesBetween}
 use Rattle.access.specs.Access.{effective, decide, answer}
 use Rattle.cipso.specs.Cipso.{SaidMapping, mapping, categoriesOf, saidBy, mappingOf, names, withMapping, mappingWrite, saidJudged}
 use Rattle.lookups.specs.Lookups.{labelLookup}
-use Rattle.claims.specs.Cases.{Case, asks, changes, maps, right, sameLookup, cases, Vault7}
+use Rattle.claims.specs.Cases.{maps, right, sameLookup, cases, Vault7}
 
 -- `Vault7 9 1 63`
 abbrev write : List ℕ

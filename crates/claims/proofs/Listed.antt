@@ -9,7 +9,7 @@ use lib.Dec.{eqb, ltb, leb}
 use lib.ListN.{length}
 use Rattle.search.specs.Bytes.{sameBytes}
 use Rattle.search.proofs.Laws.{no}
-use Rattle.search.specs.Search.{first, all, entries, placeOf}
+use Rattle.search.specs.Search.{first, all, entries}
 use Rattle.search.specs.declared.Found.{Found}
 use Rattle.search.specs.declared.Found.the-variants.{At, Nothing}
 use Rattle.alphabet.specs.Alphabet.{wellFormed, fields, lineLimit}
@@ -22,7 +22,7 @@ use Rattle.numbers.specs.declared.Number.{Number}
 use Rattle.numbers.specs.declared.Number.the-variants as number
 use Rattle.store.specs.declared.Done.{Done}
 use Rattle.store.specs.declared.Done.the-variants as d
-use Rattle.store.specs.Table.{Table, fresh, labelIn, labelLimit, ruleLimit, mappingLimit, onlycapLimit, ruleNumbered, knownSet, noPlace}
+use Rattle.store.specs.Table.{Table, fresh, labelIn, labelLimit, ruleLimit, mappingLimit, onlycapLimit, ruleNumbered, noPlace}
 use Rattle.store.specs.Layout.{Store, tableOf, undamagedOf, fullSizes}
 use Rattle.store.specs.Judged.{freshWrite, freshAnswer, Judged, is-skipped, is-refused, is-accepted, doneOf, onState}
 use Rattle.lines.specs.Lines.{Said, skipped, refused, rule, change, ruleWith, ruleBy, ruleFields, ruleOf, changeWith, changeBy, changeFields, changeOf}

@@ -1,6 +1,6 @@
 -- 01, Either side of a limit: the cases P1 to P12 that are proved, as one table and one test over it. Assumes nothing.
 use Prim.Native.Nat.{ℕ}
-use mathlib.Core.Bool.{Bool, true, false, cond, _&&_, Bool·beq}
+use mathlib.Core.Bool.{Bool, true, false, _&&_, Bool·beq}
 use mathlib.Core.List.{List, [], _∷_, foldl}
 use lib.Dec.{eqb}
 use Rattle.search.specs.Bytes.{sameBytes}

@@ -1,9 +1,7 @@
 -- What a C or Rust program that links the library relies on: of each exported function of the crate host, that it asks nothing of its caller,
 -- and what it answers and leaves. Nothing here says what a function does by itself: `Asked` and `Learnt` are what Rattle makes of that
 -- function's own `requires` and `ensures`. So an exported contract that said less would no longer give what stands here. Assumes nothing.
-use Prim.Native.Nat.{ℕ}
 use mathlib.Core.Path.{_≡_, refl}
-use mathlib.Core.List.{List}
 use lib.ListN.{length, take, drop}
 use contract.Lifetimes.{Lfts}
 use contract.Monad.{fact}

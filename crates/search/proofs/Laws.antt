@@ -10,7 +10,7 @@ use native.Mathlib.Omega.{arith}
 use lib.Dec.{eqb}
 use borrow.Author.Tests.{eqb-true, eqb-false, eq-eqb, ne-eqb}
 use lib.ListN.{length, take, drop, getD, set, length-append, length-take, length-drop, length-set, length-map, List·getD-append}
-use lib.Seq.{drop-cons, drop-drop, drop-append-add, take-at, set-split, getD-at, getD-set-same, getD-set-other, ext-getD, length-take-le}
+use lib.Seq.{drop-cons, drop-drop, drop-append-add, take-at, set-split, getD-at, getD-set-same, getD-set-other, length-take-le}
 use Rattle.search.specs.Search.{first, all, put, placeOf, countOf, entries, later}
 use Rattle.search.specs.Bytes.{sameBytes, written}
 use Rattle.search.specs.declared.Found.{Found}
