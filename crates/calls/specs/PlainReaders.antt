@@ -3,7 +3,8 @@ use Prim.Native.Nat.{ℕ}
 use mathlib.Core.Path.{_≡_}
 use mathlib.Core.Bool.{true, cond}
 use mathlib.Core.List.{List, [], _∷_, _++_}
-use lib.Dec.{eqb}
+use Rattle.refusals.specs.Refusals.{damaged}
+use Rattle.alphabet.specs.Alphabet.{isNewline}
 use Rattle.store.specs.Table.{Table}
 use Rattle.store.specs.Layout.{tableOf}
 use Rattle.lines.specs.Lines.{change, ruleOf, changeOf}
@@ -34,7 +35,7 @@ endedAt (b ∷ bs) rest = line (b ∷ bs) ∷ rest
 
 abbrev pub actsFrom : List ℕ → List Event → List Act
 actsFrom kept [] = []
-actsFrom kept (byte b ∷ es) = cond (eqb b 10) (line kept ∷ actsFrom [] es) (actsFrom (kept ++ (b ∷ [])) es)
+actsFrom kept (byte b ∷ es) = cond (isNewline b) (line kept ∷ actsFrom [] es) (actsFrom (kept ++ (b ∷ [])) es)
 actsFrom kept (stop ∷ es) = endedAt kept (actsFrom [] es)
 actsFrom kept (wrote w ∷ es) = single w ∷ actsFrom kept es
 
@@ -85,12 +86,12 @@ pub record PlainReaders (s : Load) (cs : List Call) (rs : List Reply) (s′ : Lo
 -- ---- of a damaged table every call is refused with 0, and a lent buffer is as it was
 
 abbrev pub refusal-of : Call → Reply
-refusal-of (r.piece text) = r.refusal 0
-refusal-of r.end-call = r.refusal 0
-refusal-of (r.write w) = r.refusal 0
-refusal-of (r.ask (r.question s o request capable)) = r.answered (shown (answer.Refused 0))
-refusal-of (r.ask (r.by-label l)) = r.mapped (lookupShown (lookup.Refused 0))
-refusal-of (r.ask (r.by-level level set)) = r.lowest (searchShown (label.Refused 0))
-refusal-of (r.ask (r.list-rule k out)) = r.listed (listShown (listed.Refused 0)) out
-refusal-of (r.ask (r.label k)) = r.refusal 0
-refusal-of (r.ask (r.label-check k)) = r.refusal 0
+refusal-of (r.piece text) = r.refusal damaged
+refusal-of r.end-call = r.refusal damaged
+refusal-of (r.write w) = r.refusal damaged
+refusal-of (r.ask (r.question s o request capable)) = r.answered (shown (answer.Refused damaged))
+refusal-of (r.ask (r.by-label l)) = r.mapped (lookupShown (lookup.Refused damaged))
+refusal-of (r.ask (r.by-level level set)) = r.lowest (searchShown (label.Refused damaged))
+refusal-of (r.ask (r.list-rule k out)) = r.listed (listShown (listed.Refused damaged)) out
+refusal-of (r.ask (r.label k)) = r.refusal damaged
+refusal-of (r.ask (r.label-check k)) = r.refusal damaged

@@ -48,8 +48,10 @@ pub fn tables_follow()
 // And every list can be made from every state, so that none of this speaks of nothing.
 pub fn demand_3()
     ensures { λ _. ⌜ ((s s′ : Load) (cs : List Call) (rs : List Reply) → Fresh s → Runs s cs rs s′ → PlainReaders s cs rs s′) ⌝ }
-    ensures { λ _. ⌜ ((s z s′ z′ : Load) (cs ds : List Call) (rs qs : List Reply) → Fresh s → Fresh z → tableOf (s .store) ≡ tableOf (z .store) → events cs ≡ events ds → Runs s cs rs s′ → Runs z ds qs z′ → (tableOf (s′ .store) ≡ tableOf (z′ .store)) × (reports rs ≡ reports qs)) ⌝ }
-    ensures { λ _. ⌜ ((s s′ : Load) (cs : List Call) (rs : List Reply) → undamagedOf (s .store) ≡ false → Runs s cs rs s′ → (s′ ≡ s) × (rs ≡ map refusal-of cs)) ⌝ }
+    ensures { λ _. ⌜ ((s z s′ z′ : Load) (cs ds : List Call) (rs qs : List Reply) → Fresh s → Fresh z → tableOf (s .store) ≡ tableOf (z .store) →
+        events cs ≡ events ds → Runs s cs rs s′ → Runs z ds qs z′ → (tableOf (s′ .store) ≡ tableOf (z′ .store)) × (reports rs ≡ reports qs)) ⌝ }
+    ensures { λ _. ⌜ ((s s′ : Load) (cs : List Call) (rs : List Reply) → undamagedOf (s .store) ≡ false → Runs s cs rs s′ → (s′ ≡ s) ×
+        (rs ≡ map refusal-of cs)) ⌝ }
     ensures { λ _. ⌜ ((s : Load) (cs : List Call) → (rs : List Reply) × (s′ : Load) × Runs s cs rs s′) ⌝ }
 {}
 

@@ -4,6 +4,7 @@ use Prim.Native.Nat.{ℕ, zero, suc, _<_, _≤_}
 use mathlib.Core.Path.{_≡_}
 use mathlib.Core.List.{List, [], _∷_, _++_, map}
 use lib.ListN.{length, take}
+use Rattle.refusals.specs.Refusals.{noSuchNumber}
 use Rattle.store.specs.declared.Rule.{Rule}
 use Rattle.store.specs.Table.{Table, fresh, labelNumbered, ruleNumbered}
 use Rattle.store.specs.Layout.{Store, tableOf}
@@ -63,7 +64,7 @@ pub record ListedByNumber (st : Store) : Type 0 where
       (buffers : ℕ → List ℕ) →
       ((k : ℕ) → 519 ≤ length (buffers k)) →
       listed st buffers 0 (length (tableOf st .rules)) ≡ listing (tableOf st)
-  pub ends : (out : List ℕ) → listAnswer st (length (tableOf st .rules)) out ≡ l.Refused 13
+  pub ends : (out : List ℕ) → listAnswer st (length (tableOf st .rules)) out ≡ l.Refused noSuchNumber
   pub loads-back :
       (buffers : ℕ → List ℕ) →
       ((k : ℕ) → 519 ≤ length (buffers k)) →

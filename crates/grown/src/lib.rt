@@ -32,13 +32,15 @@ pub fn grown_and_undamaged_are_sound()
 
 // Demand 2, first half: without an effective override, the first of the seven rules that applies decides.
 pub fn demand_2_first_rule_decides()
-    ensures { λ _. ⌜ ((t : Table) (s o request : List ℕ) (capable : Bool) (wanted : ℕ) → Asks s o request wanted → effective t (labelIn t s) capable ≡ false → ByFirst t s o request capable wanted) ⌝ }
+    ensures { λ _. ⌜ ((t : Table) (s o request : List ℕ) (capable : Bool) (wanted : ℕ) → Asks s o request wanted →
+        effective t (labelIn t s) capable ≡ false → ByFirst t s o request capable wanted) ⌝ }
 {}
 
 // Demand 2, second half: a well-formed triple of two different labels, within the line length and with room for it, sets its pair's modes
 // and changes no other pair's answer.
 pub fn demand_2_triple_sets_its_pair()
-    ensures { λ _. ⌜ ((t : Table) (line s o : List ℕ) (m : ℕ) → SoundTable t → Triple line s o m → hasRoom t s o ≡ true → SetsPair t (tableAfter t (judged t (ruleOf line))) s o m) ⌝ }
+    ensures { λ _. ⌜ ((t : Table) (line s o : List ℕ) (m : ℕ) → SoundTable t → Triple line s o m →
+        hasRoom t s o ≡ true → SetsPair t (tableAfter t (judged t (ruleOf line))) s o m) ⌝ }
 {}
 
 // Such a triple is exactly what a line has to be to say a rule.
@@ -53,12 +55,14 @@ pub fn triple_accepted_with_room()
 
 // Any line that is accepted as a rule sets its pair's modes and changes no other pair's answer.
 pub fn accepted_line_sets_its_pair()
-    ensures { λ _. ⌜ ((t t′ : Table) (line s o : List ℕ) (m : ℕ) → SoundTable t → ruleOf line ≡ rule s o m → judged t (ruleOf line) ≡ is-accepted t′ → SetsPair t t′ s o m) ⌝ }
+    ensures { λ _. ⌜ ((t t′ : Table) (line s o : List ℕ) (m : ℕ) → SoundTable t → ruleOf line ≡ rule s o m → judged t (ruleOf line) ≡ is-accepted t′ →
+        SetsPair t t′ s o m) ⌝ }
 {}
 
 // An accepted change leaves its pair with (old modes or allow) without deny, and changes no other pair's answer either.
 pub fn accepted_change_sets_its_pair()
-    ensures { λ _. ⌜ ((t t′ : Table) (text s o : List ℕ) (allow deny : ℕ) → SoundTable t → changeOf text ≡ change s o allow deny → judged t (changeOf text) ≡ is-accepted t′ → SetsPair t t′ s o (changed (modesSoFar (modesBetween t s o)) allow deny)) ⌝ }
+    ensures { λ _. ⌜ ((t t′ : Table) (text s o : List ℕ) (allow deny : ℕ) → SoundTable t → changeOf text ≡ change s o allow deny →
+        judged t (changeOf text) ≡ is-accepted t′ → SetsPair t t′ s o (changed (modesSoFar (modesBetween t s o)) allow deny)) ⌝ }
 {}
 
 // Demand 2, last sentence: a listing of the rules, loaded into a fresh table, gives the same rules in the same order.

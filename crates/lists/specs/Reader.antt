@@ -7,6 +7,8 @@ use mathlib.Core.Bool.{Bool, cond}
 use mathlib.Core.List.{List, [], _∷_, _++_, foldl, map}
 use lib.ListN.{length}
 use lib.Dec.{ltb, eqb}
+use Rattle.refusals.specs.Refusals.{noSuchNumber}
+use Rattle.alphabet.specs.Alphabet.{isNewline}
 use Rattle.reports.specs.Report.{countLimit}
 use Rattle.store.specs.Table.{Table, labelNumbered}
 use Rattle.store.specs.declared.Done.{Done}
@@ -75,7 +77,7 @@ endLine p =
 
 -- piece: each byte but a newline joins the kept line; a newline ends it
 unfoldable pub takeByte : Reader → ℕ → Reader
-takeByte p b = cond (eqb b 10) (endLine p) (record { table = p .table; kept = p .kept ++ (b ∷ []); totals = p .totals })
+takeByte p b = cond (isNewline b) (endLine p) (record { table = p .table; kept = p .kept ++ (b ∷ []); totals = p .totals })
 
 abbrev pub takePiece : Reader → List ℕ → Reader
 takePiece p text = foldl takeByte p text
@@ -167,8 +169,8 @@ askSays t (question s o r capable) = answered (shown (answer t s o r capable))
 askSays t (by-label l) = mapped (lookupShown (labelLookup t l))
 askSays t (by-level level set) = lowest (searchShown (levelLookup t level set))
 askSays t (list-rule k out) = listed (listShown (listRule t k out)) (listRuleOut t k out)
-askSays t (label k) = cond (ltb k (length (t .labels))) (label-is (labelNumbered t k)) (refusal 13)
-askSays t (label-check k) = cond (ltb k (length (t .labels))) done (refusal 13)
+askSays t (label k) = cond (ltb k (length (t .labels))) (label-is (labelNumbered t k)) (refusal noSuchNumber)
+askSays t (label-check k) = cond (ltb k (length (t .labels))) done (refusal noSuchNumber)
 
 -- a line under way stays under way: it is judged at its end, against the table as it then is
 abbrev pub writeOn : Reader → Write → Reader

@@ -5,7 +5,8 @@ use mathlib.Core.Bool.{Bool, cond, _&&_}
 use mathlib.Core.List.{List, [], _∷_, foldl}
 use lib.ListN.{length, take, set}
 use lib.Dec.{ltb, leb, eqb}
-use Rattle.alphabet.specs.Alphabet.{lineLimit}
+use Rattle.refusals.specs.Refusals.{damaged, tooLong}
+use Rattle.alphabet.specs.Alphabet.{lineLimit, isNewline}
 use Rattle.store.specs.Layout.{Store, undamagedOf}
 use Rattle.writes.specs.Writes.{lineOutcome, lineStored}
 use Rattle.writes.specs.declared.Outcome.the-variants as v
@@ -33,7 +34,7 @@ load st line l = record { store = st; line = line; loader = l }
 abbrev pub endKept : Load → Load
 endKept s =
     cond (ltb lineLimit (s .loader .kept))
-    (load (s .store) (s .line) (count (s .loader) (v.Refused 1)))
+    (load (s .store) (s .line) (count (s .loader) (v.Refused tooLong)))
     (load (lineStored (s .store) (take (s .loader .kept) (s .line))) (s .line) (count (s .loader) (lineOutcome (s .store) (take (s .loader .kept) (s .line)))))
 
 -- a byte joins the kept line
@@ -44,12 +45,12 @@ keepByte s b =
     (load (s .store) (s .line) (withKept (s .loader) overlong))
 
 unfoldable pub stepByte : Load → ℕ → Load
-stepByte s b = cond (eqb b 10) (endKept s) (keepByte s b)
+stepByte s b = cond (isNewline b) (endKept s) (keepByte s b)
 
 -- how many bytes stand before the first newline: all of them where there is none
 unfoldable pub beforeNewline : List ℕ → ℕ
 beforeNewline [] = 0
-beforeNewline (b ∷ bs) = cond (eqb b 10) 0 (suc (beforeNewline bs))
+beforeNewline (b ∷ bs) = cond (isNewline b) 0 (suc (beforeNewline bs))
 
 -- whether the lent state is undamaged, loader and all: refusal 0 otherwise
 unfoldable pub ready : Load → Bool
@@ -76,11 +77,11 @@ unfoldable pub pieceAfter : Load → List ℕ → Load
 pieceAfter s text = cond (ready s) (stepPiece s text) s
 
 unfoldable pub pieceAnswer : Load → List ℕ → Fed
-pieceAnswer s text = cond (ready s) (f.Done (stepPiece s text .loader)) (f.Refused 0)
+pieceAnswer s text = cond (ready s) (f.Done (stepPiece s text .loader)) (f.Refused damaged)
 
 -- the end call: ends a kept line that has a byte, answers the report, and leaves the loader fresh
 unfoldable pub endAfter : Load → Load
 endAfter s = cond (ready s) (load (stepEnd s .store) (stepEnd s .line) freshLoader) s
 
 unfoldable pub endAnswer : Load → Ended
-endAnswer s = cond (ready s) (e.Report (reportOf (stepEnd s .loader)) freshLoader) (e.Refused 0)
+endAnswer s = cond (ready s) (e.Report (reportOf (stepEnd s .loader)) freshLoader) (e.Refused damaged)

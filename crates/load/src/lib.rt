@@ -39,7 +39,7 @@ fn end_line(
 {
     let kept = l.kept;
     if alphabet::LINE_LIMIT < kept {
-        return reports::count_line(l, Outcome::Refused(1));
+        return reports::count_line(l, Outcome::Refused(refusals::TOO_LONG));
     }
     let outcome = writes::write_line(labels, entries, words, &line[..kept]);
     reports::count_line(l, outcome)
@@ -51,7 +51,7 @@ pub fn line_end(text: &[u8], from: usize) -> usize
 {
     let mut i = from;
     while i < text.len() {
-        if text[i] == 10 {
+        if text[i] == alphabet::NEWLINE {
             return i;
         }
         i += 1;
@@ -105,10 +105,11 @@ pub fn piece(
     text: &[u8],
 ) -> Fed
     ensures { λ r. ⌜ r ≡ pieceAnswer (load (lent labels entries words) (now (line .entry)) l) (now (text .entry)) ⌝ }
-    ensures { λ r. ⌜ load (left labels entries words) (now (line .exit)) (fedLoader l r) ≡ pieceAfter (load (lent labels entries words) (now (line .entry)) l) (now (text .entry)) ⌝ }
+    ensures { λ r. ⌜ load (left labels entries words) (now (line .exit)) (fedLoader l r) ≡
+        pieceAfter (load (lent labels entries words) (now (line .entry)) l) (now (text .entry)) ⌝ }
 {
     if !is_ready(labels, entries, words, line, l) {
-        return Fed::Refused(0);
+        return Fed::Refused(refusals::DAMAGED);
     }
     let mut next = l;
     let mut i = 0;
@@ -132,10 +133,11 @@ pub fn end(
     l: Loader,
 ) -> Ended
     ensures { λ r. ⌜ r ≡ endAnswer (load (lent labels entries words) (now (line .entry)) l) ⌝ }
-    ensures { λ r. ⌜ load (left labels entries words) (now (line .exit)) (endedLoader l r) ≡ endAfter (load (lent labels entries words) (now (line .entry)) l) ⌝ }
+    ensures { λ r. ⌜ load (left labels entries words) (now (line .exit)) (endedLoader l r) ≡
+        endAfter (load (lent labels entries words) (now (line .entry)) l) ⌝ }
 {
     if !is_ready(labels, entries, words, line, l) {
-        return Ended::Refused(0);
+        return Ended::Refused(refusals::DAMAGED);
     }
     let kept = l.kept;
     if kept == 0 {

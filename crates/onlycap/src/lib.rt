@@ -100,7 +100,11 @@ fn count_label(labels: &[u8], stored: usize, label: &[u8], seen: bool, counted: 
 // How many different labels a write has, and how many labels the table would have with them. Nothing is stored.
 fn count(labels: &[u8], stored: usize, text: &[u8]) -> Counted
     requires { ⌜ (length (now labels) ≡ labelsSize) × (stored ≤ labelLimit) × (length (now text) ≤ lineLimit) ⌝ }
-    ensures { λ r. ⌜ r ≡ record { different = length (joined [] (fields (now (text .entry))) (length (fields (now (text .entry))))); labels = length (joined (entries (labelAt (now (labels .entry))) stored) (fields (now (text .entry))) (length (fields (now (text .entry))))) } ⌝ }
+    ensures { λ r. ⌜ r ≡ record {
+      different = length (joined [] (fields (now (text .entry))) (length (fields (now (text .entry)))));
+      labels = length
+          (joined (entries (labelAt (now (labels .entry))) stored) (fields (now (text .entry))) (length (fields (now (text .entry)))));
+    } ⌝ }
 {
     let mut counted = Counted {
         different: 0,
@@ -121,9 +125,16 @@ fn count(labels: &[u8], stored: usize, text: &[u8]) -> Counted
 
 // A label's number; a new label enters first. Who calls it has made sure that there is room.
 fn enter(labels: &mut [u8], stored: usize, label: &[u8]) -> Numbered
-    requires { ⌜ (length (now labels) ≡ labelsSize) × (stored ≤ labelLimit) × (placeOf (first (sameBytes (now label)) (entries (labelAt (now labels)) stored)) stored < labelLimit) × (length (now label) ≤ 255) ⌝ }
-    ensures { λ r. ⌜ r ≡ record { number = placeOf (first (sameBytes (now (label .entry))) (entries (labelAt (now (labels .entry))) stored)) stored; stored = countOf (first (sameBytes (now (label .entry))) (entries (labelAt (now (labels .entry))) stored)) stored } ⌝ }
-    ensures { λ _. ⌜ now (labels .exit) ≡ entered (first (sameBytes (now (label .entry))) (entries (labelAt (now (labels .entry))) stored)) (now (labels .entry)) stored (now (label .entry)) ⌝ }
+    requires { ⌜ (length (now labels) ≡ labelsSize) × (stored ≤ labelLimit) ×
+        (placeOf (first (sameBytes (now label)) (entries (labelAt (now labels)) stored)) stored < labelLimit) × (length (now label) ≤ 255) ⌝ }
+    ensures { λ r. ⌜ r ≡ record {
+      number = placeOf
+          (first (sameBytes (now (label .entry))) (entries (labelAt (now (labels .entry))) stored)) stored;
+      stored = countOf
+          (first (sameBytes (now (label .entry))) (entries (labelAt (now (labels .entry))) stored)) stored;
+    } ⌝ }
+    ensures { λ _. ⌜ now (labels .exit) ≡ entered (first (sameBytes (now (label .entry))) (entries (labelAt (now (labels .entry))) stored))
+        (now (labels .entry)) stored (now (label .entry)) ⌝ }
 {
     let found = places::find_label(labels, stored, label);
     match found {
