@@ -1,5 +1,5 @@
 -- Facts that the functions within the crate hand to each other, and what they write into the lent slices. Nobody has to believe this. Assumes nothing.
-use Prim.Native.Nat.{ℕ, _+_, _<_, _≤_}
+use Prim.Native.Nat.{ℕ, _<_, _≤_}
 use mathlib.Core.Bool.{cond}
 use mathlib.Core.Path.{_≡_}
 use mathlib.Core.List.{List}
@@ -9,8 +9,8 @@ use Rattle.search.specs.Search.{put, placeOf}
 use Rattle.search.specs.declared.Found.{Found}
 use Rattle.alphabet.specs.Within.{part}
 use Rattle.store.specs.declared.Mapping.{Mapping}
-use Rattle.store.specs.Table.{Table, labelIn, labelLimit, mappingLimit, withLabels, withMappings, noPlace, labelsEntered}
-use Rattle.store.specs.Layout.{Store, tableOf, Sizes, mappedFrom, levelsFrom, setsFrom}
+use Rattle.store.specs.Table.{Table, labelIn, labelLimit, mappingLimit, withLabels, withMappings, noPlace, labelsEntered, mappingIn}
+use Rattle.store.specs.Layout.{Store, tableOf, Sizes}
 use Rattle.store.specs.Judged.{Judged, is-refused, is-accepted}
 use Rattle.store.specs.Within.{Counts}
 use Rattle.cipso.specs.declared.Line.{Line}
@@ -18,7 +18,7 @@ use Rattle.cipso.specs.declared.Line.the-variants as line
 use Rattle.cipso.specs.declared.Spot.{Spot}
 use Rattle.cipso.specs.declared.Place.{Place}
 use Rattle.cipso.specs.declared.Place.the-variants as place
-use Rattle.cipso.specs.Cipso.{SaidMapping, refused, mapping, mappingIn}
+use Rattle.cipso.specs.Cipso.{SaidMapping, refused, mapping}
 
 -- what was read says, of the text that it was read from
 abbrev pub lineSaid : List ℕ → Line → SaidMapping
@@ -54,14 +54,6 @@ withMappingAt t l spot level s =
 abbrev pub judgedAt : Table → List ℕ → ℕ → ℕ → Place → Judged
 judgedAt t l level s (place.Refused n) = is-refused n
 judgedAt t l level s (place.At spot) = is-accepted (withMappingAt t l spot level s)
-
--- a mapping's label and level written into place k
-unfoldable pub withNumbers : List ℕ → ℕ → Mapping → List ℕ
-withNumbers e k m = set (set e (mappedFrom + k) (m .label)) (levelsFrom + k) (m .level)
-
--- its set written into place k
-unfoldable pub withWord : List ℕ → ℕ → Mapping → List ℕ
-withWord w k m = set w (setsFrom + k) (m .set)
 
 -- what is known of a label whose mapping has a place in a tested store
 pub record Placed (st : Store) (l : List ℕ) (spot : Spot) : Type 0 where

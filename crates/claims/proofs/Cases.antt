@@ -9,13 +9,13 @@ use Rattle.alphabet.specs.Alphabet.{isBlank, labelByte, wellFormed, fields}
 use Rattle.modes.specs.Modes.{bitOf, allowedByte, modesOf, readModes, modesText}
 use Rattle.numbers.specs.Numbers.{numberOf}
 use Rattle.numbers.specs.Categories.{categories, withCategory}
-use Rattle.store.specs.Table.{fresh, isPair}
+use Rattle.store.specs.Table.{fresh, isPair, names}
 use Rattle.store.specs.Judged.{tableAfter}
 use Rattle.lines.specs.Lines.{ruleBy, ruleOf, changeBy, changeOf}
 use Rattle.rules.specs.Rules.{withPair}
 use Rattle.store.specs.Pairs.{modesBetween}
 use Rattle.access.specs.Access.{effective, decide, answer}
-use Rattle.cipso.specs.Cipso.{SaidMapping, mapping, categoriesOf, saidBy, mappingOf, names, withMapping, mappingWrite, saidJudged}
+use Rattle.cipso.specs.Cipso.{SaidMapping, mapping, categoriesOf, saidBy, mappingOf, withMapping, mappingWrite, saidJudged}
 use Rattle.lookups.specs.Lookups.{labelLookup}
 use Rattle.claims.specs.Cases.{maps, right, sameLookup, cases, Vault7}
 

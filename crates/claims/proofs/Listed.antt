@@ -22,7 +22,7 @@ use Rattle.numbers.specs.declared.Number.{Number}
 use Rattle.numbers.specs.declared.Number.the-variants as number
 use Rattle.store.specs.declared.Done.{Done}
 use Rattle.store.specs.declared.Done.the-variants as d
-use Rattle.store.specs.Table.{Table, fresh, labelIn, labelLimit, ruleLimit, mappingLimit, onlycapLimit, ruleNumbered, noPlace}
+use Rattle.store.specs.Table.{Table, fresh, labelIn, mappingIn, labelLimit, ruleLimit, mappingLimit, onlycapLimit, ruleNumbered, noPlace}
 use Rattle.store.specs.Layout.{Store, tableOf, undamagedOf, fullSizes}
 use Rattle.store.specs.Judged.{freshWrite, freshAnswer, Judged, is-skipped, is-refused, is-accepted, doneOf, onState}
 use Rattle.lines.specs.Lines.{Said, skipped, refused, rule, change, ruleWith, ruleBy, ruleFields, ruleOf, changeWith, changeBy, changeFields, changeOf}
@@ -359,7 +359,7 @@ byLabelNumbers = 3 ∷ []
 
 looked-up : (t : Table) (at : Found) → lookup-or byLabelNumbers (lookupBy t at) ≡ true
 looked-up t Nothing = refl
-looked-up t (At k) = by-mapping (cipso.mappingIn t k)
+looked-up t (At k) = by-mapping (mappingIn t k)
   where
     by-mapping : (at : Found) → lookup-or byLabelNumbers (lookedUp (t .mappings) at) ≡ true
     by-mapping (At i) = refl

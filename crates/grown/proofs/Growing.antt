@@ -17,7 +17,7 @@ use Rattle.alphabet.specs.Alphabet.{wellFormed, fields}
 use Rattle.store.specs.declared.Rule.{Rule}
 use Rattle.store.specs.declared.Mapping.{Mapping}
 use Rattle.store.proofs.Pairs.{enter-front, enter-length, enter-number, enter-once, enter-all}
-use Rattle.store.specs.Table.{Table, labelIn, enter, isPair, soundRule, soundMapping, noPlace, numberIn}
+use Rattle.store.specs.Table.{Table, labelIn, enter, names, mappingIn, isPair, soundRule, soundMapping, noPlace, numberIn}
 use Rattle.store.proofs.Laws.{sound-more}
 use Rattle.rules.proofs.Laws.{place-count}
 use Rattle.lines.specs.Lines.{ruleOf, changeOf}
@@ -132,7 +132,7 @@ entered-sane :
     Distinct sameBytes [] ls →
     length ls ≤ 64 →
     all (soundMapping (length ls)) ms ≡ true →
-    Distinct (λ (m : Mapping). cipso.names (m .label)) (record { label = 0; level = 0; set = 0 }) ms →
+    Distinct (λ (m : Mapping). names (m .label)) (record { label = 0; level = 0; set = 0 }) ms →
     length ms ≤ 32 →
     all (λ (k : ℕ). ltb k (length ls)) os ≡ true →
     length os ≤ 8 →
@@ -198,10 +198,10 @@ module _ (t : Table) (h : Sane t) where
 
 -- two mappings of one label
 abbrev sameNames : Mapping → Mapping → Bool
-sameNames m = cipso.names (m .label)
+sameNames m = names (m .label)
 
 same-names : Same sameNames
-unfolding cipso.names
+unfolding names
 same-names =
     record {
       itself = λ m. eq-eqb (m .label) (m .label) refl;
@@ -221,17 +221,17 @@ module _ (t : Table) (l : List ℕ) (level s : ℕ) (h : Sane t) (formed : wellF
 
   put-sane :
       noPlace (labelIn t l) (length (t .labels)) 64 ≡ false →
-      noPlace (cipso.mappingIn t numbered) (length (t .mappings)) 32 ≡ false →
-      Sane (record { labels = enter (t .labels) l; rules = t .rules; mappings = put (cipso.mappingIn t numbered) (t .mappings) newMapping; onlycap = t .onlycap })
+      noPlace (mappingIn t numbered) (length (t .mappings)) 32 ≡ false →
+      Sane (record { labels = enter (t .labels) l; rules = t .rules; mappings = put (mappingIn t numbered) (t .mappings) newMapping; onlycap = t .onlycap })
   put-sane room place =
       let front = enter-front (t .labels) l in
-      entered-sane t (enter (t .labels) l) (put (cipso.mappingIn t numbered) (t .mappings) newMapping) (t .onlycap) h front
+      entered-sane t (enter (t .labels) l) (put (mappingIn t numbered) (t .mappings) newMapping) (t .onlycap) h front
       (enter-all (t .labels) l wellFormed (h .formed) formed)
       (enter-once (t .labels) l (h .label-once))
       (rw enter-length (place-count (labelIn t l) (length (t .labels)) 64 (h .labels) room))
-      (all-put (soundMapping (length (enter (t .labels) l))) (cipso.mappingIn t numbered) (t .mappings) newMapping (mappings-more t (enter (t .labels) l) h front) new-sound)
+      (all-put (soundMapping (length (enter (t .labels) l))) (mappingIn t numbered) (t .mappings) newMapping (mappings-more t (enter (t .labels) l) h front) new-sound)
       (distinct-put sameNames (record { label = 0; level = 0; set = 0 }) (t .mappings) newMapping same-names (h .mapping-once))
-      (rw length-put (place-count (cipso.mappingIn t numbered) (length (t .mappings)) 32 (h .mappings) place))
+      (rw length-put (place-count (mappingIn t numbered) (length (t .mappings)) 32 (h .mappings) place))
       (onlycap-more t (enter (t .labels) l) h front)
       (h .onlycap)
 

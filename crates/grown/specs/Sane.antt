@@ -9,8 +9,7 @@ use Rattle.search.specs.Search.{all}
 use Rattle.search.specs.declared.Found.the-variants.{At}
 use Rattle.alphabet.specs.Alphabet.{wellFormed}
 use Rattle.store.specs.declared.Rule.{Rule}
-use Rattle.store.specs.Table.{Table, fresh, labelIn, pairIn, labelNumbered, ruleNumbered, mappingNumbered, soundTable, labelLimit, ruleLimit, mappingLimit, onlycapLimit}
-use Rattle.cipso.specs.Cipso.{mappingIn}
+use Rattle.store.specs.Table.{Table, fresh, labelIn, pairIn, labelNumbered, ruleNumbered, mappingNumbered, soundTable, labelLimit, ruleLimit, mappingLimit, onlycapLimit, mappingIn}
 
 -- whether a rule's subject is not its object
 abbrev pub twoLabels : Rule → Bool

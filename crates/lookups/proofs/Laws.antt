@@ -16,10 +16,10 @@ use Rattle.alphabet.specs.Alphabet.{faultOf}
 use Rattle.alphabet.proofs.Laws.{fault-formed, fault-unformed}
 use Rattle.numbers.specs.Categories.{categories}
 use Rattle.store.specs.declared.Mapping.{Mapping}
-use Rattle.store.specs.Table.{soundRule, soundMapping, soundTable}
+use Rattle.store.specs.Table.{soundRule, soundMapping, soundTable, names}
 use Rattle.store.specs.Layout.{Store, store, labelAt, ruleAt, mappingAt, onlycapAt, tableOf, undamagedOf}
 use Rattle.store.proofs.Laws.{undamaged-is}
-use Rattle.cipso.specs.Cipso.{noCategories, names}
+use Rattle.cipso.specs.Cipso.{noCategories}
 use Rattle.lookups.specs.Lookups.{sought, mappedAs, lookedUp, lookupBy, labelLookup, byLabelOf, bothEqual, mappedTo, foundAt, hasBoth, numbered, levelLookup, byLevelOf}
 use Rattle.lookups.specs.declared.Lookup.the-variants as lookup
 use Rattle.lookups.specs.declared.Label.the-variants as label

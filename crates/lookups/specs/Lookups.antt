@@ -11,9 +11,9 @@ use Rattle.refusals.specs.Refusals.{damaged, badLabel, badLevelOrCategory}
 use Rattle.alphabet.specs.Alphabet.{wellFormed}
 use Rattle.numbers.specs.Categories.{categories}
 use Rattle.store.specs.declared.Mapping.{Mapping}
-use Rattle.store.specs.Table.{Table, labelIn, labelNumbered, knownSet}
+use Rattle.store.specs.Table.{Table, labelIn, labelNumbered, knownSet, mappingIn}
 use Rattle.store.specs.Layout.{Store, tableOf, undamagedOf}
-use Rattle.cipso.specs.Cipso.{noCategories, sameSet, isLevel, mappingIn}
+use Rattle.cipso.specs.Cipso.{noCategories, sameSet, isLevel}
 use Rattle.lookups.specs.declared.Lookup.{Lookup}
 use Rattle.lookups.specs.declared.Lookup.the-variants as lookup
 use Rattle.lookups.specs.declared.Label.{Label}

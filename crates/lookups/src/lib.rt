@@ -37,7 +37,7 @@ pub fn by_label(labels: &[u8], entries: &[u8], words: &[u64], label: &[u8]) -> L
     let Found::At(n) = places::find_label(labels, stored, label) else {
         return Lookup::Unmapped;
     };
-    let Found::At(k) = cipso::find_mapping(entries, mappings, n) else {
+    let Found::At(k) = places::find_mapping(entries, mappings, n) else {
         return Lookup::Unmapped;
     };
     let level = entries[store::LEVELS_FROM + k];
@@ -54,7 +54,7 @@ fn has_both(labels: &[u8], entries: &[u8], words: &[u64], n: usize, level: u64, 
 {
     let stored = words[store::LABEL_COUNT] as usize;
     let mappings = words[store::MAPPING_COUNT] as usize;
-    let Found::At(k) = cipso::find_mapping(entries, mappings, n) else {
+    let Found::At(k) = places::find_mapping(entries, mappings, n) else {
         return false;
     };
     if entries[store::LEVELS_FROM + k] as u64 != level {

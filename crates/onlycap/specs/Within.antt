@@ -10,8 +10,7 @@ use Rattle.search.specs.declared.Found.{Found}
 use Rattle.alphabet.specs.Alphabet.{wellFormed, lineLimit, fields}
 use Rattle.store.specs.Table.{Table, labelLimit, onlycapLimit, enter}
 use Rattle.store.specs.Layout.{Store, store, onlycapFrom, tableOf, labelAt, Sizes}
-use Rattle.store.specs.Within.{Counts}
-use Rattle.rules.specs.Within.{entered}
+use Rattle.store.specs.Within.{Counts, entered}
 use Rattle.onlycap.specs.declared.Counted.{Counted}
 
 -- ---- how the code goes, field by field

@@ -11,7 +11,7 @@ ghost use Rattle.search.specs.Bytes.{sameBytes};
 ghost use Rattle.alphabet.specs.Alphabet.{wellFormed, fields, lineLimit};
 ghost use Rattle.store.specs.Table.{labelLimit};
 ghost use Rattle.store.specs.Layout.{store, labelAt, lent, left, labelsSize};
-ghost use Rattle.rules.specs.Within.{entered};
+ghost use Rattle.store.specs.Within.{entered};
 ghost use Rattle.onlycap.specs.Onlycap.{loneDash, onlycapAnswer, onlycapStore};
 ghost use Rattle.onlycap.specs.Within.{appearsIn, joined, countWith, listSet, Fits};
 

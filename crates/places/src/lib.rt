@@ -3,13 +3,14 @@
 use search::Found;
 ghost use mathlib.Core.Path.{_≡_};
 ghost use mathlib.Core.Bool.{false};
-ghost use mathlib.Core.List.{_∷_};
+ghost use mathlib.Core.List.{List, _∷_};
 ghost use Prim.Native.Nat.{ℕ, _+_, _<_, _≤_};
 ghost use lib.ListN.{length, getD};
-ghost use Rattle.search.specs.Search.{first, entries as listed};
+ghost use Rattle.search.specs.Search.{first, placeOf, countOf, entries as listed};
 ghost use Rattle.search.specs.Bytes.{sameBytes};
-ghost use Rattle.store.specs.Table.{isPair, labelLimit, ruleLimit};
-ghost use Rattle.store.specs.Layout.{labelsSize, modesFrom, labelAt, ruleAt};
+ghost use Rattle.store.specs.Table.{isPair, names, noPlace, labelLimit, ruleLimit, mappingLimit};
+ghost use Rattle.store.specs.Layout.{labelsSize, modesFrom, mappedFrom, labelAt, ruleAt, mappingAt};
+ghost use Rattle.store.specs.Within.{entered};
 ghost use Rattle.places.specs.Places.{labelStart, PartFrom};
 ghost use Rattle.places.specs.Within.{Unlike, NoPair, wordAt, NoWord, NotHeld};
 
@@ -183,6 +184,66 @@ pub fn find_pair(entries: &[u8], count: usize, subject: u8, object: u8) -> Found
     let mut i = pass_blocks(entries, count, subject, object);
     while i < count {
         if (entries[i] == subject) & (entries[store::OBJECTS_FROM + i] == object) {
+            return Found::At(i);
+        }
+        i += 1;
+    }
+    Found::Nothing
+}
+
+// The number of an entry that is there or takes the next place, and how many entries there then are.
+pub struct Numbered {
+    pub number: usize,
+    pub count: usize,
+}
+
+// The number of an entry that was sought, and how many there then are. Who calls it has a count of a tested store, which is at most 256, or one
+// more; 300 leaves room for that.
+pub fn number_for(found: Found, count: usize) -> Numbered
+    requires { ⌜ count ≤ 300 ⌝ }
+    ensures { λ r. ⌜ r ≡ record { number = placeOf found count; count = countOf found count } ⌝ }
+{
+    match found {
+        Found::At(i) => Numbered { number: i, count },
+        Found::Nothing => Numbered {
+            number: count,
+            count: count + 1,
+        },
+    }
+}
+
+// Whether an entry that was sought has no place among `count`, of which there may be `limit`.
+pub fn full(found: Found, count: usize, limit: usize) -> bool
+    ensures { λ r. ⌜ r ≡ noPlace found count limit ⌝ }
+{
+    match found {
+        Found::At(_) => false,
+        Found::Nothing => limit <= count,
+    }
+}
+
+// Writes a label into the next place where it was not found. Who calls it has tested the store and the label, and that there is room.
+pub fn enter(labels: &mut [u8], found: Found, count: usize, label: &[u8])
+    requires { ⌜ (length (now labels) ≡ labelsSize) × (placeOf found count < labelLimit) × (length (now label) ≤ 255) ⌝ }
+    ensures { λ _. ⌜ now (labels .exit) ≡ entered found (now (labels .entry)) count (now (label .entry)) ⌝ }
+{
+    match found {
+        Found::At(_) => {}
+        Found::Nothing => {
+            store::write_label(labels, count, label);
+        }
+    }
+}
+
+// The place of a label's mapping among the first `count`, by the label's number: the first that names it, whatever the sets. Who calls it
+// has tested the store.
+pub fn find_mapping(entries: &[u8], count: usize, number: usize) -> Found
+    requires { ⌜ (mappedFrom + mappingLimit ≤ length (now entries)) × (count ≤ mappingLimit) ⌝ }
+    ensures { λ r. ⌜ ((words : List ℕ) → r ≡ first (names number) (listed (mappingAt (now (entries .entry)) words) count)) ⌝ }
+{
+    let mut i = 0;
+    while i < count {
+        if entries[store::MAPPED_FROM + i] as usize == number {
             return Found::At(i);
         }
         i += 1;

@@ -13,7 +13,7 @@ use Rattle.store.specs.declared.Rule.{Rule}
 use Rattle.store.specs.Table.{Table, labelIn, pairIn, labelLimit, ruleLimit, labelsEntered, noPlace}
 use Rattle.store.specs.Layout.{Store, tableOf, modesFrom, Sizes}
 use Rattle.store.specs.Judged.{Judged, is-refused, is-accepted}
-use Rattle.store.specs.Within.{withLabel, Counts}
+use Rattle.store.specs.Within.{Counts}
 use Rattle.rules.specs.declared.Spot.{Spot}
 use Rattle.rules.specs.declared.Place.{Place}
 use Rattle.rules.specs.declared.Place.the-variants as p
@@ -66,12 +66,6 @@ withPairAt t s o spot m =
 abbrev pub judgedAt : Table → List ℕ → List ℕ → ℕ → Place → Judged
 judgedAt t s o m (p.Refused n) = is-refused n
 judgedAt t s o m (p.At spot) = is-accepted (withPairAt t s o spot m)
-
--- ---- parts of it in the lent slices, for the functions that write them: a new label, and the modes that stand at a place
-
-abbrev pub entered : Found → List ℕ → ℕ → List ℕ → List ℕ
-entered (At i) labels n l = labels
-entered Nothing labels n l = withLabel labels n l
 
 -- the modes of the rule at a place
 abbrev pub modesAtPlace : List ℕ → Found → ℕ

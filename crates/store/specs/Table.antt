@@ -100,6 +100,14 @@ isPair s o r = eqb (r .subject) s && eqb (r .object) o
 abbrev pub pairIn : Table → ℕ → ℕ → Found
 pairIn t s o = first (isPair s o) (t .rules)
 
+-- whether a mapping is that of label number n
+unfoldable pub names : ℕ → Mapping → Bool
+names n m = eqb (m .label) n
+
+-- the mapping of label number n: the first that names it
+abbrev pub mappingIn : Table → ℕ → Found
+mappingIn t n = first (names n) (t .mappings)
+
 -- label k, rule k and mapping k, from 0, in table order
 abbrev pub labelNumbered : Table → ℕ → List ℕ
 labelNumbered t k = getD (t .labels) k []

@@ -4,9 +4,12 @@ use Prim.Native.Nat.{ℕ, _+_, _*_, _≤_}
 use mathlib.Core.List.{List, _∷_}
 use lib.ListN.{length, getD, set}
 use Rattle.search.specs.Bytes.{written}
+use Rattle.search.specs.declared.Found.{Found}
+use Rattle.search.specs.declared.Found.the-variants.{At, Nothing}
 use Rattle.store.specs.declared.Rule.{Rule}
+use Rattle.store.specs.declared.Mapping.{Mapping}
 use Rattle.store.specs.Table.{floor, hat, star, huh, web, labelLimit, ruleLimit, mappingLimit, onlycapLimit}
-use Rattle.store.specs.Layout.{objectsFrom, modesFrom}
+use Rattle.store.specs.Layout.{objectsFrom, modesFrom, mappedFrom, levelsFrom, setsFrom}
 
 -- a label written into place k, and a rule: nothing else changes
 unfoldable pub withLabel : List ℕ → ℕ → List ℕ → List ℕ
@@ -14,6 +17,19 @@ withLabel labels k l = written labels (k * 256) (length l ∷ l)
 
 unfoldable pub withRule : List ℕ → ℕ → Rule → List ℕ
 withRule e k r = set (set (set e k (r .subject)) (objectsFrom + k) (r .object)) (modesFrom + k) (r .modes)
+
+-- a label that a search has not found written into the next place
+abbrev pub entered : Found → List ℕ → ℕ → List ℕ → List ℕ
+entered (At i) labels n l = labels
+entered Nothing labels n l = withLabel labels n l
+
+-- a mapping's label and level written into place k
+unfoldable pub withNumbers : List ℕ → ℕ → Mapping → List ℕ
+withNumbers e k m = set (set e (mappedFrom + k) (m .label)) (levelsFrom + k) (m .level)
+
+-- its set written into place k
+unfoldable pub withWord : List ℕ → ℕ → Mapping → List ℕ
+withWord w k m = set w (setsFrom + k) (m .set)
 
 -- a fresh table: the five labels are written and the counts set, and nothing else changes
 unfoldable pub freshLabels : List ℕ → List ℕ

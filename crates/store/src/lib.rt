@@ -3,9 +3,9 @@
 ghost use mathlib.Core.Path.{_≡_};
 ghost use Prim.Native.Nat.{_+_, _<_, _≤_};
 ghost use lib.ListN.{length};
-ghost use Rattle.store.specs.Table.{labelLimit, ruleLimit};
-ghost use Rattle.store.specs.Layout.{store, lent, labelsSize, modesFrom};
-ghost use Rattle.store.specs.Within.{withLabel, withRule};
+ghost use Rattle.store.specs.Table.{labelLimit, ruleLimit, mappingLimit};
+ghost use Rattle.store.specs.Layout.{store, lent, labelsSize, modesFrom, levelsFrom, setsFrom};
+ghost use Rattle.store.specs.Within.{withLabel, withRule, withNumbers, withWord};
 ghost use Rattle.store.specs.Judged.{freshAnswer, freshStore};
 
 // The full size of each lent slice, as specs/Layout.antt has them.
@@ -87,6 +87,17 @@ pub fn write_rule(entries: &mut [u8], k: usize, rule: Rule)
     entries[k] = rule.subject;
     entries[OBJECTS_FROM + k] = rule.object;
     entries[MODES_FROM + k] = rule.modes;
+}
+
+// Writes a mapping into place k. Who calls it has tested the store.
+pub fn write_mapping(entries: &mut [u8], words: &mut [u64], k: usize, mapping: Mapping)
+    requires { ⌜ (levelsFrom + mappingLimit ≤ length (now entries)) × (setsFrom + mappingLimit ≤ length (now words)) × (k < mappingLimit) ⌝ }
+    ensures { λ _. ⌜ now (entries .exit) ≡ withNumbers (now (entries .entry)) k mapping ⌝ }
+    ensures { λ _. ⌜ now (words .exit) ≡ withWord (now (words .entry)) k mapping ⌝ }
+{
+    entries[MAPPED_FROM + k] = mapping.label;
+    entries[LEVELS_FROM + k] = mapping.level;
+    words[SETS_FROM + k] = mapping.set;
 }
 
 // Makes a fresh table of lent memory, whatever it holds: the five labels alone. Refused with 0 where a part has not its full size. What no

@@ -7,7 +7,7 @@ use lib.ListN.{getD}
 use Rattle.search.specs.Search.{placeOf}
 use Rattle.search.specs.declared.Found.{Found}
 use Rattle.store.specs.Table.{noPlace}
-use Rattle.rules.specs.declared.Numbered.{Numbered}
+use Rattle.places.specs.declared.Numbered.{Numbered}
 use borrow.Author.Needs.{needs}
 use Rattle.cipso.proofs.Laws.{placing-store, labelFound, mappingFound, same-mapping}
 use Rattle.cipso.proofs.find_place.Statement.{statement}

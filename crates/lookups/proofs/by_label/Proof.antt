@@ -12,7 +12,7 @@ use Rattle.search.specs.declared.Found.the-variants.{At, Nothing}
 use Rattle.alphabet.specs.Alphabet.{faultOf}
 use Rattle.store.specs.Layout.{store, labelAt, mappingAt, undamagedOf}
 use Rattle.store.proofs.Laws.{Undamaged, undamaged-is}
-use Rattle.cipso.specs.Cipso.{names}
+use Rattle.store.specs.Table.{names}
 use Rattle.lookups.specs.declared.Lookup.the-variants.{Mapped}
 use borrow.Author.Needs.{needs}
 use Rattle.lookups.proofs.Laws.{mapping-below, stored-known, label-damaged, label-unformed, label-unknown, label-unmapped, label-mapped}

@@ -9,7 +9,7 @@ use Rattle.search.specs.Bytes.{sameBytes}
 use Rattle.search.specs.declared.Found.{Found}
 use Rattle.search.specs.declared.Found.the-variants.{At}
 use Rattle.store.specs.Layout.{labelAt, mappingAt}
-use Rattle.cipso.specs.Cipso.{names}
+use Rattle.store.specs.Table.{names}
 use borrow.Author.Needs.{needs}
 use Rattle.lookups.proofs.Laws.{mapping-below, both-none, both-level, both-set, both-label}
 use Rattle.lookups.proofs.has_both.Statement.{statement}

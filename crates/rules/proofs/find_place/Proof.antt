@@ -12,7 +12,7 @@ use Rattle.search.specs.declared.Found.{Found}
 use Rattle.search.proofs.Laws.{count-le, found-place}
 use Rattle.store.specs.Table.{isPair, noPlace}
 use Rattle.store.specs.Layout.{labelAt, ruleAt}
-use Rattle.rules.specs.declared.Numbered.{Numbered}
+use Rattle.places.specs.declared.Numbered.{Numbered}
 use borrow.Author.Needs.{needs}
 use Rattle.rules.proofs.Laws.{placing-store, ruleFound}
 use Rattle.rules.proofs.find_place.Statement.{statement}

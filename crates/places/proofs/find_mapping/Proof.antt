@@ -1,4 +1,4 @@
--- `cipso::find_mapping` meets its contract: no mapping passed names the label. Assumes nothing.
+-- `places::find_mapping` meets its contract: no mapping passed names the label. Assumes nothing.
 use Prim.Native.Nat.{ℕ, _+_, _≤_, _<_, _-_}
 use mathlib.Core.Path.{_≡_, sym}
 use mathlib.Core.Bool.{false}
@@ -9,9 +9,9 @@ use lib.Dec.{eqb}
 use lib.ListN.{getD}
 use Rattle.search.proofs.Laws.{found-at, found-none}
 use Rattle.store.specs.Layout.{mappingAt}
-use Rattle.cipso.specs.Cipso.{names}
-use Rattle.cipso.proofs.find_mapping.Statement.{statement}
-use Rattle.cipso.proofs.find_mapping.Tie as tie
+use Rattle.store.specs.Table.{names}
+use Rattle.places.proofs.find_mapping.Statement.{statement}
+use Rattle.places.proofs.find_mapping.Tie as tie
 
 abbrev Inv-loop : tie.InvT-loop
 Inv-loop entries count number i₀ i = (i ≤ count) × ((k : ℕ) → k < i → eqb (getD entries (768 + k) 0) number ≡ false)

@@ -1,9 +1,9 @@
--- `rules::enter` meets its contract, by the search's answer. Assumes nothing.
+-- `places::enter` meets its contract, by the search's answer. Assumes nothing.
 use Prim.Native.Nat.{_<_}
 use borrow.Author.Needs.{needs}
 use native.Mathlib.Omega.{arith}
-use Rattle.rules.proofs.enter.Statement.{statement}
-use Rattle.rules.proofs.enter.Tie as tie
+use Rattle.places.proofs.enter.Statement.{statement}
+use Rattle.places.proofs.enter.Tie as tie
 
 enum-told : tie.Need-enum-told
 enum-told c = search needs

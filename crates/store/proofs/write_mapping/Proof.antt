@@ -1,11 +1,11 @@
--- `cipso::write_mapping` meets its contract: two numbers and a set are stored, each in its own run. Assumes nothing.
+-- `store::write_mapping` meets its contract: two numbers and a set are stored, each in its own run. Assumes nothing.
 use mathlib.Core.Path.{refl}
 use lib.ListN.{length-set}
 use native.Mathlib.Omega.{arith}
 use borrow.Author.Needs.{needs}
-use Rattle.cipso.specs.Within.{withNumbers, withWord}
-use Rattle.cipso.proofs.write_mapping.Statement.{statement}
-use Rattle.cipso.proofs.write_mapping.Tie as tie
+use Rattle.store.specs.Within.{withNumbers, withWord}
+use Rattle.store.proofs.write_mapping.Statement.{statement}
+use Rattle.store.proofs.write_mapping.Tie as tie
 
 add-entries : tie.Need-add-entries
 add-entries c = search needs

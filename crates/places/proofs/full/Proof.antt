@@ -1,7 +1,7 @@
--- `rules::full` meets its contract, by the search's answer. Assumes nothing.
+-- `places::full` meets its contract, by the search's answer. Assumes nothing.
 use borrow.Author.Needs.{needs}
-use Rattle.rules.proofs.full.Statement.{statement}
-use Rattle.rules.proofs.full.Tie as tie
+use Rattle.places.proofs.full.Statement.{statement}
+use Rattle.places.proofs.full.Tie as tie
 
 enum-told : tie.Need-enum-told
 enum-told c = search needs

@@ -1,7 +1,7 @@
--- `rules::number_for` meets its contract, by the search's answer. Assumes nothing.
+-- `places::number_for` meets its contract, by the search's answer. Assumes nothing.
 use borrow.Author.Needs.{needs}
-use Rattle.rules.proofs.number_for.Statement.{statement}
-use Rattle.rules.proofs.number_for.Tie as tie
+use Rattle.places.proofs.number_for.Statement.{statement}
+use Rattle.places.proofs.number_for.Tie as tie
 
 enum-known-found : tie.Need-enum-known-found
 enum-known-found c = search needs
