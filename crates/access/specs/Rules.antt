@@ -1,5 +1,5 @@
 -- 01, Questions: the seven rules, in the paper's order. Above each stand its sentence of the Smack text (000 is source document 000, section 'Access Rules';
--- documents 001 and 004 have the same words) and 01's. The first that applies decides, by the whole request. Assumes nothing.
+-- documents 001, 003 and 004 have the same words) and 01's. The first that applies decides, by the whole request. Assumes nothing.
 use Prim.Native.Nat.{ℕ}
 use mathlib.Core.Bool.{Bool, true, false, cond, _&&_}
 use mathlib.Core.List.{List, [], _∷_}

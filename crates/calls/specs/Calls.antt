@@ -110,7 +110,8 @@ counted-reply a = cond (a .refused) (r.refusal (a .number)) (r.count (a .count))
 abbrev pub part-reply : Part → List ℕ → Reply
 part-reply a labels = cond (a .refused) (r.refusal (a .number)) (r.label-is (take (a .length) (drop (a .start) labels)))
 
--- ---- every list of calls, each made from the state that the one before it left. A call that takes no loader is made beside a line under way, whose bytes and loader
+-- ---- every list of calls, each made from the state that the one before it left. (Each case is read from its last line: from this state, with this call
+-- and this reply in front; the line above it says from which state the rest of the list goes on.) A call that takes no loader is made beside a line under way, whose bytes and loader
 -- stay as they are; and what is lent by `&` has no last value, and is as it was
 
 pub data Runs : Load → List Call → List Reply → Load → Type 0 where

@@ -96,16 +96,21 @@ denied n = record { kind = 1; number = n; bringup = false }
 
 abbrev pub cases : List Case
 cases =
+    -- P1 to P6, of a fresh table
     asks [] star floor r (denied 1)
     ∷ asks [] hat Door rx (granted 2)
     ∷ asks [] Door floor rw′ (denied 7)
     ∷ asks [] hat star rw′ (granted 4)
     ∷ asks [] star star r (denied 1)
     ∷ asks [] Door Door rwxa (granted 5)
+    -- P7 to P9, after `Probe3 Air w`
     ∷ asks (Probe3-Air w ∷ []) Probe3 Air w (granted 6)
     ∷ asks (Probe3-Air w ∷ []) Probe3 Air rw′ (denied 7)
     ∷ asks (Probe3-Air w ∷ []) Air Probe3 w (denied 7)
+    -- P10, after `Probe3 Air rRb`
     ∷ asks (Probe3-Air (114 ∷ 82 ∷ 98 ∷ []) ∷ []) Probe3 Air r granted-b
+    -- P11, modes r, and a change with allow wa and deny w
     ∷ changes (Probe3-Air r) (Probe3-Air (119 ∷ 97 ∷ 32 ∷ 119 ∷ [])) Probe3 Air (114 ∷ 97 ∷ [])
+    -- P12, `Vault7 9 1 63`
     ∷ maps (86 ∷ 97 ∷ 117 ∷ 108 ∷ 116 ∷ 55 ∷ 32 ∷ 57 ∷ 32 ∷ 49 ∷ 32 ∷ 54 ∷ 51 ∷ []) Vault7 9 (1 ∷ 63 ∷ []) 2
     ∷ []

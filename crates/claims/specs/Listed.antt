@@ -1,5 +1,5 @@
 -- Demand 1: bad input is refused by a number from the list. 01, The refusal numbers, with the calls in its order: 0 exactly when the lent state
--- is damaged, before every other; of an undamaged state one of these numbers, which stand in the order in which 01 gives them. Assumes nothing.
+-- is damaged, before every other; of an undamaged state one of these numbers. (They stand in 01's order; which comes first, the definitions say.) Assumes nothing.
 use Prim.Native.Nat.{ℕ}
 use mathlib.Core.Path.{_≡_}
 use mathlib.Core.Bool.{Bool, true, false, _||_}

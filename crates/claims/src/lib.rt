@@ -30,8 +30,8 @@ pub fn demand_1_refusals_change_nothing()
     ensures { λ _. ⌜ NothingChanges ⌝ }
 {}
 
-// Demand 1, that bad input is refused by a number from the list: a refusal of a call, or of a line of rule text, has one of the numbers that 01
-// gives for it.
+// Demand 1, that a refusal has a number from the list: 0 exactly when the state is damaged, and otherwise one that 01 gives for the call, or for a
+// line of rule text. (Which input is refused, and by which of them first, the definitions say.)
 pub fn demand_1_refusals_are_listed()
     ensures { λ _. ⌜ FromTheList ⌝ }
 {}
@@ -41,9 +41,10 @@ pub fn tables_follow()
     ensures { λ _. ⌜ TablesFollow ⌝ }
 {}
 
-// Demand 3, undivided, of every list of calls of the exported functions: pieces, end calls and questions, and any other calls of the library between them.
-// From any undamaged table and a fresh loader, the list is the plain reader's.
-// Two lists with the same bytes, end calls and single writes in the same order, whatever their cuts and questions, get the same reports and leave the same table.
+// Demand 3, undivided, of every list of calls of the exported functions: pieces, end calls and questions, and between them any other call on the
+// tables, but for making a fresh table or loader, which begin a list. From any undamaged table and a fresh loader, the list is the plain reader's.
+// Two lists with the same bytes, end calls and single writes in the same order, whatever their cuts and questions, get the same reports and leave
+// the same table.
 // Of a damaged table every call of a list is refused with 0, and nothing changes.
 // And every list can be made from every state, so that none of this speaks of nothing.
 pub fn demand_3()

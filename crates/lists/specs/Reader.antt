@@ -1,6 +1,6 @@
 -- 01, Rule text: the plain reader, 01's own term for the reference model of the loader. It holds the tables, a kept line of any length and
--- the report's true numbers. It is fed only each call's kind and arguments. Nothing here names a lent slice or a limit of storage, but
--- for those of 01's tables and lines. Demand 3 speaks of pieces, end calls and questions; here are the other calls too, a single write of which acts at
+-- the report's true numbers. It is fed only each call's kind and arguments. Nothing here names a lent slice of the state or a limit of
+-- storage, but for those of 01's tables and lines. Demand 3 speaks of pieces, end calls and questions; here are the other calls too, a single write of which acts at
 -- once. Assumes nothing.
 use Prim.Native.Nat.{ℕ, _+_, min}
 use mathlib.Core.Bool.{Bool, cond}

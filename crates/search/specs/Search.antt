@@ -7,7 +7,7 @@ use lib.ListN.{set}
 use Rattle.search.specs.declared.Found.{Found}
 use Rattle.search.specs.declared.Found.the-variants.{At, Nothing}
 
--- a place counted from one entry earlier
+-- the same place once an entry stands in front of the list
 abbrev pub later : Found → Found
 later (At k) = At (suc k)
 later Nothing = Nothing

@@ -27,7 +27,7 @@ storeAfter st is-skipped = st
 storeAfter st (is-refused n) = st
 storeAfter st (is-accepted t) = laid st t
 
--- what a single write answers: done, or a refusal's number
+-- what a single write answers: done, or a refusal's number (it is never skipped)
 abbrev pub doneOf : Judged → Done
 doneOf is-skipped = d.Done
 doneOf (is-refused n) = d.Refused n
