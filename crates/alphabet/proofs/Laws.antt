@@ -13,8 +13,8 @@ use borrow.Author.Tests.{eqb-false, eq-eqb, ne-eqb, leb-true, le-leb, lt-leb, lt
 use Rattle.search.specs.Search.{first, all, those, later}
 use Rattle.search.specs.declared.Found.{Found}
 use Rattle.search.specs.declared.Found.the-variants.{At, Nothing}
-use Rattle.search.proofs.Laws.{no, and-both, eqb-is, or-is, not-is, number-is, all-at, first-at, first-none, entries-length, entries-at}
-use Rattle.alphabet.specs.Alphabet.{isNewline, isBlank, labelByte, classBy, classOf, LabelByte, Blank, ByteClass, ByteClasses, wellFormed, orTooLong, faultOf, onto, parts, hasByte, fields}
+use Rattle.search.proofs.Laws.{no, and-both, eqb-is, or-is, not-is, number-is, all-at, all-by, first-at, first-none, entries-length, entries-at}
+use Rattle.alphabet.specs.Alphabet.{isNewline, isBlank, labelByte, classBy, classOf, LabelByte, Blank, ByteClass, ByteClasses, wellFormed, WellFormed, LabelForm, orTooLong, faultOf, onto, parts, hasByte, fields}
 use Rattle.alphabet.specs.Within.{classTable, run, startOf, endOf, fieldAt, part}
 use Rattle.alphabet.specs.declared.Field.{Field}
 use Rattle.alphabet.specs.declared.Field.the-variants.{Part, End}
@@ -247,6 +247,20 @@ formed-is l e =
       all-at labelByte 0 l (j .0),
       eqb-false (getD l 0 0) 45 (not-true (eqb (getD l 0 0) 45) (j .1)),
     )
+
+-- a label passes the test exactly where it is as 01 says
+pub label-form : LabelForm
+unfolding wellFormed
+label-form l = (
+  λ e. let f = formed-is l e in record { some = f .0; few = f .1; bytes = λ k h. label-is (getD l k 0) .0 (f .2 k h); no-dash = f .3 },
+  λ w.
+  rw (
+    le-leb 1 (length l) (w .some),
+    le-leb (length l) 255 (w .few),
+    all-by labelByte 0 l (λ k h. label-is (getD l k 0) .1 (w .bytes k h)),
+    ne-eqb (getD l 0 0) 45 (w .no-dash),
+  ),
+)
 
 -- ---- runs of blanks and of other bytes
 

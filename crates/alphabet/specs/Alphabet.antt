@@ -79,6 +79,16 @@ unfoldable pub wellFormed : List ℕ → Bool
 unfolding labelByte
 wellFormed l = leb 1 (length l) && (leb (length l) labelLongest && (all labelByte l && not (eqb (getD l 0 0) dash)))
 
+-- What 01 says of a label, without the test above.
+pub record WellFormed (l : List ℕ) : Type 0 where
+  pub some : 1 ≤ length l
+  pub few : length l ≤ 255
+  pub bytes : (k : ℕ) → k < length l → LabelByte (getD l k 0)
+  pub no-dash : getD l 0 0 ≢ 45
+
+abbrev pub LabelForm : Type 0
+LabelForm = (l : List ℕ) → (wellFormed l ≡ true) ↔ WellFormed l
+
 -- the place of a label's first fault: 0 where it is empty or begins with a dash, the first byte that is no label byte, or 255 where it is too
 -- long and has no earlier fault; nothing where it is well formed
 abbrev pub orTooLong : Found → ℕ → Found

@@ -4,7 +4,7 @@ ghost use mathlib.Core.Path.{_≡_};
 ghost use mathlib.Core.Bool.{true, false};
 ghost use mathlib.Core.List.{List, map};
 ghost use Rattle.search.specs.Search.{all};
-ghost use Rattle.alphabet.specs.Alphabet.{classOf, ByteClasses};
+ghost use Rattle.alphabet.specs.Alphabet.{classOf, ByteClasses, LabelForm};
 ghost use Rattle.modes.specs.Modes.{SixLetters};
 ghost use Rattle.store.specs.Layout.{tableOf, undamagedOf};
 ghost use Rattle.load.specs.Loader.{Load};
@@ -66,10 +66,11 @@ pub fn search_of_a_run()
     ensures { λ _. ⌜ SearchesTheRun ⌝ }
 {}
 
-// Byte classes and letters as 01 says them, byte by byte: label byte, blank, newline or other; each letter's bit in either case, and the letters that each
-// place allows. That the code's tables are these, say the contracts of `alphabet::classes` and of what reads and writes modes.
+// Byte classes, labels and letters as 01 says them, byte by byte: label byte, blank, newline or other; what a well-formed label is; each letter's bit in
+// either case, and the letters that each place allows. That the code's tables are these, say the contracts of `alphabet::classes` and of what reads and writes modes.
 pub fn bytes_and_letters()
     ensures { λ _. ⌜ ByteClasses classOf ⌝ }
+    ensures { λ _. ⌜ LabelForm ⌝ }
     ensures { λ _. ⌜ SixLetters ⌝ }
 {}
 

@@ -2,7 +2,7 @@
 -- letters are those of the kernel's Smack text; the four of the first version (source document 003) are overruled. Assumes nothing.
 use Prim.Native.Nat.{ℕ, _-_, _<_}
 use mathlib.Core.Path.{_≡_}
-use mathlib.Core.Bool.{Bool, cond, not, _&&_, _||_}
+use mathlib.Core.Bool.{Bool, true, false, cond, not, _&&_, _||_}
 use mathlib.Core.List.{List, [], _∷_, foldl}
 use mathlib.Core.Logic.{_↔_, _⊎_}
 use lib.Dec.{eqb}
@@ -84,9 +84,11 @@ pub record LetterBit (b bit : ℕ) : Type 0 where
   pub bring-up : (bit ≡ 1) ↔ Is b 98 66
   pub none : (bit ≡ 0) ↔ (Is b 114 82 ⊎ Is b 119 87 ⊎ Is b 120 88 ⊎ Is b 97 65 ⊎ Is b 116 84 ⊎ Is b 98 66 → ⊥)
 
--- so it is of all 256 bytes; and the letters that each place allows, in the order in which they are written
+-- so it is of all 256 bytes; the letters that each place allows, in the order in which they are written; and a dash stands in a rule and in a change,
+-- not in a request
 pub record SixLetters : Type 0 where
   pub bits : (b : ℕ) → b < 256 → LetterBit b (bitOf b)
   pub in-a-rule : modesText ruleLetters ≡ 114 ∷ 119 ∷ 120 ∷ 97 ∷ 116 ∷ 98 ∷ []
   pub in-a-change : modesText changeLetters ≡ 114 ∷ 119 ∷ 120 ∷ 97 ∷ 116 ∷ []
   pub in-a-request : modesText requestLetters ≡ 114 ∷ 119 ∷ 120 ∷ 97 ∷ []
+  pub dashes : (allowedByte ruleLetters true 45 ≡ true) × (allowedByte changeLetters true 45 ≡ true) × (allowedByte requestLetters false 45 ≡ false)

@@ -1,11 +1,11 @@
 -- The classes of the bytes and the bits of the letters, each by its law. Assumes nothing.
-use Rattle.alphabet.proofs.Laws.{byte-class}
+use Rattle.alphabet.proofs.Laws.{byte-class, label-form}
 use Rattle.modes.proofs.Laws.{six-letters}
 use Rattle.claims.proofs.bytes_and_letters.Statement.{statement}
 use Rattle.claims.proofs.bytes_and_letters.Tie as tie
 
 returns : tie.Need-returns
-returns c = (λ b h. byte-class b, six-letters)
+returns c = (λ b h. byte-class b, (label-form, six-letters))
 
 pub bytes-and-letters-spec : {M : Type 1} → statement M
 bytes-and-letters-spec = tie.close (tie.spec returns)
