@@ -133,7 +133,7 @@ letter-bit b h =
 
 pub six-letters : SixLetters
 unfolding modesText allowedByte bitOf
-six-letters = record { bits = letter-bit; in-a-rule = refl; in-a-change = refl; in-a-request = refl; dashes = (refl, (refl, refl)) }
+six-letters = record { bits = letter-bit; in-a-rule = refl; in-a-change = refl; in-a-request = refl; dashes = (refl, refl, refl) }
 
 -- ---- a field read from some byte on, with the modes m of the bytes before
 
