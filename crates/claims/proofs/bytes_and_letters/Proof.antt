@@ -5,7 +5,7 @@ use Rattle.claims.proofs.bytes_and_letters.Statement.{statement}
 use Rattle.claims.proofs.bytes_and_letters.Tie as tie
 
 returns : tie.Need-returns
-returns c = (λ b h. byte-class b, label-form, six-letters)
+returns c = (λ b h. byte-class b, (label-form, six-letters))
 
 pub bytes-and-letters-spec : {M : Type 1} → statement M
 bytes-and-letters-spec = tie.close (tie.spec returns)
