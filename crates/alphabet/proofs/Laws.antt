@@ -14,8 +14,8 @@ use Rattle.search.specs.Search.{first, all, those, later}
 use Rattle.search.specs.declared.Found.{Found}
 use Rattle.search.specs.declared.Found.the-variants.{At, Nothing}
 use Rattle.search.proofs.Laws.{no, and-both, eqb-is, or-is, not-is, number-is, all-at, all-by, first-at, first-none, entries-length, entries-at}
-use Rattle.alphabet.specs.Alphabet.{isNewline, isBlank, labelByte, classBy, classOf, LabelByte, Blank, ByteClass, ByteClasses, wellFormed, LabelForm, orTooLong, faultOf, onto, parts, hasByte, fields}
-use Rattle.alphabet.specs.Within.{classTable, run, startOf, endOf, fieldAt, part}
+use Rattle.alphabet.specs.Alphabet.{isNewline, isBlank, labelByte, classBy, classOf, LabelByte, Blank, ByteClass, ByteClasses, wellFormed, LabelForm, onto, parts, hasByte, fields, labelLongest}
+use Rattle.alphabet.specs.Within.{classTable, run, startOf, endOf, fieldAt, part, faultOf, orTooLong}
 use Rattle.alphabet.specs.declared.Field.{Field}
 use Rattle.alphabet.specs.declared.Field.the-variants.{Part, End}
 
@@ -148,37 +148,37 @@ fault-dash l some e = rw (ne-eqb (length l) 0 some, eq-eqb (getD l 0 0) 45 e)
 
 -- a label that has a byte and does not begin with a dash
 module _ (l : List ℕ) (some : length l ≡ 0 → ⊥) (plain : getD l 0 0 ≡ 45 → ⊥) where
-  fault-by : (f : Found) → first (λ (b : ℕ). not (labelByte b)) (take 255 l) ≡ f → faultOf l ≡ orTooLong f (length l)
+  fault-by : (f : Found) → first (λ (b : ℕ). not (labelByte b)) (take labelLongest l) ≡ f → faultOf l ≡ orTooLong f (length l)
   unfolding faultOf
   fault-by f e = rw (ne-eqb (length l) 0 some, ne-eqb (getD l 0 0) 45 plain, e)
 
-  passed : (n : ℕ) → ((k : ℕ) → k < n → labelByte (getD l k 0) ≡ true) → n ≤ 255 → (k : ℕ) → k < n → not (labelByte (getD (take 255 l) k 0)) ≡ false
+  passed : (n : ℕ) → ((k : ℕ) → k < n → labelByte (getD l k 0) ≡ true) → n ≤ labelLongest → (k : ℕ) → k < n → not (labelByte (getD (take labelLongest l) k 0)) ≡ false
   passed n fine h k i =
-      let j : k < 255 = omega arith in
-      rw (getD-take 255 l k 0 j, fine k i)
+      let j : k < labelLongest = omega arith in
+      rw (getD-take labelLongest l k 0 j, fine k i)
 
   pub fault-at :
       (i : ℕ) →
       i < length l →
-      i < 255 →
+      i < labelLongest →
       ((k : ℕ) → k < i → labelByte (getD l k 0) ≡ true) →
       labelByte (getD l i 0) ≡ false →
       faultOf l ≡ At i
   fault-at i h j fine here =
       fault-by (At i)
-      (first-at (λ (b : ℕ). not (labelByte b)) 0 (take 255 l) i (rw length-take (omega arith)) (passed i fine (omega arith)) (rw (getD-take 255 l i 0 j, here)))
+      (first-at (λ (b : ℕ). not (labelByte b)) 0 (take labelLongest l) i (rw length-take (omega arith)) (passed i fine (omega arith)) (rw (getD-take labelLongest l i 0 j, here)))
 
-  pub fault-long : 255 < length l → ((k : ℕ) → k < 255 → labelByte (getD l k 0) ≡ true) → faultOf l ≡ At 255
+  pub fault-long : labelLongest < length l → ((k : ℕ) → k < labelLongest → labelByte (getD l k 0) ≡ true) → faultOf l ≡ At labelLongest
   fault-long h fine =
       fault-by Nothing
-      (first-none (λ (b : ℕ). not (labelByte b)) 0 (take 255 l) (λ k i. passed 255 fine (omega arith) k (omega (arith, rw length-take at i))))
-      ∙ rw (lt-leb (length l) 255 h)
+      (first-none (λ (b : ℕ). not (labelByte b)) 0 (take labelLongest l) (λ k i. passed labelLongest fine (omega arith) k (omega (arith, rw length-take at i))))
+      ∙ rw (lt-leb (length l) labelLongest h)
 
-  pub fault-none : length l ≤ 255 → ((k : ℕ) → k < length l → labelByte (getD l k 0) ≡ true) → faultOf l ≡ Nothing
+  pub fault-none : length l ≤ labelLongest → ((k : ℕ) → k < length l → labelByte (getD l k 0) ≡ true) → faultOf l ≡ Nothing
   fault-none h fine =
       fault-by Nothing
-      (first-none (λ (b : ℕ). not (labelByte b)) 0 (take 255 l) (λ k i. passed (length l) fine h k (omega (arith, rw length-take at i))))
-      ∙ rw (le-leb (length l) 255 h)
+      (first-none (λ (b : ℕ). not (labelByte b)) 0 (take labelLongest l) (λ k i. passed (length l) fine h k (omega (arith, rw length-take at i))))
+      ∙ rw (le-leb (length l) labelLongest h)
 
 -- whether a search found nothing
 abbrev pub missing : Found → Bool
@@ -207,14 +207,14 @@ some-leb (suc n) = rw (le-leb 1 (suc n) (omega arith), ne-eqb (suc n) 0 (λ q. o
 pub formed-missing : (l : List ℕ) → wellFormed l ≡ missing (faultOf l)
 unfolding wellFormed faultOf
 formed-missing l =
-    rw (some-leb (length l)) (by-test (eqb (length l) 0) (eqb (getD l 0 0) 45) (leb (length l) 255) refl (first (λ (b : ℕ). not (labelByte b)) (take 255 l)) (all labelByte l) searched)
+    rw (some-leb (length l)) (by-test (eqb (length l) 0) (eqb (getD l 0 0) 45) (leb (length l) labelLongest) refl (first (λ (b : ℕ). not (labelByte b)) (take labelLongest l)) (all labelByte l) searched)
   where
-    searched : leb (length l) 255 ≡ true → all labelByte l ≡ missing (first (λ (b : ℕ). not (labelByte b)) (take 255 l))
-    searched e = rw (take-all 255 l (leb-true (length l) 255 e)) (all-missing labelByte l)
+    searched : leb (length l) labelLongest ≡ true → all labelByte l ≡ missing (first (λ (b : ℕ). not (labelByte b)) (take labelLongest l))
+    searched e = rw (take-all labelLongest l (leb-true (length l) labelLongest e)) (all-missing labelByte l)
 
     by-test :
         (empty dash short : Bool) →
-        leb (length l) 255 ≡ short →
+        leb (length l) labelLongest ≡ short →
         (f : Found) (w : Bool) →
         (short ≡ true → w ≡ missing f) →
         (not empty && (short && (w && not dash))) ≡ missing (cond empty (At 0) (cond dash (At 0) (orTooLong f (length l))))
@@ -236,14 +236,14 @@ fault-unformed l k e = formed-missing l ∙ ap missing e
 pub formed-is :
     (l : List ℕ) →
     wellFormed l ≡ true →
-    (1 ≤ length l) × (length l ≤ 255) × ((k : ℕ) → k < length l → labelByte (getD l k 0) ≡ true) × (getD l 0 0 ≡ 45 → ⊥)
+    (1 ≤ length l) × (length l ≤ labelLongest) × ((k : ℕ) → k < length l → labelByte (getD l k 0) ≡ true) × (getD l 0 0 ≡ 45 → ⊥)
 unfolding wellFormed
 formed-is l e =
-    let h = and-both (leb 1 (length l)) (leb (length l) 255 && (all labelByte l && not (eqb (getD l 0 0) 45))) e in
-    let i = and-both (leb (length l) 255) (all labelByte l && not (eqb (getD l 0 0) 45)) (h .1) in
+    let h = and-both (leb 1 (length l)) (leb (length l) labelLongest && (all labelByte l && not (eqb (getD l 0 0) 45))) e in
+    let i = and-both (leb (length l) labelLongest) (all labelByte l && not (eqb (getD l 0 0) 45)) (h .1) in
     let j = and-both (all labelByte l) (not (eqb (getD l 0 0) 45)) (i .1) in (
       leb-true 1 (length l) (h .0),
-      leb-true (length l) 255 (i .0),
+      leb-true (length l) labelLongest (i .0),
       all-at labelByte 0 l (j .0),
       eqb-false (getD l 0 0) 45 (not-true (eqb (getD l 0 0) 45) (j .1)),
     )
@@ -256,7 +256,7 @@ label-form l = (
   λ w.
       rw (
         le-leb 1 (length l) (w .some),
-        le-leb (length l) 255 (w .few),
+        le-leb (length l) labelLongest (w .few),
         all-by labelByte 0 l (λ k h. label-is (getD l k 0) .1 (w .bytes k h)),
         ne-eqb (getD l 0 0) 45 (w .no-dash),
       ),

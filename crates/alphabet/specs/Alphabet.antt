@@ -1,4 +1,4 @@
--- 01, Labels 1 and 4, and the fields of 'Rule text': the class of a byte, a well-formed label and its first fault, and the fields of a line.
+-- 01, Labels 1 and 4, and the fields of 'Rule text': the class of a byte, a well-formed label, and the fields of a line.
 -- The alphabet is that of the kernel's Smack text (source documents 000, 001 and 004); the 23-character limit of the
 -- first version (source document 003) is overruled. Assumes nothing.
 use Prim.Native.Nat.{ℕ, _<_, _≤_}
@@ -6,11 +6,9 @@ use mathlib.Core.Path.{_≡_}
 use mathlib.Core.Logic.{_↔_, _≢_, _⊎_}
 use mathlib.Core.Bool.{Bool, true, false, cond, not, _&&_, _||_}
 use mathlib.Core.List.{List, [], _∷_}
-use lib.ListN.{length, take, getD}
+use lib.ListN.{length, getD}
 use lib.Dec.{eqb, leb}
-use Rattle.search.specs.Search.{first, all, those}
-use Rattle.search.specs.declared.Found.{Found}
-use Rattle.search.specs.declared.Found.the-variants.{At, Nothing}
+use Rattle.search.specs.Search.{all, those}
 
 -- ---- bytes
 
@@ -88,21 +86,6 @@ pub record WellFormed (l : List ℕ) : Type 0 where
 
 abbrev pub LabelForm : Type 0
 LabelForm = (l : List ℕ) → (wellFormed l ≡ true) ↔ WellFormed l
-
--- the place of a label's first fault: 0 where it is empty or begins with a dash, the first byte that is no label byte, or 255 where it is too
--- long and has no earlier fault; nothing where it is well formed
-abbrev pub orTooLong : Found → ℕ → Found
-orTooLong (At k) n = At k
-orTooLong Nothing n = cond (leb n labelLongest) Nothing (At labelLongest)
-
-unfoldable pub faultOf : List ℕ → Found
-unfolding labelByte
-faultOf l =
-    cond (eqb (length l) 0)
-    (At 0)
-    (cond (eqb (getD l 0 0) dash)
-    (At 0)
-    (orTooLong (first (λ (b : ℕ). not (labelByte b)) (take labelLongest l)) (length l)))
 
 -- ---- lines
 

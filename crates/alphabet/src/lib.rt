@@ -3,8 +3,8 @@ use search::Found;
 ghost use mathlib.Core.Path.{_≡_};
 ghost use Prim.Native.Nat.{_+_};
 ghost use lib.ListN.{drop, getD};
-ghost use Rattle.alphabet.specs.Alphabet.{classOf, ByteClasses, faultOf};
-ghost use Rattle.alphabet.specs.Within.{classTable, run, fieldAt};
+ghost use Rattle.alphabet.specs.Alphabet.{classOf, ByteClasses};
+ghost use Rattle.alphabet.specs.Within.{classTable, run, fieldAt, faultOf};
 
 // The bytes that have a part of their own.
 pub const NEWLINE: u8 = b'\n';

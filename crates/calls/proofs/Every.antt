@@ -80,10 +80,10 @@ use Rattle.load.specs.Loader.{Load, load, ready, stepPiece, stepEnd, pieceAnswe
 use Rattle.answers.specs.Answers.{writeShown, revokeShown, pieceShown, endShown, listShown, lookupShown, searchShown, partShown}
 use Rattle.listing.proofs.Laws.{label-done, label-is, label-refused}
 use Rattle.host.proofs.Laws.{label-stands}
+use Rattle.lists.specs.Called.{Called}
 use Rattle.lists.specs.Reader as r
-use Rattle.lists.specs.Reader.{Call, Reply}
-use Rattle.calls.specs.Calls as c
-use Rattle.calls.specs.Calls.{Runs, none, a-piece, an-end, a-question, a-change, a-revoke, an-onlycap, a-mapping, a-look-up, a-search, a-listing, a-label, a-check, taken-reply, finished-reply, written-reply, counted-reply, part-reply}
+use Rattle.lists.specs.Reader.{Ask, Write, Call, Reply}
+use Rattle.calls.specs.Calls.{Answers, Writes, Runs, none, a-piece, an-end, an-ask, a-write, a-question, a-change, a-revoke, an-onlycap, a-mapping, a-look-up, a-search, a-listing, a-label, a-check, taken-reply, finished-reply, written-reply, counted-reply, part-reply}
 
 -- ---- the routines
 
@@ -172,10 +172,47 @@ label-given st k = by-answer (labelAnswer st k) refl
     by-answer (d.Refused j) e = label-refused st k j e
 
 -- calls within the contracts, from any state
+
+abbrev Called-piece : Type 0
+Called-piece = Called piece-kinds.ps piece-kinds.r piece-reads.Asked piece-reads.Learnt
+
+abbrev Called-end : Type 0
+Called-end = Called end-kinds.ps end-kinds.r end-reads.Asked end-reads.Learnt
+
+abbrev Called-question : Type 0
+Called-question = Called question-kinds.ps question-kinds.r question-reads.Asked question-reads.Learnt
+
+abbrev Called-change : Type 0
+Called-change = Called change-kinds.ps change-kinds.r change-reads.Asked change-reads.Learnt
+
+abbrev Called-revoke : Type 0
+Called-revoke = Called revoke-kinds.ps revoke-kinds.r revoke-reads.Asked revoke-reads.Learnt
+
+abbrev Called-onlycap : Type 0
+Called-onlycap = Called onlycap-kinds.ps onlycap-kinds.r onlycap-reads.Asked onlycap-reads.Learnt
+
+abbrev Called-mapping : Type 0
+Called-mapping = Called mapping-kinds.ps mapping-kinds.r mapping-reads.Asked mapping-reads.Learnt
+
+abbrev Called-by-label : Type 0
+Called-by-label = Called by-label-kinds.ps by-label-kinds.r by-label-reads.Asked by-label-reads.Learnt
+
+abbrev Called-by-level : Type 0
+Called-by-level = Called by-level-kinds.ps by-level-kinds.r by-level-reads.Asked by-level-reads.Learnt
+
+abbrev Called-list-rule : Type 0
+Called-list-rule = Called list-rule-kinds.ps list-rule-kinds.r list-rule-reads.Asked list-rule-reads.Learnt
+
+abbrev Called-label-check : Type 0
+Called-label-check = Called label-check-kinds.ps label-check-kinds.r label-check-reads.Asked label-check-reads.Learnt
+
+abbrev Called-label : Type 0
+Called-label = Called label-kinds.ps label-kinds.r label-reads.Asked label-reads.Learnt
+
 abbrev ref : {X : Type 0} → X → RefT X
 ref x = record { ptr = (0, 0); name = 0; now = x }
 
-abbrev piece-call : (s : Load) (text : List ℕ) → c.Called-piece
+abbrev piece-call : (s : Load) (text : List ℕ) → Called-piece
 piece-call s text =
     record {
       lifetimes = ([], ([], ([], ([], ([], tt)))));
@@ -186,7 +223,7 @@ piece-call s text =
       ensures = (refl, with-loader (pieceAfter s text) (piece-loader s text));
     }
 
-abbrev end-call : (s : Load) → c.Called-end
+abbrev end-call : (s : Load) → Called-end
 end-call s =
     record {
       lifetimes = ([], ([], ([], ([], tt))));
@@ -197,7 +234,7 @@ end-call s =
       ensures = (refl, with-loader (endAfter s) (end-loader s));
     }
 
-abbrev question-call : (st : Store) (x o request : List ℕ) (capable : Bool) → c.Called-question
+abbrev question-call : (st : Store) (x o request : List ℕ) (capable : Bool) → Called-question
 question-call st x o request capable =
     record {
       lifetimes = ([], ([], ([], ([], ([], ([], tt))))));
@@ -208,7 +245,7 @@ question-call st x o request capable =
       ensures = refl;
     }
 
-abbrev change-call : (st : Store) (text : List ℕ) → c.Called-change
+abbrev change-call : (st : Store) (text : List ℕ) → Called-change
 change-call st text =
     record {
       lifetimes = ([], ([], ([], ([], tt))));
@@ -219,7 +256,7 @@ change-call st text =
       ensures = (refl, refl);
     }
 
-abbrev onlycap-call : (st : Store) (text : List ℕ) → c.Called-onlycap
+abbrev onlycap-call : (st : Store) (text : List ℕ) → Called-onlycap
 onlycap-call st text =
     record {
       lifetimes = ([], ([], ([], ([], tt))));
@@ -230,7 +267,7 @@ onlycap-call st text =
       ensures = (refl, refl);
     }
 
-abbrev mapping-call : (st : Store) (text : List ℕ) → c.Called-mapping
+abbrev mapping-call : (st : Store) (text : List ℕ) → Called-mapping
 mapping-call st text =
     record {
       lifetimes = ([], ([], ([], ([], tt))));
@@ -241,7 +278,7 @@ mapping-call st text =
       ensures = (refl, refl);
     }
 
-abbrev revoke-call : (st : Store) (l : List ℕ) → c.Called-revoke
+abbrev revoke-call : (st : Store) (l : List ℕ) → Called-revoke
 revoke-call st l =
     record {
       lifetimes = ([], ([], ([], ([], tt))));
@@ -252,7 +289,7 @@ revoke-call st l =
       ensures = (refl, refl);
     }
 
-abbrev by-label-call : (st : Store) (l : List ℕ) → c.Called-by-label
+abbrev by-label-call : (st : Store) (l : List ℕ) → Called-by-label
 by-label-call st l =
     record {
       lifetimes = ([], ([], ([], ([], tt))));
@@ -263,7 +300,7 @@ by-label-call st l =
       ensures = refl;
     }
 
-abbrev by-level-call : (st : Store) (level set : ℕ) → c.Called-by-level
+abbrev by-level-call : (st : Store) (level set : ℕ) → Called-by-level
 by-level-call st level set =
     record {
       lifetimes = ([], ([], ([], tt)));
@@ -274,7 +311,7 @@ by-level-call st level set =
       ensures = refl;
     }
 
-abbrev list-rule-call : (st : Store) (k : ℕ) (out : List ℕ) → c.Called-list-rule
+abbrev list-rule-call : (st : Store) (k : ℕ) (out : List ℕ) → Called-list-rule
 list-rule-call st k out =
     record {
       lifetimes = ([], ([], ([], ([], tt))));
@@ -285,7 +322,7 @@ list-rule-call st k out =
       ensures = (refl, refl);
     }
 
-abbrev label-check-call : (st : Store) (k : ℕ) → c.Called-label-check
+abbrev label-check-call : (st : Store) (k : ℕ) → Called-label-check
 label-check-call st k =
     record {
       lifetimes = ([], ([], ([], tt)));
@@ -296,7 +333,7 @@ label-check-call st k =
       ensures = refl;
     }
 
-abbrev label-call : (st : Store) (k : ℕ) → c.Called-label
+abbrev label-call : (st : Store) (k : ℕ) → Called-label
 label-call st k =
     record {
       lifetimes = ([], ([], ([], tt)));
@@ -307,53 +344,37 @@ label-call st k =
       ensures = (refl, label-given st k);
     }
 
-pub runs : (l e w line : List ℕ) (loader : Loader) (cs : List Call) → (rs : List Reply) × (s′ : Load) × Runs (load (store l e w) line loader) cs rs s′
-runs l e w line loader [] = ([], load (store l e w) line loader, none)
-runs l e w line loader (r.piece text ∷ cs) =
-    let k = piece-call (load (store l e w) line loader) text in
-    let rest = runs (k .last .0) (k .last .1 .0) (k .last .1 .1 .0) (k .last .1 .1 .1 .0) (k .result .loader) cs in
+answered : (st : Store) (q : Ask) → (reply : Reply) × Answers st q reply
+answered st (r.question x o request capable) = (_, a-question (question-call st x o request capable))
+answered st (r.by-label x) = (_, a-look-up (by-label-call st x))
+answered st (r.by-level level set) = (_, a-search (by-level-call st level set))
+answered st (r.list-rule n out) = (_, a-listing (list-rule-call st n out))
+answered st (r.label n) = (_, a-label (label-call st n))
+answered st (r.label-check n) = (_, a-check (label-check-call st n))
+
+wrote : (st : Store) (w : Write) → (reply : Reply) × (st′ : Store) × Writes st w reply st′
+wrote st (r.change text) = (_, _, a-change (change-call st text))
+wrote st (r.revoke l) = (_, _, a-revoke (revoke-call st l))
+wrote st (r.onlycap text) = (_, _, an-onlycap (onlycap-call st text))
+wrote st (r.mapping text) = (_, _, a-mapping (mapping-call st text))
+
+pub runs : (st : Store) (line : List ℕ) (loader : Loader) (cs : List Call) → (rs : List Reply) × (s′ : Load) × Runs (load st line loader) cs rs s′
+runs st line loader [] = ([], load st line loader, none)
+runs st line loader (r.piece text ∷ cs) =
+    let k = piece-call (load st line loader) text in
+    let after = pieceAfter (load st line loader) text in
+    let rest = runs (after .store) (after .line) (k .result .loader) cs in
     (taken-reply (k .result) ∷ rest .0, rest .1, a-piece k (rest .2))
-runs l e w line loader (r.end-call ∷ cs) =
-    let k = end-call (load (store l e w) line loader) in
-    let rest = runs (k .last .0) (k .last .1 .0) (k .last .1 .1 .0) (k .last .1 .1 .1 .0) (k .result .loader) cs in
+runs st line loader (r.end-call ∷ cs) =
+    let k = end-call (load st line loader) in
+    let after = endAfter (load st line loader) in
+    let rest = runs (after .store) (after .line) (k .result .loader) cs in
     (finished-reply (k .result) ∷ rest .0, rest .1, an-end k (rest .2))
-runs l e w line loader (r.ask (r.question x o request capable) ∷ cs) =
-    let k = question-call (store l e w) x o request capable in
-    let rest = runs l e w line loader cs in
-    (r.answered (k .result) ∷ rest .0, rest .1, a-question k {line = line} {loader = loader} (rest .2))
-runs l e w line loader (r.ask (r.by-label x) ∷ cs) =
-    let k = by-label-call (store l e w) x in
-    let rest = runs l e w line loader cs in
-    (r.mapped (k .result) ∷ rest .0, rest .1, a-look-up k {line = line} {loader = loader} (rest .2))
-runs l e w line loader (r.ask (r.by-level level set) ∷ cs) =
-    let k = by-level-call (store l e w) level set in
-    let rest = runs l e w line loader cs in
-    (r.lowest (k .result) ∷ rest .0, rest .1, a-search k {line = line} {loader = loader} (rest .2))
-runs l e w line loader (r.ask (r.list-rule n out) ∷ cs) =
-    let k = list-rule-call (store l e w) n out in
-    let rest = runs l e w line loader cs in
-    (r.listed (k .result) (k .last .1 .1 .1 .1 .0) ∷ rest .0, rest .1, a-listing k {line = line} {loader = loader} (rest .2))
-runs l e w line loader (r.ask (r.label n) ∷ cs) =
-    let k = label-call (store l e w) n in
-    let rest = runs l e w line loader cs in
-    (part-reply (k .result) l ∷ rest .0, rest .1, a-label k {line = line} {loader = loader} (rest .2))
-runs l e w line loader (r.ask (r.label-check n) ∷ cs) =
-    let k = label-check-call (store l e w) n in
-    let rest = runs l e w line loader cs in
-    (written-reply (k .result) ∷ rest .0, rest .1, a-check k {line = line} {loader = loader} (rest .2))
-runs l e w line loader (r.write (r.change text) ∷ cs) =
-    let k = change-call (store l e w) text in
-    let rest = runs (k .last .0) (k .last .1 .0) (k .last .1 .1 .0) line loader cs in
-    (written-reply (k .result) ∷ rest .0, rest .1, a-change k {line = line} {loader = loader} (rest .2))
-runs l e w line loader (r.write (r.revoke x) ∷ cs) =
-    let k = revoke-call (store l e w) x in
-    let rest = runs l (k .last .1 .0) w line loader cs in
-    (counted-reply (k .result) ∷ rest .0, rest .1, a-revoke k {line = line} {loader = loader} (rest .2))
-runs l e w line loader (r.write (r.onlycap text) ∷ cs) =
-    let k = onlycap-call (store l e w) text in
-    let rest = runs (k .last .0) (k .last .1 .0) (k .last .1 .1 .0) line loader cs in
-    (written-reply (k .result) ∷ rest .0, rest .1, an-onlycap k {line = line} {loader = loader} (rest .2))
-runs l e w line loader (r.write (r.mapping text) ∷ cs) =
-    let k = mapping-call (store l e w) text in
-    let rest = runs (k .last .0) (k .last .1 .0) (k .last .1 .1 .0) line loader cs in
-    (written-reply (k .result) ∷ rest .0, rest .1, a-mapping k {line = line} {loader = loader} (rest .2))
+runs st line loader (r.ask q ∷ cs) =
+    let k = answered st q in
+    let rest = runs st line loader cs in
+    (k .0 ∷ rest .0, rest .1, an-ask (k .1) (rest .2))
+runs st line loader (r.write w ∷ cs) =
+    let k = wrote st w in
+    let rest = runs (k .1) line loader cs in
+    (k .0 ∷ rest .0, rest .1, a-write (k .2) (rest .2))

@@ -1,7 +1,7 @@
 -- Demand 3: every list of calls of the exported functions is the plain reader's. Assumes nothing.
 use Prim.Native.Nat.{ℕ}
 use mathlib.Core.Path.{_≡_, refl, sym, ap, _∙_, subst}
-use mathlib.Core.Bool.{false}
+use mathlib.Core.Bool.{true, false}
 use mathlib.Core.List.{List, [], _∷_, foldl, map}
 use denote.Ref.{now}
 use Rattle.store.specs.declared.Done.{Done}
@@ -26,11 +26,11 @@ use Rattle.answers.specs.Answers.{writeShown, revokeShown, pieceShown, endShown
 use Rattle.answers.specs.declared.Length.{Length}
 use Rattle.lists.specs.Called.{first, third, fourth, fifth, sixth, seventh, lent, loading, loaded}
 use Rattle.lists.specs.Reader as r
-use Rattle.lists.specs.Reader.{Reader, startOn, takePiece, Call, Reply, doneReply, countReply, Write, writeSays, writeOn, askSays, after, afterAll, saysAll, Event, events, reports}
+use Rattle.lists.specs.Reader.{Reader, startOn, takePiece, Ask, Call, Reply, doneReply, countReply, Write, writeSays, writeOn, askSays, after, afterAll, saysAll, Event, events, reports}
 use Rattle.lists.proofs.Follows.{Holds, fresh-holds}
 use Rattle.lists.proofs.Steps.{fed-reply, end-reply, piece-law, end-law, on, after-events, reportsOn, reports-events}
 use Rattle.lists.proofs.Others.{storeLeft, write-holds, by-label-refused, by-label-says, by-level-refused, by-level-says, change-refused, change-says, check-refused, check-says, label-refused, label-says, list-refused, list-says, mapping-refused, mapping-says, onlycap-refused, onlycap-says, question-refused, question-says, revoke-refused, revoke-says, write-refused}
-use Rattle.calls.specs.Calls.{Fresh, Runs, none, a-piece, an-end, a-question, a-change, a-revoke, an-onlycap, a-mapping, a-look-up, a-search, a-listing, a-label, a-check, taken-reply, finished-reply, written-reply, counted-reply}
+use Rattle.calls.specs.Calls.{Fresh, Answers, Writes, Runs, none, a-piece, an-end, an-ask, a-write, a-question, a-change, a-revoke, an-onlycap, a-mapping, a-look-up, a-search, a-listing, a-label, a-check, taken-reply, finished-reply, written-reply, counted-reply}
 use Rattle.calls.specs.PlainReaders.{acts, Made, PlainReaders, refusal-of}
 use Rattle.calls.proofs.Acts.{made, grown-made}
 
@@ -52,6 +52,32 @@ shown-counted : (x : Revoked) → counted-reply (revokeShown x) ≡ countReply x
 shown-counted (v.Count n) = refl
 shown-counted (v.Refused n) = refl
 
+both-listed : {x y : Length} {out to : List ℕ} → x ≡ y → out ≡ to → r.listed x out ≡ r.listed y to
+both-listed e f = rw (e, f)
+
+-- ---- one call on the tables alone, from an undamaged state: what is read of its answer is the plain reader's
+
+pub answers-read : {st : Store} {q : Ask} {reply : Reply} → undamagedOf st ≡ true → Answers st q reply → reply ≡ askSays (tableOf st) q
+answers-read u (a-question k) = ap r.answered (k .ensures) ∙ question-says (lent (k .args)) u (now (fourth (k .args))) (now (fifth (k .args))) (now (sixth (k .args))) (seventh (k .args))
+answers-read u (a-look-up k) = ap r.mapped (k .ensures) ∙ by-label-says (lent (k .args)) u (now (fourth (k .args)))
+answers-read u (a-search k) = ap r.lowest (k .ensures) ∙ by-level-says (lent (k .args)) u (fourth (k .args)) (fifth (k .args))
+answers-read u (a-listing k) = both-listed (k .ensures .0) (k .ensures .1) ∙ list-says (lent (k .args)) u (fourth (k .args)) (now (fifth (k .args)))
+answers-read u (a-label k) = label-says (lent (k .args)) u (fourth (k .args)) _ (k .result) _ (k .ensures .0) (k .ensures .1)
+answers-read u (a-check k) = ap written-reply (k .ensures) ∙ shown-written (labelAnswer (lent (k .args)) (fourth (k .args))) ∙ check-says (lent (k .args)) u (fourth (k .args))
+
+pub writes-read : {st st′ : Store} {w : Write} {reply : Reply} → undamagedOf st ≡ true → Writes st w reply st′ → reply ≡ writeSays (tableOf st) w
+writes-read u (a-change k) = ap written-reply (k .ensures .0) ∙ shown-written (changeAnswer (lent (k .args)) (now (fourth (k .args)))) ∙ change-says (lent (k .args)) u (now (fourth (k .args)))
+writes-read u (a-revoke k) = ap counted-reply (k .ensures .0) ∙ shown-counted (revokeAnswer (lent (k .args)) (now (fourth (k .args)))) ∙ revoke-says (lent (k .args)) u (now (fourth (k .args)))
+writes-read u (an-onlycap k) = ap written-reply (k .ensures .0) ∙ shown-written (onlycapAnswer (lent (k .args)) (now (fourth (k .args)))) ∙ onlycap-says (lent (k .args)) u (now (fourth (k .args)))
+writes-read u (a-mapping k) = ap written-reply (k .ensures .0) ∙ shown-written (mapAnswer (lent (k .args)) (now (fourth (k .args)))) ∙ mapping-says (lent (k .args)) u (now (fourth (k .args)))
+
+-- and a write leaves what its definition says, of any state
+pub writes-leave : {st st′ : Store} {w : Write} {reply : Reply} → Writes st w reply st′ → st′ ≡ storeLeft st w
+writes-leave (a-change k) = k .ensures .1
+writes-leave (a-revoke k) = ap (λ (x : List ℕ). store (now (first (k .args))) x (now (third (k .args)))) (k .ensures .1)
+writes-leave (an-onlycap k) = k .ensures .1
+writes-leave (a-mapping k) = k .ensures .1
+
 -- ---- every list of calls, from any state that stands for a plain reader
 
 pub record Followed (s : Load) (rs : List Reply) (p : Reader) (qs : List Reply) : Type 0 where
@@ -61,15 +87,9 @@ pub record Followed (s : Load) (rs : List Reply) (p : Reader) (qs : List Reply) 
 one-more : {s : Load} {x q : Reply} {rs qs : List Reply} {p : Reader} → x ≡ q → Followed s rs p qs → Followed s (x ∷ rs) p (q ∷ qs)
 one-more e f = record { holds = f .holds; replies = cc (e, f .replies) }
 
-both-listed : {x y : Length} {out to : List ℕ} → x ≡ y → out ≡ to → r.listed x out ≡ r.listed y to
-both-listed e f = rw (e, f)
-
--- a single write left this store, and this was read of its answer
+-- a single write left this store
 after-write : (w : Write) {s : Load} {st : Store} (p : Reader) → st ≡ storeLeft (s .store) w → Holds s p → Holds (load st (s .line) (s .loader)) (writeOn p w)
 after-write w {s} p e h = subst (λ (z : Store). Holds (load z (s .line) (s .loader)) (writeOn p w)) (sym e) (write-holds s p w h)
-
-of-reader : {s : Load} {p : Reader} (g : Table → Reply) {x : Reply} → Holds s p → x ≡ g (tableOf (s .store)) → x ≡ g (p .table)
-of-reader g h e = e ∙ ap g (h .table)
 
 pub follows : {s s′ : Load} {cs : List Call} {rs : List Reply} (p : Reader) → Holds s p → Runs s cs rs s′ → Followed s′ rs (afterAll p cs) (saysAll p cs)
 follows p h none = record { holds = h; replies = refl }
@@ -80,40 +100,9 @@ follows p h (a-piece k rest) =
 follows p h (an-end k rest) =
     let d = end-law {s = loading (k .args)} {s′ = loaded (k .last) (k .result .loader)} {r = endAnswer (loading (k .args))} p refl (k .ensures .1) h in
     one-more (ap finished-reply (k .ensures .0) ∙ shown-finished (fifth (k .args)) (endAnswer (loading (k .args))) ∙ d .reply) (follows (after p r.end-call) (d .holds) rest)
-follows p h (a-question k rest) =
-    let q = r.question (now (fourth (k .args))) (now (fifth (k .args))) (now (sixth (k .args))) (seventh (k .args)) in
-    one-more (of-reader (λ t. askSays t q) h (ap r.answered (k .ensures) ∙ question-says (lent (k .args)) (h .ready .undamaged) (now (fourth (k .args))) (now (fifth (k .args))) (now (sixth (k .args))) (seventh (k .args)))) (follows p h rest)
-follows p h (a-change k rest) =
-    let w = r.change (now (fourth (k .args))) in
-    one-more (of-reader (λ t. writeSays t w) h (ap written-reply (k .ensures .0) ∙ shown-written (changeAnswer (lent (k .args)) (now (fourth (k .args)))) ∙ change-says (lent (k .args)) (h .ready .undamaged) (now (fourth (k .args)))))
-    (follows (writeOn p w) (after-write w p (k .ensures .1) h) rest)
-follows p h (a-revoke k rest) =
-    let w = r.revoke (now (fourth (k .args))) in
-    one-more (of-reader (λ t. writeSays t w) h (ap counted-reply (k .ensures .0) ∙ shown-counted (revokeAnswer (lent (k .args)) (now (fourth (k .args)))) ∙ revoke-says (lent (k .args)) (h .ready .undamaged) (now (fourth (k .args)))))
-    (follows (writeOn p w) (after-write w p (ap (λ (x : List ℕ). store (now (first (k .args))) x (now (third (k .args)))) (k .ensures .1)) h) rest)
-follows p h (an-onlycap k rest) =
-    let w = r.onlycap (now (fourth (k .args))) in
-    one-more (of-reader (λ t. writeSays t w) h (ap written-reply (k .ensures .0) ∙ shown-written (onlycapAnswer (lent (k .args)) (now (fourth (k .args)))) ∙ onlycap-says (lent (k .args)) (h .ready .undamaged) (now (fourth (k .args)))))
-    (follows (writeOn p w) (after-write w p (k .ensures .1) h) rest)
-follows p h (a-mapping k rest) =
-    let w = r.mapping (now (fourth (k .args))) in
-    one-more (of-reader (λ t. writeSays t w) h (ap written-reply (k .ensures .0) ∙ shown-written (mapAnswer (lent (k .args)) (now (fourth (k .args)))) ∙ mapping-says (lent (k .args)) (h .ready .undamaged) (now (fourth (k .args)))))
-    (follows (writeOn p w) (after-write w p (k .ensures .1) h) rest)
-follows p h (a-look-up k rest) =
-    let q = r.by-label (now (fourth (k .args))) in
-    one-more (of-reader (λ t. askSays t q) h (ap r.mapped (k .ensures) ∙ by-label-says (lent (k .args)) (h .ready .undamaged) (now (fourth (k .args))))) (follows p h rest)
-follows p h (a-search k rest) =
-    let q = r.by-level (fourth (k .args)) (fifth (k .args)) in
-    one-more (of-reader (λ t. askSays t q) h (ap r.lowest (k .ensures) ∙ by-level-says (lent (k .args)) (h .ready .undamaged) (fourth (k .args)) (fifth (k .args)))) (follows p h rest)
-follows p h (a-listing k rest) =
-    let q = r.list-rule (fourth (k .args)) (now (fifth (k .args))) in
-    one-more (of-reader (λ t. askSays t q) h (both-listed (k .ensures .0) (k .ensures .1) ∙ list-says (lent (k .args)) (h .ready .undamaged) (fourth (k .args)) (now (fifth (k .args))))) (follows p h rest)
-follows p h (a-label k rest) =
-    let q = r.label (fourth (k .args)) in
-    one-more (of-reader (λ t. askSays t q) h (label-says (lent (k .args)) (h .ready .undamaged) (fourth (k .args)) _ (k .result) _ (k .ensures .0) (k .ensures .1))) (follows p h rest)
-follows p h (a-check k rest) =
-    let q = r.label-check (fourth (k .args)) in
-    one-more (of-reader (λ t. askSays t q) h (ap written-reply (k .ensures) ∙ shown-written (labelAnswer (lent (k .args)) (fourth (k .args))) ∙ check-says (lent (k .args)) (h .ready .undamaged) (fourth (k .args)))) (follows p h rest)
+follows p h (an-ask {q = q} k rest) = one-more (answers-read (h .ready .undamaged) k ∙ ap (λ (t : Table). askSays t q) (h .table)) (follows p h rest)
+follows p h (a-write {w = w} k rest) =
+    one-more (writes-read (h .ready .undamaged) k ∙ ap (λ (t : Table). writeSays t w) (h .table)) (follows (writeOn p w) (after-write w p (writes-leave k) h) rest)
 
 -- ---- DEMAND 3
 
@@ -182,8 +171,21 @@ refused-more :
     (s′ ≡ s) × ((x ∷ rs) ≡ (q ∷ qs))
 refused-more p e r = (r .0 ∙ p, cc (e, r .1))
 
-with-store : (w : Write) {st st′ : Store} (line : List ℕ) (loader : Loader) → st′ ≡ storeLeft st w → undamagedOf st ≡ false → load st′ line loader ≡ load st line loader
-with-store w {st} line loader e u = ap (λ (x : Store). load x line loader) (e ∙ write-refused st u w)
+answers-refused : {st : Store} {q : Ask} {reply : Reply} → undamagedOf st ≡ false → Answers st q reply → reply ≡ refusal-of (r.ask q)
+answers-refused u (a-question k) = ap r.answered (k .ensures ∙ ap shown (question-refused _ u _ _ _ _))
+answers-refused u (a-look-up k) = ap r.mapped (k .ensures ∙ ap lookupShown (by-label-refused _ u _))
+answers-refused u (a-search k) = ap r.lowest (k .ensures ∙ ap searchShown (by-level-refused _ u _ _))
+answers-refused u (a-listing k) =
+    let c = list-refused _ u (fourth (k .args)) (now (fifth (k .args))) in
+    both-listed (k .ensures .0 ∙ ap listShown (c .0)) (k .ensures .1 ∙ c .1)
+answers-refused u (a-label k) = label-refused _ u _ _ _ _ (k .ensures .0)
+answers-refused u (a-check k) = ap written-reply (k .ensures ∙ ap writeShown (check-refused _ u _))
+
+writes-refused : {st st′ : Store} {w : Write} {reply : Reply} → undamagedOf st ≡ false → Writes st w reply st′ → reply ≡ refusal-of (r.write w)
+writes-refused u (a-change k) = ap written-reply (k .ensures .0 ∙ ap writeShown (change-refused _ u _))
+writes-refused u (a-revoke k) = ap counted-reply (k .ensures .0 ∙ ap revokeShown (revoke-refused _ u _))
+writes-refused u (an-onlycap k) = ap written-reply (k .ensures .0 ∙ ap writeShown (onlycap-refused _ u _))
+writes-refused u (a-mapping k) = ap written-reply (k .ensures .0 ∙ ap writeShown (mapping-refused _ u _))
 
 pub damaged : {s s′ : Load} {cs : List Call} {rs : List Reply} → undamagedOf (s .store) ≡ false → Runs s cs rs s′ → (s′ ≡ s) × (rs ≡ map refusal-of cs)
 damaged u none = (refl, refl)
@@ -193,23 +195,7 @@ damaged u (a-piece k rest) =
 damaged u (an-end k rest) =
     let c = end-refused {s = loading (k .args)} u (k .ensures .1) in
     refused-more (c .1) (ap finished-reply (k .ensures .0) ∙ shown-finished (fifth (k .args)) (endAnswer (loading (k .args))) ∙ c .0) (damaged (still (c .1) u) rest)
-damaged u (a-question k rest) = refused-more refl (ap r.answered (k .ensures ∙ ap shown (question-refused _ u _ _ _ _))) (damaged u rest)
-damaged u (a-change k {line} {loader} rest) =
-    let c = with-store (r.change (now (fourth (k .args)))) line loader (k .ensures .1) u in
-    refused-more c (ap written-reply (k .ensures .0 ∙ ap writeShown (change-refused _ u _))) (damaged (still c u) rest)
-damaged u (a-revoke k {line} {loader} rest) =
-    let c = with-store (r.revoke (now (fourth (k .args)))) line loader (ap (λ (x : List ℕ). store (now (first (k .args))) x (now (third (k .args)))) (k .ensures .1)) u in
-    refused-more c (ap counted-reply (k .ensures .0 ∙ ap revokeShown (revoke-refused _ u _))) (damaged (still c u) rest)
-damaged u (an-onlycap k {line} {loader} rest) =
-    let c = with-store (r.onlycap (now (fourth (k .args)))) line loader (k .ensures .1) u in
-    refused-more c (ap written-reply (k .ensures .0 ∙ ap writeShown (onlycap-refused _ u _))) (damaged (still c u) rest)
-damaged u (a-mapping k {line} {loader} rest) =
-    let c = with-store (r.mapping (now (fourth (k .args)))) line loader (k .ensures .1) u in
-    refused-more c (ap written-reply (k .ensures .0 ∙ ap writeShown (mapping-refused _ u _))) (damaged (still c u) rest)
-damaged u (a-look-up k rest) = refused-more refl (ap r.mapped (k .ensures ∙ ap lookupShown (by-label-refused _ u _))) (damaged u rest)
-damaged u (a-search k rest) = refused-more refl (ap r.lowest (k .ensures ∙ ap searchShown (by-level-refused _ u _ _))) (damaged u rest)
-damaged u (a-listing k rest) =
-    let c = list-refused _ u (fourth (k .args)) (now (fifth (k .args))) in
-    refused-more refl (both-listed (k .ensures .0 ∙ ap listShown (c .0)) (k .ensures .1 ∙ c .1)) (damaged u rest)
-damaged u (a-label k rest) = refused-more refl (label-refused _ u _ _ _ _ (k .ensures .0)) (damaged u rest)
-damaged u (a-check k rest) = refused-more refl (ap written-reply (k .ensures ∙ ap writeShown (check-refused _ u _))) (damaged u rest)
+damaged u (an-ask k rest) = refused-more refl (answers-refused u k) (damaged u rest)
+damaged u (a-write {st = st} {w = w} {line = line} {loader = loader} k rest) =
+    let c = ap (λ (x : Store). load x line loader) (writes-leave k ∙ write-refused st u w) in
+    refused-more c (writes-refused u k) (damaged (still c u) rest)

@@ -31,7 +31,7 @@ use Rattle.host.proofs.bq_label_check.Reads as label-check-reads
 use Rattle.host.proofs.bq_label.Kinds as label-kinds
 use Rattle.host.proofs.bq_label.Reads as label-reads
 use Rattle.alphabet.specs.Alphabet.{lineLimit}
-use Rattle.store.specs.Layout.{store, undamagedOf}
+use Rattle.store.specs.Layout.{Store, store, undamagedOf}
 use Rattle.reports.specs.declared.Loader.{Loader}
 use Rattle.reports.specs.declared.Report.{Report}
 use Rattle.reports.specs.Report.{freshLoader}
@@ -43,43 +43,7 @@ use Rattle.answers.specs.declared.Finished.{Finished}
 use Rattle.answers.specs.declared.Part.{Part}
 use Rattle.lists.specs.Called.{Called, first, second, third, fourth, fifth, sixth, seventh, lent, left, loading, loaded}
 use Rattle.lists.specs.Reader as r
-use Rattle.lists.specs.Reader.{Totals, Call, Reply}
-
-abbrev pub Called-piece : Type 0
-Called-piece = Called piece-kinds.ps piece-kinds.r piece-reads.Asked piece-reads.Learnt
-
-abbrev pub Called-end : Type 0
-Called-end = Called end-kinds.ps end-kinds.r end-reads.Asked end-reads.Learnt
-
-abbrev pub Called-question : Type 0
-Called-question = Called question-kinds.ps question-kinds.r question-reads.Asked question-reads.Learnt
-
-abbrev pub Called-change : Type 0
-Called-change = Called change-kinds.ps change-kinds.r change-reads.Asked change-reads.Learnt
-
-abbrev pub Called-revoke : Type 0
-Called-revoke = Called revoke-kinds.ps revoke-kinds.r revoke-reads.Asked revoke-reads.Learnt
-
-abbrev pub Called-onlycap : Type 0
-Called-onlycap = Called onlycap-kinds.ps onlycap-kinds.r onlycap-reads.Asked onlycap-reads.Learnt
-
-abbrev pub Called-mapping : Type 0
-Called-mapping = Called mapping-kinds.ps mapping-kinds.r mapping-reads.Asked mapping-reads.Learnt
-
-abbrev pub Called-by-label : Type 0
-Called-by-label = Called by-label-kinds.ps by-label-kinds.r by-label-reads.Asked by-label-reads.Learnt
-
-abbrev pub Called-by-level : Type 0
-Called-by-level = Called by-level-kinds.ps by-level-kinds.r by-level-reads.Asked by-level-reads.Learnt
-
-abbrev pub Called-list-rule : Type 0
-Called-list-rule = Called list-rule-kinds.ps list-rule-kinds.r list-rule-reads.Asked list-rule-reads.Learnt
-
-abbrev pub Called-label-check : Type 0
-Called-label-check = Called label-check-kinds.ps label-check-kinds.r label-check-reads.Asked label-check-reads.Learnt
-
-abbrev pub Called-label : Type 0
-Called-label = Called label-kinds.ps label-kinds.r label-reads.Asked label-reads.Learnt
+use Rattle.lists.specs.Reader.{Totals, Ask, Write, Call, Reply}
 
 -- ---- what a list begins with: a table that is undamaged, a line of full size, and a fresh loader. The state between two calls is a `Load`: the three slices of the
 -- tables, that of the line, and the loader
@@ -110,57 +74,51 @@ counted-reply a = cond (a .refused) (r.refusal (a .number)) (r.count (a .count))
 abbrev pub part-reply : Part → List ℕ → Reply
 part-reply a labels = cond (a .refused) (r.refusal (a .number)) (r.label-is (take (a .length) (drop (a .start) labels)))
 
+-- ---- a call on the tables alone, as a host makes it: with the tables that it is lent, what it is asked, and what is read of its answer. What is lent by `&` has
+-- no last value, and is as it was
+
+pub data Answers : Store → Ask → Reply → Type 0 where
+  a-question : (k : Called question-kinds.ps question-kinds.r question-reads.Asked question-reads.Learnt) →
+      Answers (lent (k .args)) (r.question (now (fourth (k .args))) (now (fifth (k .args))) (now (sixth (k .args))) (seventh (k .args))) (r.answered (k .result))
+  a-look-up : (k : Called by-label-kinds.ps by-label-kinds.r by-label-reads.Asked by-label-reads.Learnt) →
+      Answers (lent (k .args)) (r.by-label (now (fourth (k .args)))) (r.mapped (k .result))
+  a-search : (k : Called by-level-kinds.ps by-level-kinds.r by-level-reads.Asked by-level-reads.Learnt) →
+      Answers (lent (k .args)) (r.by-level (fourth (k .args)) (fifth (k .args))) (r.lowest (k .result))
+  a-listing : (k : Called list-rule-kinds.ps list-rule-kinds.r list-rule-reads.Asked list-rule-reads.Learnt) →
+      Answers (lent (k .args)) (r.list-rule (fourth (k .args)) (now (fifth (k .args)))) (r.listed (k .result) (fifth (k .last)))
+  a-label : (k : Called label-kinds.ps label-kinds.r label-reads.Asked label-reads.Learnt) →
+      Answers (lent (k .args)) (r.label (fourth (k .args))) (part-reply (k .result) (now (first (k .args))))
+  a-check : (k : Called label-check-kinds.ps label-check-kinds.r label-check-reads.Asked label-check-reads.Learnt) →
+      Answers (lent (k .args)) (r.label-check (fourth (k .args))) (written-reply (k .result))
+
+-- and of a single write also the tables that it leaves
+pub data Writes : Store → Write → Reply → Store → Type 0 where
+  a-change : (k : Called change-kinds.ps change-kinds.r change-reads.Asked change-reads.Learnt) →
+      Writes (lent (k .args)) (r.change (now (fourth (k .args)))) (written-reply (k .result)) (left (k .last))
+  a-revoke : (k : Called revoke-kinds.ps revoke-kinds.r revoke-reads.Asked revoke-reads.Learnt) →
+      Writes (lent (k .args)) (r.revoke (now (fourth (k .args)))) (counted-reply (k .result)) (store (now (first (k .args))) (second (k .last)) (now (third (k .args))))
+  an-onlycap : (k : Called onlycap-kinds.ps onlycap-kinds.r onlycap-reads.Asked onlycap-reads.Learnt) →
+      Writes (lent (k .args)) (r.onlycap (now (fourth (k .args)))) (written-reply (k .result)) (left (k .last))
+  a-mapping : (k : Called mapping-kinds.ps mapping-kinds.r mapping-reads.Asked mapping-reads.Learnt) →
+      Writes (lent (k .args)) (r.mapping (now (fourth (k .args)))) (written-reply (k .result)) (left (k .last))
+
 -- ---- every list of calls, each made from the state that the one before it left. (Each case is read from its last line: from this state, with this call
--- and this reply in front; the line above it says from which state the rest of the list goes on.) A call that takes no loader is made beside a line under way, whose bytes and loader
--- stay as they are; and what is lent by `&` has no last value, and is as it was
+-- and this reply in front; the line above it says from which state the rest of the list goes on.) A call on the tables alone is made beside a line under way, whose bytes
+-- and loader stay as they are
 
 pub data Runs : Load → List Call → List Reply → Load → Type 0 where
   none : {s : Load} → Runs s [] [] s
-  a-piece :
-      (k : Called-piece) {s : Load} {cs : List Call} {rs : List Reply} →
+  a-piece : (k : Called piece-kinds.ps piece-kinds.r piece-reads.Asked piece-reads.Learnt) {s : Load} {cs : List Call} {rs : List Reply} →
       Runs (loaded (k .last) (k .result .loader)) cs rs s →
       Runs (loading (k .args)) (r.piece (now (sixth (k .args))) ∷ cs) (taken-reply (k .result) ∷ rs) s
-  an-end :
-      (k : Called-end) {s : Load} {cs : List Call} {rs : List Reply} →
+  an-end : (k : Called end-kinds.ps end-kinds.r end-reads.Asked end-reads.Learnt) {s : Load} {cs : List Call} {rs : List Reply} →
       Runs (loaded (k .last) (k .result .loader)) cs rs s →
       Runs (loading (k .args)) (r.end-call ∷ cs) (finished-reply (k .result) ∷ rs) s
-  a-question :
-      (k : Called-question) {line : List ℕ} {loader : Loader} {s : Load} {cs : List Call} {rs : List Reply} →
-      Runs (load (lent (k .args)) line loader) cs rs s →
-      Runs (load (lent (k .args)) line loader) (r.ask (r.question (now (fourth (k .args))) (now (fifth (k .args))) (now (sixth (k .args))) (seventh (k .args))) ∷ cs) (r.answered (k .result) ∷ rs) s
-  a-change :
-      (k : Called-change) {line : List ℕ} {loader : Loader} {s : Load} {cs : List Call} {rs : List Reply} →
-      Runs (load (left (k .last)) line loader) cs rs s →
-      Runs (load (lent (k .args)) line loader) (r.write (r.change (now (fourth (k .args)))) ∷ cs) (written-reply (k .result) ∷ rs) s
-  a-revoke :
-      (k : Called-revoke) {line : List ℕ} {loader : Loader} {s : Load} {cs : List Call} {rs : List Reply} →
-      Runs (load (store (now (first (k .args))) (second (k .last)) (now (third (k .args)))) line loader) cs rs s →
-      Runs (load (lent (k .args)) line loader) (r.write (r.revoke (now (fourth (k .args)))) ∷ cs) (counted-reply (k .result) ∷ rs) s
-  an-onlycap :
-      (k : Called-onlycap) {line : List ℕ} {loader : Loader} {s : Load} {cs : List Call} {rs : List Reply} →
-      Runs (load (left (k .last)) line loader) cs rs s →
-      Runs (load (lent (k .args)) line loader) (r.write (r.onlycap (now (fourth (k .args)))) ∷ cs) (written-reply (k .result) ∷ rs) s
-  a-mapping :
-      (k : Called-mapping) {line : List ℕ} {loader : Loader} {s : Load} {cs : List Call} {rs : List Reply} →
-      Runs (load (left (k .last)) line loader) cs rs s →
-      Runs (load (lent (k .args)) line loader) (r.write (r.mapping (now (fourth (k .args)))) ∷ cs) (written-reply (k .result) ∷ rs) s
-  a-look-up :
-      (k : Called-by-label) {line : List ℕ} {loader : Loader} {s : Load} {cs : List Call} {rs : List Reply} →
-      Runs (load (lent (k .args)) line loader) cs rs s →
-      Runs (load (lent (k .args)) line loader) (r.ask (r.by-label (now (fourth (k .args)))) ∷ cs) (r.mapped (k .result) ∷ rs) s
-  a-search :
-      (k : Called-by-level) {line : List ℕ} {loader : Loader} {s : Load} {cs : List Call} {rs : List Reply} →
-      Runs (load (lent (k .args)) line loader) cs rs s →
-      Runs (load (lent (k .args)) line loader) (r.ask (r.by-level (fourth (k .args)) (fifth (k .args))) ∷ cs) (r.lowest (k .result) ∷ rs) s
-  a-listing :
-      (k : Called-list-rule) {line : List ℕ} {loader : Loader} {s : Load} {cs : List Call} {rs : List Reply} →
-      Runs (load (lent (k .args)) line loader) cs rs s →
-      Runs (load (lent (k .args)) line loader) (r.ask (r.list-rule (fourth (k .args)) (now (fifth (k .args)))) ∷ cs) (r.listed (k .result) (fifth (k .last)) ∷ rs) s
-  a-label :
-      (k : Called-label) {line : List ℕ} {loader : Loader} {s : Load} {cs : List Call} {rs : List Reply} →
-      Runs (load (lent (k .args)) line loader) cs rs s →
-      Runs (load (lent (k .args)) line loader) (r.ask (r.label (fourth (k .args))) ∷ cs) (part-reply (k .result) (now (first (k .args))) ∷ rs) s
-  a-check :
-      (k : Called-label-check) {line : List ℕ} {loader : Loader} {s : Load} {cs : List Call} {rs : List Reply} →
-      Runs (load (lent (k .args)) line loader) cs rs s →
-      Runs (load (lent (k .args)) line loader) (r.ask (r.label-check (fourth (k .args))) ∷ cs) (written-reply (k .result) ∷ rs) s
+  an-ask : {st : Store} {q : Ask} {reply : Reply} {line : List ℕ} {loader : Loader} {s : Load} {cs : List Call} {rs : List Reply} →
+      Answers st q reply →
+      Runs (load st line loader) cs rs s →
+      Runs (load st line loader) (r.ask q ∷ cs) (reply ∷ rs) s
+  a-write : {st st′ : Store} {w : Write} {reply : Reply} {line : List ℕ} {loader : Loader} {s : Load} {cs : List Call} {rs : List Reply} →
+      Writes st w reply st′ →
+      Runs (load st′ line loader) cs rs s →
+      Runs (load st line loader) (r.write w ∷ cs) (reply ∷ rs) s

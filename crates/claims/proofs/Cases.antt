@@ -4,7 +4,7 @@ use mathlib.Core.Bool.{true, and-true}
 use mathlib.Core.List.{List, [], _∷_}
 use Prim.Native.Nat.{ℕ}
 use Rattle.search.specs.Search.{first, all, put, entries}
-use Rattle.search.specs.Bytes.{sameBytes}
+use Rattle.search.specs.Bytes.{ascii, sameBytes}
 use Rattle.alphabet.specs.Alphabet.{isBlank, labelByte, wellFormed, fields}
 use Rattle.modes.specs.Modes.{bitOf, allowedByte, modesOf, readModes, modesText}
 use Rattle.numbers.specs.Numbers.{numberOf}
@@ -17,11 +17,13 @@ use Rattle.store.specs.Pairs.{modesBetween}
 use Rattle.access.specs.Access.{effective, decide, answer}
 use Rattle.cipso.specs.Cipso.{SaidMapping, mapping, categoriesOf, saidBy, mappingOf, withMapping, mappingWrite, saidJudged}
 use Rattle.lookups.specs.Lookups.{labelLookup}
-use Rattle.claims.specs.Cases.{maps, right, sameLookup, cases, Vault7}
+use Rattle.claims.specs.Cases.{maps, right, sameLookup, cases}
 
--- `Vault7 9 1 63`
 abbrev write : List ℕ
-write = 86 ∷ 97 ∷ 117 ∷ 108 ∷ 116 ∷ 55 ∷ 32 ∷ 57 ∷ 32 ∷ 49 ∷ 32 ∷ 54 ∷ 51 ∷ []
+write = ascii "Vault7 9 1 63"
+
+abbrev Vault7 : List ℕ
+Vault7 = ascii "Vault7"
 
 set-is : withCategory (withCategory 0 1) 63 ≡ 9223372036854775810
 unfolding withCategory

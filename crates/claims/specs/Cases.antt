@@ -3,7 +3,7 @@ use Prim.Native.Nat.{ℕ}
 use mathlib.Core.Bool.{Bool, true, false, _&&_, Bool·beq}
 use mathlib.Core.List.{List, [], _∷_, foldl}
 use lib.Dec.{eqb}
-use Rattle.search.specs.Bytes.{sameBytes}
+use Rattle.search.specs.Bytes.{ascii, sameBytes}
 use Rattle.modes.specs.Modes.{modesText}
 use Rattle.store.specs.Table.{Table, fresh, floor, hat, star}
 use Rattle.lines.specs.Lines.{ruleOf}
@@ -48,39 +48,6 @@ right (changes line write s o modes) =
     sameBytes (modesText (pairModes (tableAfter (afterLines (line ∷ [])) (changeWrite write (afterLines (line ∷ [])))) s o)) modes
 right (maps write label level cs count) = sameLookup (labelLookup (tableAfter fresh (mappingWrite write fresh)) label) level cs count
 
--- ---- the texts, in bytes
-
-abbrev pub Probe3 : List ℕ
-Probe3 = 80 ∷ 114 ∷ 111 ∷ 98 ∷ 101 ∷ 51 ∷ []
-
-abbrev pub Air : List ℕ
-Air = 65 ∷ 105 ∷ 114 ∷ []
-
-abbrev pub Door : List ℕ
-Door = 68 ∷ 111 ∷ 111 ∷ 114 ∷ []
-
-abbrev pub Vault7 : List ℕ
-Vault7 = 86 ∷ 97 ∷ 117 ∷ 108 ∷ 116 ∷ 55 ∷ []
-
--- `Probe3 Air ` and then the rest
-abbrev pub Probe3-Air : List ℕ → List ℕ
-Probe3-Air rest = 80 ∷ 114 ∷ 111 ∷ 98 ∷ 101 ∷ 51 ∷ 32 ∷ 65 ∷ 105 ∷ 114 ∷ 32 ∷ rest
-
-abbrev pub r : List ℕ
-r = 114 ∷ []
-
-abbrev pub w : List ℕ
-w = 119 ∷ []
-
-abbrev pub rw′ : List ℕ
-rw′ = 114 ∷ 119 ∷ []
-
-abbrev pub rx : List ℕ
-rx = 114 ∷ 120 ∷ []
-
-abbrev pub rwxa : List ℕ
-rwxa = 114 ∷ 119 ∷ 120 ∷ 97 ∷ []
-
 -- ---- the answers
 
 abbrev pub granted : ℕ → Shown
@@ -97,20 +64,20 @@ denied n = record { kind = 1; number = n; bringup = false }
 abbrev pub cases : List Case
 cases =
     -- P1 to P6, of a fresh table
-    asks [] star floor r (denied 1)
-    ∷ asks [] hat Door rx (granted 2)
-    ∷ asks [] Door floor rw′ (denied 7)
-    ∷ asks [] hat star rw′ (granted 4)
-    ∷ asks [] star star r (denied 1)
-    ∷ asks [] Door Door rwxa (granted 5)
+    asks [] star floor (ascii "r") (denied 1)
+    ∷ asks [] hat (ascii "Door") (ascii "rx") (granted 2)
+    ∷ asks [] (ascii "Door") floor (ascii "rw") (denied 7)
+    ∷ asks [] hat star (ascii "rw") (granted 4)
+    ∷ asks [] star star (ascii "r") (denied 1)
+    ∷ asks [] (ascii "Door") (ascii "Door") (ascii "rwxa") (granted 5)
     -- P7 to P9, after `Probe3 Air w`
-    ∷ asks (Probe3-Air w ∷ []) Probe3 Air w (granted 6)
-    ∷ asks (Probe3-Air w ∷ []) Probe3 Air rw′ (denied 7)
-    ∷ asks (Probe3-Air w ∷ []) Air Probe3 w (denied 7)
+    ∷ asks (ascii "Probe3 Air w" ∷ []) (ascii "Probe3") (ascii "Air") (ascii "w") (granted 6)
+    ∷ asks (ascii "Probe3 Air w" ∷ []) (ascii "Probe3") (ascii "Air") (ascii "rw") (denied 7)
+    ∷ asks (ascii "Probe3 Air w" ∷ []) (ascii "Air") (ascii "Probe3") (ascii "w") (denied 7)
     -- P10, after `Probe3 Air rRb`
-    ∷ asks (Probe3-Air (114 ∷ 82 ∷ 98 ∷ []) ∷ []) Probe3 Air r granted-b
+    ∷ asks (ascii "Probe3 Air rRb" ∷ []) (ascii "Probe3") (ascii "Air") (ascii "r") granted-b
     -- P11, modes r, and a change with allow wa and deny w
-    ∷ changes (Probe3-Air r) (Probe3-Air (119 ∷ 97 ∷ 32 ∷ 119 ∷ [])) Probe3 Air (114 ∷ 97 ∷ [])
+    ∷ changes (ascii "Probe3 Air r") (ascii "Probe3 Air wa w") (ascii "Probe3") (ascii "Air") (ascii "ra")
     -- P12, `Vault7 9 1 63`
-    ∷ maps (86 ∷ 97 ∷ 117 ∷ 108 ∷ 116 ∷ 55 ∷ 32 ∷ 57 ∷ 32 ∷ 49 ∷ 32 ∷ 54 ∷ 51 ∷ []) Vault7 9 (1 ∷ 63 ∷ []) 2
+    ∷ maps (ascii "Vault7 9 1 63") (ascii "Vault7") 9 (1 ∷ 63 ∷ []) 2
     ∷ []

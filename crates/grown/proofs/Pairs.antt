@@ -8,7 +8,8 @@ use native.Mathlib.Omega.{arith}
 use lib.Dec.{eqb, ltb, leb}
 use borrow.Author.Tests.{eqb-true, eq-eqb, lt-ltb, le-ltb, ltb-true, ltb-false, le-leb, lt-leb, leb-true, leb-false}
 use lib.ListN.{length, getD}
-use Rattle.search.specs.Search.{first, put, placeOf, countOf}
+use Rattle.search.specs.Within.{countAfter}
+use Rattle.search.specs.Search.{first, put, placeOf}
 use Rattle.search.specs.Bytes.{sameBytes}
 use Rattle.search.specs.declared.Found.{Found}
 use Rattle.search.specs.declared.Found.the-variants.{At, Nothing}
@@ -190,7 +191,7 @@ pair-read t s o sound = by-case (labelIn t s) (labelIn t o)
   where
     by-case :
         (f g : Found) →
-        modesFound (t .rules) (pairIn t (placeOf f (length (t .labels))) (placeOf g (countOf f (length (t .labels))))) ≡ modesFound (t .rules) (ruleBetween t f g)
+        modesFound (t .rules) (pairIn t (placeOf f (length (t .labels))) (placeOf g (countAfter f (length (t .labels))))) ≡ modesFound (t .rules) (ruleBetween t f g)
     by-case (At i) (At j) = refl
     by-case (At i) Nothing = ap (modesFound (t .rules)) (not-object t (length (t .labels)) sound i)
     by-case Nothing (At j) = ap (modesFound (t .rules)) (not-subject t (length (t .labels)) sound j)
@@ -210,7 +211,7 @@ not-leb a b = by-test (leb a b) refl
     by-test true e = sym (le-ltb _ _ (leb-true a b e))
     by-test false e = sym (lt-ltb _ _ (leb-false a b e))
 
-pub labels-counted : (f g : Found) (n : ℕ) → countOf g (countOf f n) ≡ n + (newLabels f + newLabels g)
+pub labels-counted : (f g : Found) (n : ℕ) → countAfter g (countAfter f n) ≡ n + (newLabels f + newLabels g)
 labels-counted (At i) (At j) n = omega arith
 labels-counted (At i) Nothing n = omega arith
 labels-counted Nothing (At j) n = omega arith

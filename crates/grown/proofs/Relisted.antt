@@ -27,6 +27,7 @@ use Rattle.store.specs.Judged.{is-accepted, tableAfter}
 use Rattle.store.specs.Pairs.{ruleBetween, no-rule, modesFound, modesBetween}
 use Rattle.access.specs.Access.{isFound}
 use Rattle.lists.specs.Reader.{Reader, Totals, endLine, takeByte, takePiece, finish, limited, limitedTotals, done, report}
+use Rattle.lists.proofs.Lines.{line-ends}
 use Rattle.rule_text.specs.RuleText.{lineOf, textOf}
 use Rattle.rule_text.proofs.Laws.{noNewline, text-plain, text-says}
 use Rattle.listing.specs.Listing.{ruleText, textsOf, listing}
@@ -38,28 +39,13 @@ use Rattle.grown.proofs.Pairs.{pair-read, rule-accepted, accepted-as, l
 
 -- ---- the plain reader and one line
 
-abbrev keeping : Reader → List ℕ → Reader
-keeping p l = record { table = p .table; kept = p .kept ++ l; totals = p .totals }
-
--- bytes that are no newlines join the kept line
-keeps : (p : Reader) (l : List ℕ) → all noNewline l ≡ true → takePiece p l ≡ keeping p l
-unfolding takeByte all
-keeps p [] e = ap (λ (k : List ℕ). record { table = p .table; kept = k; totals = p .totals }) (sym (append-nil (p .kept)))
-keeps p (b ∷ bs) e =
-    let h = and-both (noNewline b) (all noNewline bs) e in
-    let z : isNewline b ≡ false = not-true (isNewline b) (h .0) in
-    rw z (keeps (keeping p (b ∷ [])) bs (h .1) ∙ ap (λ (k : List ℕ). record { table = p .table; kept = k; totals = p .totals }) (append-assoc (p .kept) (b ∷ []) bs))
-
 -- the reader between lines, once n have been accepted and no other has come
 abbrev between : Table → ℕ → Reader
 between u n = record { table = u; kept = []; totals = allAccepted n }
 
 accepts : (u u′ : Table) (line : List ℕ) (n : ℕ) → all noNewline line ≡ true → judged u (ruleOf line) ≡ is-accepted u′ → takePiece (between u n) (line ++ (newline ∷ [])) ≡ between u′ (n + 1)
-unfolding takeByte endLine
-accepts u u′ line n plain e =
-    foldl-append takeByte (between u n) line (newline ∷ [])
-    ∙ ap (λ (p : Reader). takePiece p (newline ∷ [])) (keeps (between u n) line plain)
-    ∙ rw e
+unfolding endLine
+accepts u u′ line n plain e = line-ends (between u n) line plain ∙ rw e
 
 -- ---- one rule more
 

@@ -6,7 +6,8 @@ use Rattle.load.specs.declared.Fed.{Fed}
 use Rattle.load.specs.declared.Fed.the-variants as fed
 use Rattle.load.specs.declared.Ended.{Ended}
 use Rattle.load.specs.declared.Ended.the-variants as ended
-use Rattle.load.specs.Loader.{Load, load, fedLoader, endedLoader}
+use Rattle.load.specs.Loader.{Load, load}
+use Rattle.load.specs.Within.{fedLoader, endedLoader}
 use Rattle.store.specs.Layout.{Store}
 use Rattle.store.specs.Layout.{labelAt}
 use mathlib.Core.List.{List, [], _∷_}

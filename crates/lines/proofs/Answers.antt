@@ -8,8 +8,8 @@ use lib.ListN.{length}
 use borrow.Author.Tests.{lt-ltb, le-ltb}
 use Rattle.search.specs.Bytes.{sameBytes}
 use Rattle.search.specs.declared.Found.the-variants.{At, Nothing}
-use Rattle.alphabet.specs.Alphabet.{wellFormed, faultOf, lineLimit}
-use Rattle.alphabet.specs.Within.{fieldAt, part}
+use Rattle.alphabet.specs.Alphabet.{wellFormed, lineLimit}
+use Rattle.alphabet.specs.Within.{fieldAt, part, faultOf}
 use Rattle.alphabet.specs.declared.Field.the-variants.{Part, End}
 use Rattle.alphabet.proofs.Laws.{field-some, fault-formed, fault-unformed}
 use Rattle.modes.specs.Modes.{readModes, ruleLetters, changeLetters}

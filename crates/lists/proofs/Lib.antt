@@ -1,3 +1,4 @@
+pub mod Lines
 pub mod Follows
 pub mod Tables
 pub mod Steps

@@ -18,7 +18,9 @@ use Rattle.writes.specs.declared.Outcome.the-variants as v
 use Rattle.writes.proofs.Laws.{line-undamaged}
 use Rattle.reports.specs.declared.Loader.{Loader}
 use Rattle.reports.specs.Report.{count, withKept}
-use Rattle.load.specs.Loader.{Load, load, ready, endKept, keepByte, stepByte, stepPiece, beforeNewline}
+use Rattle.text_lines.specs.Within.{beforeNewline, NoNewline}
+use Rattle.text_lines.proofs.Laws.{run-first, run-rest, run-take, run-drop, line-left}
+use Rattle.load.specs.Loader.{Load, load, ready, endKept, keepByte, stepByte, stepPiece}
 
 -- ---- a state that is ready
 
@@ -95,79 +97,6 @@ ready-piece s (b ∷ bs) r = ready-piece (stepByte s b) bs (ready-step s b r)
 
 pub same-load : {st st′ : Store} {line line′ : List ℕ} {l l′ : Loader} → st ≡ st′ → line ≡ line′ → l ≡ l′ → load st line l ≡ load st′ line′ l′
 same-load p q r = rw (p, q, r)
-
--- ---- bytes with no newline
-
-newline-here : (b : ℕ) (bs : List ℕ) → b ≡ 10 → beforeNewline (b ∷ bs) ≡ 0
-unfolding beforeNewline
-newline-here b bs e = rw (eq-eqb b 10 e)
-
-newline-later : (b : ℕ) (bs : List ℕ) → (b ≡ 10 → ⊥) → beforeNewline (b ∷ bs) ≡ suc (beforeNewline bs)
-unfolding beforeNewline
-newline-later b bs e = rw (ne-eqb b 10 e)
-
--- a byte is a newline or it is not
-newline-or : {P : Type 0} (b : ℕ) → (b ≡ 10 → P) → ((b ≡ 10 → ⊥) → P) → P
-newline-or {P} b is is-not = by-test (eqb b 10) refl
-  where
-    by-test : (t : Bool) → eqb b 10 ≡ t → P
-    by-test true e = is (eqb-true b 10 e)
-    by-test false e = is-not (eqb-false b 10 e)
-
-pub newline-within : (text : List ℕ) → beforeNewline text ≤ length text
-unfolding beforeNewline
-newline-within [] = omega arith
-newline-within (b ∷ bs) =
-    let ih = newline-within bs in
-    newline-or b (λ e. omega (arith, newline-here b bs e)) (λ e. omega (arith, newline-later b bs e, ih))
-
--- at an index of a text: a newline is there, or the first one is that of the bytes behind
-pub newline-at : (text : List ℕ) (i : ℕ) → i < length text → getD text i 0 ≡ 10 → beforeNewline (drop i text) ≡ 0
-newline-at text i h e = ap beforeNewline (drop-cons text i 0 h) ∙ newline-here (getD text i 0) (drop (suc i) text) e
-
-pub newline-behind : (text : List ℕ) (i : ℕ) → i < length text → (getD text i 0 ≡ 10 → ⊥) → beforeNewline (drop i text) ≡ suc (beforeNewline (drop (i + 1) text))
-newline-behind text i h e =
-    ap beforeNewline (drop-cons text i 0 h)
-    ∙ newline-later (getD text i 0) (drop (suc i) text) e
-    ∙ ap (λ (k : ℕ). suc (beforeNewline (drop k text))) (sym (add-one i))
-
-pub newline-none : (text : List ℕ) (i : ℕ) → length text ≤ i → beforeNewline (drop i text) ≡ 0
-unfolding beforeNewline
-newline-none text i h = ap beforeNewline (drop-of-length-le text {i = i} h)
-
--- a list of bytes that are all before its first newline has none
-abbrev pub NoNewline : List ℕ → Type 0
-NoNewline run = beforeNewline run ≡ length run
-
-pub run-first : (b : ℕ) (bs : List ℕ) → NoNewline (b ∷ bs) → b ≡ 10 → ⊥
-run-first b bs e q = omega (arith, newline-here b bs q)
-
-pub run-rest : (b : ℕ) (bs : List ℕ) → NoNewline (b ∷ bs) → NoNewline bs
-run-rest b bs e = omega (arith, newline-later b bs (run-first b bs e))
-
-pub run-take : (n : ℕ) (run : List ℕ) → NoNewline run → NoNewline (take n run)
-unfolding beforeNewline
-run-take zero run e = refl
-run-take (suc n) [] e = refl
-run-take (suc n) (b ∷ bs) e = newline-later b (take n bs) (run-first b bs e) ∙ ap suc (run-take n bs (run-rest b bs e))
-
-pub run-drop : (n : ℕ) (run : List ℕ) → NoNewline run → NoNewline (drop n run)
-run-drop zero run e = e
-run-drop (suc n) [] e = e
-run-drop (suc n) (b ∷ bs) e = run-drop n bs (run-rest b bs e)
-
-pub run-before : (text : List ℕ) → NoNewline (take (beforeNewline text) text)
-unfolding beforeNewline
-run-before [] = refl
-run-before (b ∷ bs) =
-    let ih = run-before bs in
-    newline-or b (λ e. ap (λ (n : ℕ). beforeNewline (take n (b ∷ bs))) (newline-here b bs e) ∙ sym (ap (λ (n : ℕ). length (take n (b ∷ bs))) (newline-here b bs e)))
-    (λ e.
-    let z = newline-later b bs e in
-    ap (λ (n : ℕ). beforeNewline (take n (b ∷ bs))) z
-    ∙ newline-later b (take (beforeNewline bs) bs) e
-    ∙ ap suc ih
-    ∙ sym (ap (λ (n : ℕ). length (take n (b ∷ bs))) z))
 
 -- ---- a run of bytes with no newline joins the kept line
 
@@ -265,16 +194,6 @@ newline-ends : (s : Load) (b : ℕ) → b ≡ 10 → stepByte s b ≡ endKept s
 unfolding stepByte
 newline-ends s b e = rw (eq-eqb b 10 e)
 
--- what stands behind the bytes before the first newline is that newline
-newline-next : (text : List ℕ) → beforeNewline text < length text → take (suc (beforeNewline text)) text ≡ take (beforeNewline text) text ++ (10 ∷ [])
-newline-next [] h = absurd (omega (arith, h))
-newline-next (b ∷ bs) h =
-    newline-or b (λ e. subst Next (sym (newline-here b bs e)) (ap (λ (x : ℕ). x ∷ []) e))
-    (λ e. subst Next (sym (newline-later b bs e)) (ap (λ (t : List ℕ). b ∷ t) (newline-next bs (omega (arith, h, newline-later b bs e)))))
-  where
-    Next : ℕ → Type 0
-    Next n = take (suc n) (b ∷ bs) ≡ take n (b ∷ bs) ++ (10 ∷ [])
-
 -- a newline alone leaves an empty line
 pub byte-empties : (s : Load) (b : ℕ) → eqb (stepByte s b .loader .kept) 0 ≡ eqb b 10
 unfolding stepByte
@@ -292,48 +211,10 @@ byte-empties s b = by-test (eqb b 10)
     by-test true = ends (ltb 600 (s .loader .kept))
     by-test false = joins (ltb (s .loader .kept) 600)
 
--- the run from an index of the text to its line's end
-module _ (text : List ℕ) (i end : ℕ) (h : i ≤ length text) (e : end ≡ i + beforeNewline (drop i text)) where
-  pub end-behind : i ≤ end
-  end-behind = omega (arith, e)
-
-  pub end-within : end ≤ length text
-  end-within = omega (arith, e, newline-within (drop i text), length-drop i text)
-
-  run-is : take (end - i) (drop i text) ≡ take (beforeNewline (drop i text)) (drop i text)
-  run-is =
-      let z : end - i ≡ beforeNewline (drop i text) = omega (arith, e) in
-      ap (λ (n : ℕ). take n (drop i text)) z
-
-  pub run-between : NoNewline (take (end - i) (drop i text))
-  run-between = subst NoNewline (sym run-is) (run-before (drop i text))
-
-  -- the last run is all that is left of the text
-  pub run-last : end ≡ length text → take (end - i) (drop i text) ≡ drop i text
-  run-last q = take-all (end - i) (drop i text) (omega (arith, q, length-drop i text))
-
-  -- what stands behind another run is its newline
-  run-newline : end < length text → take (suc (beforeNewline (drop i text))) (drop i text) ≡ take (end - i) (drop i text) ++ (10 ∷ [])
-  run-newline q = newline-next (drop i text) (omega (arith, e, q, length-drop i text)) ∙ ap (λ (t : List ℕ). t ++ (10 ∷ [])) (sym run-is)
-
-  past : i + suc (beforeNewline (drop i text)) ≡ end + 1
-  past = omega (arith, e)
-
-  pub line-taken : end < length text → take (end + 1) text ≡ take i text ++ (take (end - i) (drop i text) ++ (10 ∷ []))
-  line-taken q =
-      ap (λ (n : ℕ). take n text) (sym past)
-      ∙ take-add i (suc (beforeNewline (drop i text))) text
-      ∙ ap (λ (t : List ℕ). take i text ++ t) (run-newline q)
-
-  line-left : end < length text → drop i text ≡ (take (end - i) (drop i text) ++ (10 ∷ [])) ++ drop (end + 1) text
-  line-left q =
-      sym (take-append-drop (suc (beforeNewline (drop i text))) (drop i text))
-      ∙ ap (λ (t : List ℕ). t ++ drop (suc (beforeNewline (drop i text))) (drop i text)) (run-newline q)
-      ∙ ap (λ (t : List ℕ). (take (end - i) (drop i text) ++ (10 ∷ [])) ++ t) (drop-drop (suc (beforeNewline (drop i text))) i text ∙ ap (λ (n : ℕ). drop n text) past)
-
-  -- the run joins the kept line, its newline ends it, and the bytes behind are left
-  pub piece-line : (s : Load) → end < length text → stepPiece s (drop i text) ≡ stepPiece (endKept (stepPiece s (take (end - i) (drop i text)))) (drop (end + 1) text)
-  piece-line s q =
-      ap (λ (t : List ℕ). stepPiece s t) (line-left q)
-      ∙ foldl-append stepByte s (take (end - i) (drop i text) ++ (10 ∷ [])) (drop (end + 1) text)
-      ∙ ap (λ (x : Load). stepPiece x (drop (end + 1) text)) (foldl-append stepByte s (take (end - i) (drop i text)) (10 ∷ []) ∙ newline-ends (stepPiece s (take (end - i) (drop i text))) 10 refl)
+-- the run from an index of the text to its line's end joins the kept line, its newline ends it, and the bytes behind are left
+pub piece-line : (text : List ℕ) (i end : ℕ) → i ≤ length text → end ≡ i + beforeNewline (drop i text) → (s : Load) → end < length text →
+    stepPiece s (drop i text) ≡ stepPiece (endKept (stepPiece s (take (end - i) (drop i text)))) (drop (end + 1) text)
+piece-line text i end h e s q =
+    ap (λ (t : List ℕ). stepPiece s t) (line-left text i end h e q)
+    ∙ foldl-append stepByte s (take (end - i) (drop i text) ++ (10 ∷ [])) (drop (end + 1) text)
+    ∙ ap (λ (x : Load). stepPiece x (drop (end + 1) text)) (foldl-append stepByte s (take (end - i) (drop i text)) (10 ∷ []) ∙ newline-ends (stepPiece s (take (end - i) (drop i text))) 10 refl)

@@ -1,1 +1,2 @@
 pub mod Loader
+pub mod Within

@@ -1,8 +1,8 @@
 -- The loader in lent memory: its exact step, byte by byte, and when it is damaged. A line of over 600 bytes is kept as its first 600 and the
 -- length 601; a count stops at its limit. Assumes nothing.
-use Prim.Native.Nat.{ℕ, suc, _+_}
+use Prim.Native.Nat.{ℕ, _+_}
 use mathlib.Core.Bool.{Bool, cond, _&&_}
-use mathlib.Core.List.{List, [], _∷_, foldl}
+use mathlib.Core.List.{List, foldl}
 use lib.ListN.{length, take, set}
 use lib.Dec.{ltb, leb, eqb}
 use Rattle.refusals.specs.Refusals.{damaged, tooLong}
@@ -47,23 +47,9 @@ keepByte s b =
 unfoldable pub stepByte : Load → ℕ → Load
 stepByte s b = cond (isNewline b) (endKept s) (keepByte s b)
 
--- how many bytes stand before the first newline: all of them where there is none
-unfoldable pub beforeNewline : List ℕ → ℕ
-beforeNewline [] = 0
-beforeNewline (b ∷ bs) = cond (isNewline b) 0 (suc (beforeNewline bs))
-
 -- whether the lent state is undamaged, loader and all: refusal 0 otherwise
 unfoldable pub ready : Load → Bool
 ready s = undamagedOf (s .store) && (eqb (length (s .line)) lineLimit && leb (s .loader .kept) overlong)
-
--- the loader that the caller goes on with: on a refusal the one that it had
-abbrev pub fedLoader : Loader → Fed → Loader
-fedLoader old (f.Done l) = l
-fedLoader old (f.Refused n) = old
-
-abbrev pub endedLoader : Loader → Ended → Loader
-endedLoader old (e.Report r l) = l
-endedLoader old (e.Refused n) = old
 
 -- a kept line that has a byte ends
 unfoldable pub stepEnd : Load → Load

@@ -5,11 +5,12 @@ use reports::Report;
 use writes::Outcome;
 ghost use mathlib.Core.Path.{_≡_};
 ghost use mathlib.Core.Bool.{true};
-ghost use Prim.Native.Nat.{_+_};
-ghost use lib.ListN.{length, drop};
+ghost use lib.ListN.{length};
 ghost use Rattle.alphabet.specs.Alphabet.{lineLimit};
 ghost use Rattle.store.specs.Layout.{Store, store, lent, left};
-ghost use Rattle.load.specs.Loader.{endKept, beforeNewline, stepPiece, ready, load, fedLoader, pieceAfter, pieceAnswer, endedLoader, endAfter, endAnswer};
+ghost use Rattle.text_lines.specs.Within.{NoNewline};
+ghost use Rattle.load.specs.Loader.{endKept, stepPiece, ready, load, pieceAfter, pieceAnswer, endAfter, endAnswer};
+ghost use Rattle.load.specs.Within.{fedLoader, endedLoader};
 
 // The kept length that marks a line of more bytes than a line may have.
 const OVER_LONG: usize = alphabet::LINE_LIMIT + 1;
@@ -45,24 +46,10 @@ fn end_line(
     reports::count_line(l, outcome)
 }
 
-// The index of the first newline from `from` on; where there is none, the text's length, or `from` where that is past it.
-pub fn line_end(text: &[u8], from: usize) -> usize
-    ensures { λ r. ⌜ r ≡ from + beforeNewline (drop from (now (text .entry))) ⌝ }
-{
-    let mut i = from;
-    while i < text.len() {
-        if text[i] == alphabet::NEWLINE {
-            return i;
-        }
-        i += 1;
-    }
-    i
-}
-
 // Takes bytes of one line, none of them its newline. They join the kept line in one go, as many as there is room for. Who calls it has tested the
 // line's size: `piece` here, and `program::feed` for a question line, which is kept as a line of rule text is.
 pub fn take_run(line: &mut [u8], l: Loader, run: &[u8]) -> Loader
-    requires { ⌜ (length (now line) ≡ lineLimit) × (beforeNewline (now run) ≡ length (now run)) ⌝ }
+    requires { ⌜ (length (now line) ≡ lineLimit) × NoNewline (now run) ⌝ }
     ensures { λ r. ⌜ ((st : Store) → load st (now (line .exit)) r ≡ stepPiece (load st (now (line .entry)) l) (now (run .entry))) ⌝ }
 {
     let kept = l.kept;
@@ -114,7 +101,7 @@ pub fn piece(
     let mut next = l;
     let mut i = 0;
     loop {
-        let end = line_end(text, i);
+        let end = text_lines::line_end(text, i);
         next = take_run(line, next, &text[i..end]);
         if end == text.len() {
             return Fed::Done(next);

@@ -12,7 +12,7 @@ use Rattle.search.specs.Bytes.{sameBytes}
 use Rattle.search.specs.declared.Found.{Found}
 use Rattle.search.specs.declared.Found.the-variants.{At, Nothing}
 use Rattle.search.proofs.Laws.{and-both, all-at, first-is, entries-length, entries-at, found-at, found-none}
-use Rattle.alphabet.specs.Alphabet.{faultOf}
+use Rattle.alphabet.specs.Within.{faultOf}
 use Rattle.alphabet.proofs.Laws.{fault-formed, fault-unformed}
 use Rattle.numbers.specs.Categories.{categories}
 use Rattle.store.specs.declared.Mapping.{Mapping}

@@ -7,6 +7,7 @@ use mathlib.Core.List.{List, [], _∷_, foldl}
 use mathlib.Core.Logic.{_↔_, _⊎_}
 use lib.Dec.{eqb}
 use lib.Bits.{bitAnd, bitOr}
+use Rattle.search.specs.Bytes.{ascii}
 use Rattle.search.specs.Search.{all}
 use Rattle.alphabet.specs.Alphabet.{dash}
 use Rattle.modes.specs.declared.Letter.{Letter}
@@ -88,7 +89,7 @@ pub record LetterBit (b bit : ℕ) : Type 0 where
 -- not in a request
 pub record SixLetters : Type 0 where
   pub bits : (b : ℕ) → b < 256 → LetterBit b (bitOf b)
-  pub in-a-rule : modesText ruleLetters ≡ 114 ∷ 119 ∷ 120 ∷ 97 ∷ 116 ∷ 98 ∷ []
-  pub in-a-change : modesText changeLetters ≡ 114 ∷ 119 ∷ 120 ∷ 97 ∷ 116 ∷ []
-  pub in-a-request : modesText requestLetters ≡ 114 ∷ 119 ∷ 120 ∷ 97 ∷ []
+  pub in-a-rule : modesText ruleLetters ≡ ascii "rwxatb"
+  pub in-a-change : modesText changeLetters ≡ ascii "rwxat"
+  pub in-a-request : modesText requestLetters ≡ ascii "rwxa"
   pub dashes : (allowedByte ruleLetters true 45 ≡ true) × (allowedByte changeLetters true 45 ≡ true) × (allowedByte requestLetters false 45 ≡ false)

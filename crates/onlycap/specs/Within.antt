@@ -4,7 +4,8 @@ use mathlib.Core.Bool.{Bool, true, false, cond, _||_}
 use mathlib.Core.Path.{_≡_}
 use mathlib.Core.List.{List, [], _∷_}
 use lib.ListN.{length, getD, set, take}
-use Rattle.search.specs.Search.{first, all, placeOf, countOf, entries}
+use Rattle.search.specs.Within.{countAfter}
+use Rattle.search.specs.Search.{first, all, placeOf, entries}
 use Rattle.search.specs.Bytes.{sameBytes}
 use Rattle.search.specs.declared.Found.{Found}
 use Rattle.alphabet.specs.Alphabet.{wellFormed, lineLimit, fields}
@@ -44,7 +45,7 @@ takeLabel p seen l f =
     record {
       labels = entered f (p .labels) (p .stored) l;
       entries = cond seen (p .entries) (set (p .entries) (onlycapFrom + p .listed) (placeOf f (p .stored)));
-      stored = countOf f (p .stored);
+      stored = countAfter f (p .stored);
       listed = cond seen (p .listed) (p .listed + 1);
     }
 
@@ -69,7 +70,7 @@ listSet st fs = storeTaken (st .words) (takenUpTo (begun st) fs (length fs))
 
 abbrev pub countWith : Counted → Bool → Found → Counted
 countWith c true f = c
-countWith c false f = record { different = c .different + 1; labels = countOf f (c .labels) }
+countWith c false f = record { different = c .different + 1; labels = countAfter f (c .labels) }
 
 -- what is known of a write that is taken
 pub record Fits (st : Store) (text : List ℕ) : Type 0 where

@@ -6,7 +6,8 @@ ghost use mathlib.Core.Path.{_≡_};
 ghost use mathlib.Core.List.{[]};
 ghost use Prim.Native.Nat.{_<_, _≤_};
 ghost use lib.ListN.{length, take};
-ghost use Rattle.search.specs.Search.{first, all, placeOf, countOf, entries};
+ghost use Rattle.search.specs.Within.{countAfter};
+ghost use Rattle.search.specs.Search.{first, all, placeOf, entries};
 ghost use Rattle.search.specs.Bytes.{sameBytes};
 ghost use Rattle.alphabet.specs.Alphabet.{wellFormed, fields, lineLimit};
 ghost use Rattle.store.specs.Table.{labelLimit};
@@ -130,7 +131,7 @@ fn enter(labels: &mut [u8], stored: usize, label: &[u8]) -> Numbered
     ensures { λ r. ⌜ r ≡ record {
       number = placeOf
           (first (sameBytes (now (label .entry))) (entries (labelAt (now (labels .entry))) stored)) stored;
-      stored = countOf
+      stored = countAfter
           (first (sameBytes (now (label .entry))) (entries (labelAt (now (labels .entry))) stored)) stored;
     } ⌝ }
     ensures { λ _. ⌜ now (labels .exit) ≡ entered (first (sameBytes (now (label .entry))) (entries (labelAt (now (labels .entry))) stored))

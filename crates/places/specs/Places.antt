@@ -4,10 +4,11 @@ use Prim.Native.Nat.{ℕ, _+_, _*_}
 use mathlib.Core.Path.{_≡_}
 use mathlib.Core.List.{List}
 use denote.Ref.{RefT}
+use Rattle.store.specs.Layout.{placeSize}
 
 -- where the bytes of label k begin in the label store: behind the byte that is its length
 abbrev pub labelStart : ℕ → ℕ
-labelStart k = k * 256 + 1
+labelStart k = k * placeSize + 1
 
 -- a slice of bytes is the part of another that begins at an index: it points to that byte of the other. (How long it is, its contents say)
 abbrev pub PartFrom : RefT (List ℕ) → RefT (List ℕ) → ℕ → Type 0

@@ -7,11 +7,11 @@ use mathlib.Core.Path.{_≡_}
 use mathlib.Core.List.{List}
 use Rattle.search.specs.Bytes.{sameBytes}
 use Rattle.store.specs.Table.{isPair, labelLimit}
-use Rattle.store.specs.Layout.{labelAt, ruleAt}
+use Rattle.store.specs.Layout.{placeSize, labelAt, ruleAt}
 
 -- place k differs from labels of length n with that last byte in one of the two
 abbrev pub Unlike : List ℕ → ℕ → ℕ → ℕ → Type 0
-Unlike labels k n last = (eqb (getD labels (k * 256 + n) 0) last && eqb (getD labels (k * 256) 0) n) ≡ false
+Unlike labels k n last = (eqb (getD labels (k * placeSize + n) 0) last && eqb (getD labels (k * placeSize) 0) n) ≡ false
 
 -- four bytes from an index on as one number, the lowest first
 unfoldable pub wordAt : List ℕ → ℕ → ℕ
@@ -19,7 +19,7 @@ wordAt b i = getD b i 0 + getD b (i + 1) 0 * 256 + getD b (i + 2) 0 * 65536 + ge
 
 -- no place from an index on, before another, has that word at that offset
 abbrev pub NoWord : List ℕ → ℕ → ℕ → ℕ → ℕ → Type 0
-NoWord labels offset word from to = (k : ℕ) → from ≤ k → k < to → eqb (wordAt labels (k * 256 + offset)) word ≡ false
+NoWord labels offset word from to = (k : ℕ) → from ≤ k → k < to → eqb (wordAt labels (k * placeSize + offset)) word ≡ false
 
 -- no place from an index on, before another, holds the label
 abbrev pub NotHeld : List ℕ → List ℕ → ℕ → ℕ → Type 0

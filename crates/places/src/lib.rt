@@ -6,7 +6,8 @@ ghost use mathlib.Core.Bool.{false};
 ghost use mathlib.Core.List.{List, _∷_};
 ghost use Prim.Native.Nat.{ℕ, _+_, _<_, _≤_};
 ghost use lib.ListN.{length, getD};
-ghost use Rattle.search.specs.Search.{first, placeOf, countOf, entries as listed};
+ghost use Rattle.search.specs.Within.{countAfter};
+ghost use Rattle.search.specs.Search.{first, placeOf, entries as listed};
 ghost use Rattle.search.specs.Bytes.{sameBytes};
 ghost use Rattle.store.specs.Table.{isPair, names, noPlace, labelLimit, ruleLimit, mappingLimit};
 ghost use Rattle.store.specs.Layout.{labelsSize, modesFrom, mappedFrom, labelAt, ruleAt, mappingAt};
@@ -201,7 +202,7 @@ pub struct Numbered {
 // more; 300 leaves room for that.
 pub fn number_for(found: Found, count: usize) -> Numbered
     requires { ⌜ count ≤ 300 ⌝ }
-    ensures { λ r. ⌜ r ≡ record { number = placeOf found count; count = countOf found count } ⌝ }
+    ensures { λ r. ⌜ r ≡ record { number = placeOf found count; count = countAfter found count } ⌝ }
 {
     match found {
         Found::At(i) => Numbered { number: i, count },

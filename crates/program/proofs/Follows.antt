@@ -34,7 +34,8 @@ use Rattle.program.specs.declared.Turn.{Turn}
 use Rattle.program.specs.Turns.{wentCount}
 use Rattle.program.specs.Steps.{State, state, freshSession, asking, reading, atMark, emptied, unmarked, withoutMark, answerOf, answerText, endedText, textAfter, textSays, byteBy, sayBy, takeByte, sayByte, takeInput, sayInput, sayLastBy, takeLast, sayLast, Turns}
 use Rattle.program.proofs.Laws.{unmarked-yes, unmarked-no}
-use Rattle.program.proofs.Plain.{Phase, loads, asks, keeping, plainUnmarked, phaseTo, reports, answers, phaseSays, phaseLast, phaseOn, saidOn}
+use Rattle.lists.proofs.Lines.{keeping}
+use Rattle.program.proofs.Plain.{Phase, loads, asks, plainUnmarked, phaseTo, reports, answers, phaseSays, phaseLast, phaseOn, saidOn}
 
 -- ---- the line under way
 

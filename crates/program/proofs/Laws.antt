@@ -22,8 +22,11 @@ use Rattle.load.specs.declared.Fed.{Fed}
 use Rattle.load.specs.declared.Fed.the-variants as f
 use Rattle.load.specs.declared.Ended.{Ended}
 use Rattle.load.specs.declared.Ended.the-variants as e
-use Rattle.load.specs.Loader.{Load, load, ready, stepByte, stepPiece, beforeNewline, fedLoader, pieceAnswer, pieceAfter, stepEnd, endedLoader, endAnswer, endAfter}
-use Rattle.load.proofs.Laws.{Ready, ready-is, is-ready, ready-step, ready-piece, run-last, end-within, joins, too-long, byte-empties}
+use Rattle.text_lines.specs.Within.{beforeNewline}
+use Rattle.text_lines.proofs.Laws.{run-last, end-within}
+use Rattle.load.specs.Loader.{Load, load, ready, stepByte, stepPiece, pieceAnswer, pieceAfter, stepEnd, endAnswer, endAfter}
+use Rattle.load.specs.Within.{fedLoader, endedLoader}
+use Rattle.load.proofs.Laws.{Ready, ready-is, is-ready, ready-step, ready-piece, joins, too-long, byte-empties}
 use Rattle.replies.specs.Replies.{reportText}
 use Rattle.replies.specs.Within.{Put}
 use Rattle.replies.proofs.Laws.{written-none, put-length, put-said, put-none, put-next}

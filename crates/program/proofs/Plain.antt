@@ -15,7 +15,9 @@ use Rattle.access.specs.Access.{answer}
 use Rattle.lists.specs.Reader.{Reader, startOn, endLine, takeByte, takePiece, finish, limitedTotals}
 use Rattle.alphabet.specs.Alphabet.{newline}
 use Rattle.replies.specs.Replies.{answerLine}
-use Rattle.program.specs.Program.{linesFrom, isMark, ruleLines, questionLines, asText, answerTo, reportLine, answerLines, output}
+use Rattle.text_lines.specs.TextLines.{linesFrom, asText}
+use Rattle.lists.proofs.Lines.{keeping, joins, ends, Plain, line-ends}
+use Rattle.program.specs.Program.{isMark, ruleLines, questionLines, answerTo, reportLine, answerLines, output}
 use Rattle.program.specs.Steps.{saying}
 
 -- ---- rule text is still read, or questions are
@@ -23,9 +25,6 @@ use Rattle.program.specs.Steps.{saying}
 pub data Phase : Type 0 where
   loads : Reader → Phase
   asks : Reader → Phase
-
-abbrev pub keeping : Reader → List ℕ → Reader
-keeping p line = record { table = p .table; kept = line; totals = p .totals }
 
 -- the kept line is forgotten, and where it is exactly `?` alone
 abbrev pub plainUnmarked : Reader → Reader
@@ -71,16 +70,6 @@ said-append q a b =
     ∙ append-assoc (saidOn q a) (saidOn (phaseOn q a) b) (phaseLast (phaseOn q (a ++ b)))
     ∙ ap (λ (r : Phase). saidOn q a ++ (saidOn (phaseOn q a) b ++ phaseLast r)) (foldl-append phaseTo q a b)
 
--- ---- a byte, by whether it is a newline
-
-joins : (p : Reader) (b : ℕ) → eqb b newline ≡ false → takeByte p b ≡ keeping p (p .kept ++ (b ∷ []))
-unfolding takeByte
-joins p b e = rw e
-
-ends : (p : Reader) (b : ℕ) → eqb b newline ≡ true → takeByte p b ≡ endLine p
-unfolding takeByte
-ends p b e = rw e
-
 -- ---- question lines
 
 asks-said : (p : Reader) (input : List ℕ) → saidFrom (asks p) input ≡ answerLines (p .table) (linesFrom (p .kept) input)
@@ -103,23 +92,7 @@ asks-said p (b ∷ bs) = by-test (eqb b newline) refl (asks-said (keeping p []) 
         ∙ ap (λ (l : List ℕ). answers p ++ l) ended
     by-test false e ended going = ap (λ (x : Reader). saidFrom (asks x) bs) (joins p b e) ∙ going
 
--- ---- rule text: a line without a newline in it joins the kept line
-
-Plain : List ℕ → Type 0
-Plain line = all (λ (b : ℕ). not (eqb b newline)) line ≡ true
-
-kept-more : (p : Reader) (line : List ℕ) → Plain line → takePiece p line ≡ keeping p (p .kept ++ line)
-unfolding all Plain
-kept-more p [] h = ap (keeping p) (sym (append-nil (p .kept)))
-kept-more p (b ∷ bs) h =
-    let both = and-both (not (eqb b newline)) (all (λ (x : ℕ). not (eqb x newline)) bs) h in
-    ap (λ (q : Reader). takePiece q bs) (joins p b (not-true (eqb b newline) (both .0)))
-    ∙ kept-more (keeping p (p .kept ++ (b ∷ []))) bs (both .1)
-    ∙ ap (keeping p) (append-assoc (p .kept) (b ∷ []) bs)
-
--- and with its newline it is ended
-line-ends : (p : Reader) (line : List ℕ) → Plain line → takePiece (keeping p []) (line ++ (newline ∷ [])) ≡ endLine (keeping p line)
-line-ends p line h = foldl-append takeByte (keeping p []) line (newline ∷ []) ∙ ap (λ (q : Reader). takeByte q newline) (kept-more (keeping p []) line h) ∙ ends (keeping p line) newline refl
+-- ---- rule text
 
 -- what 01 has written of the lines that are left, by a reader that has no kept line
 outputOf : Reader → List (List ℕ) → List ℕ
@@ -155,11 +128,10 @@ no-bytes [] e = refl
 no-bytes (b ∷ bs) e = absurd (omega (arith, ltb-false 0 (length (b ∷ bs)) e))
 
 none-plain : Plain []
-unfolding Plain all
+unfolding all
 none-plain = refl
 
 one-more : (line : List ℕ) (b : ℕ) → Plain line → eqb b newline ≡ false → Plain (line ++ (b ∷ []))
-unfolding Plain
 one-more line b h e = all-snoc (λ (x : ℕ). not (eqb x newline)) line b ∙ rw (h, e)
 
 none-left : (p : Reader) → outputOf p [] ≡ reports p

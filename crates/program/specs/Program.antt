@@ -3,10 +3,11 @@ use Prim.Native.Nat.{ℕ}
 use mathlib.Core.Bool.{Bool, true, false, cond}
 use mathlib.Core.List.{List, [], _∷_, _++_}
 use lib.ListN.{length}
-use lib.Dec.{ltb, eqb}
-use Rattle.search.specs.Bytes.{sameBytes}
+use lib.Dec.{ltb}
+use Rattle.search.specs.Bytes.{ascii, sameBytes}
 use Rattle.refusals.specs.Refusals.{tooLong, wrongFields}
-use Rattle.alphabet.specs.Alphabet.{newline, lineLimit, fields}
+use Rattle.alphabet.specs.Alphabet.{lineLimit, fields}
+use Rattle.text_lines.specs.TextLines.{lines, asText}
 use Rattle.store.specs.Table.{Table, fresh}
 use Rattle.access.specs.Access.{answer}
 use Rattle.access.specs.declared.Answer.{Answer}
@@ -15,15 +16,6 @@ use Rattle.lists.specs.Reader.{Totals, Reader, startOn, takePiece, finish, limi
 use Rattle.replies.specs.Replies.{numbersLine, answerLine}
 
 -- ---- the lines of the input
-
--- each byte but a newline joins the line under way; a newline ends it, and the next begins empty; bytes after the last newline are one
--- more line
-abbrev pub linesFrom : List ℕ → List ℕ → List (List ℕ)
-linesFrom kept [] = cond (ltb 0 (length kept)) (kept ∷ []) []
-linesFrom kept (b ∷ bs) = cond (eqb b newline) (kept ∷ linesFrom [] bs) (linesFrom (kept ++ (b ∷ [])) bs)
-
-abbrev pub lines : List ℕ → List (List ℕ)
-lines input = linesFrom [] input
 
 -- the line that is exactly `?`
 abbrev pub mark : ℕ
@@ -41,11 +33,6 @@ abbrev pub questionLines : List (List ℕ) → List (List ℕ)
 questionLines [] = []
 questionLines (l ∷ ls) = cond (isMark l) ls (questionLines ls)
 
--- lines as text, each with its newline
-abbrev pub asText : List (List ℕ) → List ℕ
-asText [] = []
-asText (l ∷ ls) = (l ++ (newline ∷ [])) ++ asText ls
-
 -- ---- a question line
 
 -- the question that a line's fields ask: subject, object, request and, where the asker has the capability, a fourth field `o`. Other
@@ -55,7 +42,7 @@ asked ask [] = Refused wrongFields
 asked ask (s ∷ []) = Refused wrongFields
 asked ask (s ∷ o ∷ []) = Refused wrongFields
 asked ask (s ∷ o ∷ r ∷ []) = ask s o r false
-asked ask (s ∷ o ∷ r ∷ c ∷ []) = cond (sameBytes c (111 ∷ [])) (ask s o r true) (Refused wrongFields)
+asked ask (s ∷ o ∷ r ∷ c ∷ []) = cond (sameBytes c (ascii "o")) (ask s o r true) (Refused wrongFields)
 asked ask (s ∷ o ∷ r ∷ c ∷ x ∷ more) = Refused wrongFields
 
 -- a line over 600 bytes is refused with 1, before 2 and the question's own.

@@ -184,7 +184,7 @@ fn answer_lines(
     let mut at = from;
     let mut i = 0;
     loop {
-        let end = load::line_end(input, i);
+        let end = text_lines::line_end(input, i);
         next = load::take_run(line, next, &input[i..end]);
         if end == input.len() {
             return Step { loader: next, at };

@@ -3,6 +3,7 @@ use Prim.Native.Nat.{ℕ, zero, suc, _+_, _/_, _%_}
 use mathlib.Core.Bool.{Bool, true, false, cond}
 use mathlib.Core.List.{List, [], _∷_, _++_}
 use lib.Dec.{ltb}
+use Rattle.search.specs.Bytes.{ascii}
 use Rattle.alphabet.specs.Alphabet.{newline}
 use Rattle.answers.specs.Answers.{shown}
 use Rattle.reports.specs.declared.Report.{Report}
@@ -29,15 +30,15 @@ reportText r = numbersLine (r .lines ∷ r .accepted ∷ r .skipped ∷ r .refus
 
 -- `granted `, `denied `, `override `, `refused `
 abbrev pub wordOf : Answer → List ℕ
-wordOf (Granted n b) = 103 ∷ 114 ∷ 97 ∷ 110 ∷ 116 ∷ 101 ∷ 100 ∷ 32 ∷ []
-wordOf (Denied by) = 100 ∷ 101 ∷ 110 ∷ 105 ∷ 101 ∷ 100 ∷ 32 ∷ []
-wordOf (Override by) = 111 ∷ 118 ∷ 101 ∷ 114 ∷ 114 ∷ 105 ∷ 100 ∷ 101 ∷ 32 ∷ []
-wordOf (Refused n) = 114 ∷ 101 ∷ 102 ∷ 117 ∷ 115 ∷ 101 ∷ 100 ∷ 32 ∷ []
+wordOf (Granted n b) = ascii "granted "
+wordOf (Denied by) = ascii "denied "
+wordOf (Override by) = ascii "override "
+wordOf (Refused n) = ascii "refused "
 
 -- the line's end: ` b` where the rule has b, and a newline
 abbrev pub endingOf : Bool → List ℕ
-endingOf true = 32 ∷ 98 ∷ newline ∷ []
-endingOf false = newline ∷ []
+endingOf true = ascii " b\n"
+endingOf false = ascii "\n"
 
 -- `granted 6`, `granted 6 b`, `denied 7`, `override 7` or `refused 3`, with the number that applies
 unfoldable pub answerLine : Answer → List ℕ

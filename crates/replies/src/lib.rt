@@ -51,23 +51,19 @@ fn write_word(out: &mut [u8], at: usize, answer: Answer) -> usize
 {
     match answer {
         Answer::Granted(_, _) => {
-            let word = [103u8, 114, 97, 110, 116, 101, 100, 32];
-            search::copy_at(out, at, &word);
+            search::copy_at(out, at, b"granted ");
             at + 8
         }
         Answer::Denied(_) => {
-            let word = [100u8, 101, 110, 105, 101, 100, 32];
-            search::copy_at(out, at, &word);
+            search::copy_at(out, at, b"denied ");
             at + 7
         }
         Answer::Override(_) => {
-            let word = [111u8, 118, 101, 114, 114, 105, 100, 101, 32];
-            search::copy_at(out, at, &word);
+            search::copy_at(out, at, b"override ");
             at + 9
         }
         Answer::Refused(_) => {
-            let word = [114u8, 101, 102, 117, 115, 101, 100, 32];
-            search::copy_at(out, at, &word);
+            search::copy_at(out, at, b"refused ");
             at + 8
         }
     }
@@ -82,8 +78,7 @@ pub fn write_answer(out: &mut [u8], at: usize, answer: Answer) -> usize
     let word = write_word(out, at, answer);
     let end = write_number(out, word, shown.number as u32);
     if shown.bringup {
-        let ending = [32u8, 98, 10];
-        search::copy_at(out, end, &ending);
+        search::copy_at(out, end, b" b\n");
         return end + 3;
     }
     out[end] = 10;

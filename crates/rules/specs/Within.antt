@@ -6,7 +6,8 @@ use mathlib.Core.List.{List}
 use lib.ListN.{length, getD}
 use lib.Dec.{ltb}
 use Rattle.refusals.specs.Refusals.{labelsFull, rulesFull}
-use Rattle.search.specs.Search.{put, placeOf, countOf}
+use Rattle.search.specs.Within.{countAfter}
+use Rattle.search.specs.Search.{put, placeOf}
 use Rattle.search.specs.declared.Found.{Found}
 use Rattle.search.specs.declared.Found.the-variants.{At, Nothing}
 use Rattle.store.specs.declared.Rule.{Rule}
@@ -23,10 +24,10 @@ abbrev pub subjectNumber : Table → Found → ℕ
 subjectNumber t s = placeOf s (length (t .labels))
 
 abbrev pub objectNumber : Table → Found → Found → ℕ
-objectNumber t s o = placeOf o (countOf s (length (t .labels)))
+objectNumber t s o = placeOf o (countAfter s (length (t .labels)))
 
 abbrev pub labelsAfter : Table → Found → Found → ℕ
-labelsAfter t s o = countOf o (countOf s (length (t .labels)))
+labelsAfter t s o = countAfter o (countAfter s (length (t .labels)))
 
 -- the pair's rule, by these numbers
 abbrev pub ruleOfPair : Table → Found → Found → Found

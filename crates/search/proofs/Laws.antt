@@ -11,7 +11,8 @@ use lib.Dec.{eqb}
 use borrow.Author.Tests.{eqb-true, eqb-false, eq-eqb, ne-eqb}
 use lib.ListN.{length, take, drop, getD, set, length-append, length-take, length-drop, length-set, length-map, List·getD-append}
 use lib.Seq.{drop-cons, drop-drop, drop-append-add, take-at, set-split, getD-at, getD-set-same, getD-set-other, length-take-le}
-use Rattle.search.specs.Search.{first, all, put, placeOf, countOf, entries, later}
+use Rattle.search.specs.Within.{countAfter}
+use Rattle.search.specs.Search.{first, all, put, placeOf, entries, later}
 use Rattle.search.specs.Bytes.{sameBytes, written}
 use Rattle.search.specs.declared.Found.{Found}
 use Rattle.search.specs.declared.Found.the-variants.{At, Nothing}
@@ -246,7 +247,7 @@ first-append p (y ∷ ys) m i e = by-test (p y) (first p ys) (first p (ys ++ m))
 
 -- ---- the place and the count of a table with n entries
 
-pub count-le : (f : Found) (n : ℕ) → (n ≤ countOf f n) × (countOf f n ≤ n + 1)
+pub count-le : (f : Found) (n : ℕ) → (n ≤ countAfter f n) × (countAfter f n ≤ n + 1)
 count-le (At i) n = omega arith
 count-le Nothing n = omega arith
 
@@ -291,10 +292,10 @@ found-none p f n none =
     (λ k hk. let h : k < n = rw entries-length at hk in rw (entries-at f (f 0) n k h) (none k h))
 
 -- a place that was found is an entry's
-pub found-place : {A : Type 0} (p : A → Bool) (f : ℕ → A) (n m : ℕ) → n ≤ m → placeOf (first p (entries f n)) m < countOf (first p (entries f n)) m
+pub found-place : {A : Type 0} (p : A → Bool) (f : ℕ → A) (n m : ℕ) → n ≤ m → placeOf (first p (entries f n)) m < countAfter (first p (entries f n)) m
 found-place p f n m h = by-case (first p (entries f n)) (λ i e. omega (arith, first-is p (f 0) (entries f n) i e .0, entries-length f n))
   where
-    by-case : (r : Found) → ((i : ℕ) → r ≡ At i → i < m) → placeOf r m < countOf r m
+    by-case : (r : Found) → ((i : ℕ) → r ≡ At i → i < m) → placeOf r m < countAfter r m
     by-case (At i) ih = ih i refl
     by-case Nothing ih = omega arith
 
@@ -305,13 +306,13 @@ last-entry f g n v other here = rw (entries-same g f n (λ k kh. sym (other k kh
 -- ---- an entry put where a search says
 
 -- how long the list then is
-pub length-put : {A : Type 0} (f : Found) (l : List A) (v : A) → length (put f l v) ≡ countOf f (length l)
+pub length-put : {A : Type 0} (f : Found) (l : List A) (v : A) → length (put f l v) ≡ countAfter f (length l)
 unfolding put
 length-put (At i) l v = length-set l i v
 length-put Nothing l v = length-append l (v ∷ [])
 
 -- the entry stands in its place, and every other where it was
-pub put-at : {A : Type 0} (d : A) (f : Found) (l : List A) (v : A) → placeOf f (length l) < countOf f (length l) → getD (put f l v) (placeOf f (length l)) d ≡ v
+pub put-at : {A : Type 0} (d : A) (f : Found) (l : List A) (v : A) → placeOf f (length l) < countAfter f (length l) → getD (put f l v) (placeOf f (length l)) d ≡ v
 unfolding put
 put-at d (At i) l v h = getD-set-same l i v d h
 put-at d Nothing l v h = getD-at l v [] d (length l) refl
@@ -322,10 +323,10 @@ put-other d (At i) l v k h apart = getD-set-other l i k v d apart
 put-other d Nothing l v k h apart = List·getD-append l (v ∷ []) d k h
 
 -- a place that a search found is an entry's
-pub first-place : {A : Type 0} (p : A → Bool) (d : A) (l : List A) → placeOf (first p l) (length l) < countOf (first p l) (length l)
+pub first-place : {A : Type 0} (p : A → Bool) (d : A) (l : List A) → placeOf (first p l) (length l) < countAfter (first p l) (length l)
 first-place p d l = by-case (first p l) (first-is p d l)
   where
-    by-case : (f : Found) → ((i : ℕ) → f ≡ At i → (i < length l) × (p (getD l i d) ≡ true)) → placeOf f (length l) < countOf f (length l)
+    by-case : (f : Found) → ((i : ℕ) → f ≡ At i → (i < length l) × (p (getD l i d) ≡ true)) → placeOf f (length l) < countAfter f (length l)
     by-case (At i) ih = ih i refl .0
     by-case Nothing ih = omega arith
 
@@ -423,7 +424,7 @@ distinct-put {A = A} p d l v same apart k h = by-place (eqb k (placeOf (first (p
     passes-over : (x y : A) → p x v ≡ false → p v y ≡ true → p x y ≡ false
     passes-over x y n e = not-so (p x y) (λ q. no (sym n ∙ same .alike x y q v ∙ sym (same .alike v y e v) ∙ same .itself v))
 
-    place-below : (f : Found) → k < countOf f (length l) → (k ≡ placeOf f (length l) → ⊥) → k < length l
+    place-below : (f : Found) → k < countAfter f (length l) → (k ≡ placeOf f (length l) → ⊥) → k < length l
     place-below (At i) hk n = hk
     place-below Nothing hk n = ⊎-elim (λ e. absurd (n e)) (λ q. q) (eq-or-lt-of-le (le-of-suc-le-suc (rw add-one at hk)))
 

@@ -1,9 +1,17 @@
--- Byte strings: equality, and one written over another. Assumes nothing.
+-- Byte strings: texts as bytes, equality, and one written over another. Assumes nothing.
 use Prim.Native.Nat.{ℕ, _+_}
+use Prim.Native.Char.{code}
+use Prim.Native.String as t
+use Prim.Native.String.{String}
 use mathlib.Core.Bool.{Bool, true, false, _&&_}
 use mathlib.Core.List.{List, [], _∷_, _++_}
 use lib.ListN.{length, take, drop}
 use lib.Dec.{eqb}
+
+-- the bytes of a text in ASCII, each character's own number
+abbrev pub ascii : String → List ℕ
+ascii t.[] = []
+ascii (t._∷_ c s) = code c ∷ ascii s
 
 -- whether two byte strings are equal: as many bytes, and each the same
 unfoldable pub sameBytes : List ℕ → List ℕ → Bool

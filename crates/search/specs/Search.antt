@@ -1,6 +1,6 @@
 -- The first entry of a list that passes a test, and a list with an entry put where a search says. The searches for a label, a pair and a
 -- mapping, "the first counts" of 01, and "in its place, or last" are stated by these. Assumes nothing.
-use Prim.Native.Nat.{ℕ, zero, suc, _+_}
+use Prim.Native.Nat.{ℕ, zero, suc}
 use mathlib.Core.Bool.{Bool, true, cond, _&&_}
 use mathlib.Core.List.{List, [], _∷_, _++_}
 use lib.ListN.{set}
@@ -32,14 +32,10 @@ unfoldable pub put : {A : Type 0} → Found → List A → A → List A
 put (At i) l v = set l i v
 put Nothing l v = l ++ (v ∷ [])
 
--- of a table with n entries: the place that a search found or the next one, and how many entries there are once that place is taken
+-- of a table with n entries: the place that a search found, or the next one
 abbrev pub placeOf : Found → ℕ → ℕ
 placeOf (At i) n = i
 placeOf Nothing n = n
-
-abbrev pub countOf : Found → ℕ → ℕ
-countOf (At i) n = n
-countOf Nothing n = n + 1
 
 -- the entries f 0, f 1, .. of a table with n entries, in order
 unfoldable pub entries : {A : Type 0} → (ℕ → A) → ℕ → List A

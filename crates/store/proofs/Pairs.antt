@@ -7,7 +7,8 @@ use native.Mathlib.Omega.{arith}
 use lib.Dec.{eqb, ltb}
 use lib.ListN.{length}
 use borrow.Author.Tests.{ne-eqb, ltb-true}
-use Rattle.search.specs.Search.{first, all, put, placeOf, countOf}
+use Rattle.search.specs.Within.{countAfter}
+use Rattle.search.specs.Search.{first, all, put, placeOf}
 use Rattle.search.specs.Bytes.{sameBytes}
 use Rattle.search.specs.declared.Found.{Found}
 use Rattle.search.specs.declared.Found.the-variants.{At, Nothing}
@@ -29,11 +30,11 @@ module _ (ls : List (List ℕ)) (l : List ℕ) where
       by-case (At i) = front-same ls
       by-case Nothing = record { rest = l ∷ []; is = refl }
 
-  pub enter-length : length (enter ls l) ≡ countOf (first (sameBytes l) ls) (length ls)
+  pub enter-length : length (enter ls l) ≡ countAfter (first (sameBytes l) ls) (length ls)
   unfolding put
   enter-length = by-case (first (sameBytes l) ls)
     where
-      by-case : (f : Found) → length (labelsEntered f ls l) ≡ countOf f (length ls)
+      by-case : (f : Found) → length (labelsEntered f ls l) ≡ countAfter f (length ls)
       by-case (At i) = refl
       by-case Nothing = length-put Nothing ls l
 
@@ -106,7 +107,7 @@ module _ (t : Table) (n : ℕ) (sound : soundTable n t ≡ true) where
   not-object i = none-pass (isPair i n) (soundRule n) (t .rules) (sound-parts .0) (λ r h. beyond n i r h .1)
 
 -- the pair's rule, by the numbers that its labels have or get, is the rule between them: a label that is not there yet has no rules
-pub between-read : (t : Table) → soundTable (length (t .labels)) t ≡ true → (f g : Found) → pairIn t (placeOf f (length (t .labels))) (placeOf g (countOf f (length (t .labels)))) ≡ ruleBetween t f g
+pub between-read : (t : Table) → soundTable (length (t .labels)) t ≡ true → (f g : Found) → pairIn t (placeOf f (length (t .labels))) (placeOf g (countAfter f (length (t .labels)))) ≡ ruleBetween t f g
 between-read t sound (At i) (At j) = refl
 between-read t sound (At i) Nothing = not-object t (length (t .labels)) sound i
 between-read t sound Nothing (At j) = not-subject t (length (t .labels)) sound j

@@ -33,7 +33,7 @@ lent l e w = store (now (l .entry)) (now (e .entry)) (now (w .entry))
 abbrev pub left : {A B C : Type 0} → Both A (RefT (List ℕ)) → Both B (RefT (List ℕ)) → Both C (RefT (List ℕ)) → Store
 left l e w = store (now (l .exit)) (now (e .exit)) (now (w .exit))
 
--- the full size of each slice, and where each run of entries, and the sets, begin
+-- the full size of each slice and of a label's place, and where each run of entries, and the sets, begin
 abbrev pub labelsSize : ℕ
 labelsSize = 16384
 
@@ -42,6 +42,9 @@ entriesSize = 840
 
 abbrev pub wordsSize : ℕ
 wordsSize = 36
+
+abbrev pub placeSize : ℕ
+placeSize = 256
 
 abbrev pub objectsFrom : ℕ
 objectsFrom = 256
@@ -67,7 +70,7 @@ held [] = []
 held (n ∷ bytes) = take n bytes
 
 unfoldable pub labelAt : List ℕ → ℕ → List ℕ
-labelAt labels k = held (take 256 (drop (k * 256) labels))
+labelAt labels k = held (take placeSize (drop (k * placeSize) labels))
 
 unfoldable pub ruleAt : List ℕ → ℕ → Rule
 ruleAt e k = record { subject = getD e k 0; object = getD e (objectsFrom + k) 0; modes = getD e (modesFrom + k) 0 }

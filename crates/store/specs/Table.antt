@@ -7,7 +7,7 @@ use lib.ListN.{getD}
 use lib.Dec.{eqb, ltb, leb}
 pub use Rattle.numbers.specs.Categories.{knownSet}
 use Rattle.search.specs.Search.{first, all, placeOf}
-use Rattle.search.specs.Bytes.{sameBytes}
+use Rattle.search.specs.Bytes.{ascii, sameBytes}
 use Rattle.search.specs.declared.Found.{Found}
 use Rattle.search.specs.declared.Found.the-variants.{At, Nothing}
 use Rattle.store.specs.declared.Rule.{Rule}
@@ -35,19 +35,19 @@ withOnlycap t ns = record { labels = t .labels; rules = t .rules; mappings = t .
 
 -- the labels that have numbers 0 to 4 in every table grown from a fresh one: _ ^ * ? @
 abbrev pub floor : List ℕ
-floor = 95 ∷ []
+floor = ascii "_"
 
 abbrev pub hat : List ℕ
-hat = 94 ∷ []
+hat = ascii "^"
 
 abbrev pub star : List ℕ
-star = 42 ∷ []
+star = ascii "*"
 
 abbrev pub huh : List ℕ
-huh = 63 ∷ []
+huh = ascii "?"
 
 abbrev pub web : List ℕ
-web = 64 ∷ []
+web = ascii "@"
 
 -- a fresh table has the five labels alone
 abbrev pub fresh : Table

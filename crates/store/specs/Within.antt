@@ -9,11 +9,11 @@ use Rattle.search.specs.declared.Found.the-variants.{At, Nothing}
 use Rattle.store.specs.declared.Rule.{Rule}
 use Rattle.store.specs.declared.Mapping.{Mapping}
 use Rattle.store.specs.Table.{floor, hat, star, huh, web, labelLimit, ruleLimit, mappingLimit, onlycapLimit}
-use Rattle.store.specs.Layout.{objectsFrom, modesFrom, mappedFrom, levelsFrom, setsFrom}
+use Rattle.store.specs.Layout.{objectsFrom, modesFrom, mappedFrom, levelsFrom, setsFrom, placeSize}
 
 -- a label written into place k, and a rule: nothing else changes
 unfoldable pub withLabel : List ℕ → ℕ → List ℕ → List ℕ
-withLabel labels k l = written labels (k * 256) (length l ∷ l)
+withLabel labels k l = written labels (k * placeSize) (length l ∷ l)
 
 unfoldable pub withRule : List ℕ → ℕ → Rule → List ℕ
 withRule e k r = set (set (set e k (r .subject)) (objectsFrom + k) (r .object)) (modesFrom + k) (r .modes)

@@ -6,14 +6,14 @@ use native.Mathlib.Omega.{arith}
 use borrow.Author.Needs.{needs}
 use borrow.Author.Count.{below-more}
 use lib.ListN.{length, getD}
-use Rattle.alphabet.specs.Alphabet.{labelByte}
+use Rattle.alphabet.specs.Alphabet.{labelByte, labelLongest}
 use Rattle.alphabet.specs.Within.{classTable}
 use Rattle.alphabet.proofs.Laws.{label-told, other-told, fault-empty, fault-dash, fault-at, fault-long, fault-none}
 use Rattle.alphabet.proofs.label_fault.Statement.{statement}
 use Rattle.alphabet.proofs.label_fault.Tie as tie
 
 abbrev Inv-loop : tie.InvT-loop
-Inv-loop label classes i₀ i = (classes ≡ classTable) × (i ≤ length label) × (i ≤ 255) × ((k : ℕ) → k < i → labelByte (getD label k 0) ≡ true)
+Inv-loop label classes i₀ i = (classes ≡ classTable) × (i ≤ length label) × (i ≤ labelLongest) × ((k : ℕ) → k < i → labelByte (getD label k 0) ≡ true)
 
 abbrev μ-loop : tie.MeasureT-loop
 μ-loop label classes i₀ i = length label - i
@@ -36,7 +36,7 @@ loop-holds c = (c .classes .ensures .0, omega arith, omega arith, λ k h. absurd
 returns-3 : tie.Need-returns-3 Inv-loop μ-loop
 returns-3 c =
     let l = c .before .before in
-    let z : l .loop .i ≡ 255 = c .if3 .taken in
+    let z : l .loop .i ≡ labelLongest = c .if3 .taken in
     sym (fault-long _ (l .before .before .before .before .if1 .left) (l .before .before .if2 .left) (omega arith) (rw z at (l .loop .inv .3)))
 
 slice-aggregate-class : tie.Need-slice-aggregate-class Inv-loop μ-loop

@@ -2,8 +2,7 @@
 use mathlib.Core.Path.{_≡_, sym, _∙_}
 use native.Mathlib.Omega.{arith}
 use Rattle.search.specs.declared.Found.the-variants.{Nothing}
-use Rattle.alphabet.specs.Alphabet.{faultOf}
-use Rattle.alphabet.specs.Within.{part}
+use Rattle.alphabet.specs.Within.{part, faultOf}
 use Rattle.numbers.specs.Numbers.{numberOf}
 use Rattle.numbers.specs.declared.Number.the-variants.{Value}
 use borrow.Author.Needs.{needs}

@@ -11,7 +11,7 @@ returns c = (
     λ s z s′ z′ cs ds rs qs f g t e run₁ run₂. same-cuts f g t e run₁ run₂,
     (
       λ s s′ cs rs d run. damaged d run,
-      λ s cs. runs (s .store .labels) (s .store .entries) (s .store .words) (s .line) (s .loader) cs,
+      λ s cs. runs (s .store) (s .line) (s .loader) cs,
     ),
   ),
 )

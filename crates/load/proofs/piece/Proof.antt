@@ -12,7 +12,8 @@ use Rattle.load.specs.declared.Fed.the-variants as f
 use Rattle.load.specs.Loader.{Load, load, ready, stepPiece, endKept, pieceAnswer, pieceAfter}
 use borrow.Author.Needs.{needs}
 use native.Mathlib.Omega.{arith}
-use Rattle.load.proofs.Laws.{Ready, ready-is, is-ready, ready-piece, ready-end, end-behind, end-within, run-between, run-last, piece-line}
+use Rattle.text_lines.proofs.Laws.{end-behind, end-within, run-between, run-last}
+use Rattle.load.proofs.Laws.{Ready, ready-is, is-ready, ready-piece, ready-end, piece-line}
 use Rattle.load.proofs.piece.Statement.{statement}
 use Rattle.load.proofs.piece.Tie as tie
 

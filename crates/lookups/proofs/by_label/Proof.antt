@@ -9,7 +9,7 @@ use lib.ListN.{getD}
 use Rattle.search.specs.Search.{first, entries}
 use Rattle.search.specs.Bytes.{sameBytes}
 use Rattle.search.specs.declared.Found.the-variants.{At, Nothing}
-use Rattle.alphabet.specs.Alphabet.{faultOf}
+use Rattle.alphabet.specs.Within.{faultOf}
 use Rattle.store.specs.Layout.{store, labelAt, mappingAt, undamagedOf}
 use Rattle.store.proofs.Laws.{Undamaged, undamaged-is}
 use Rattle.store.specs.Table.{names}

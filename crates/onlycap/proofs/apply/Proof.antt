@@ -8,7 +8,8 @@ use native.Mathlib.Omega.{arith}
 use mathlib.Core.Logic.{⊎-elim}
 use borrow.Author.Tests.{not-true, not-false}
 use lib.ListN.{length, take, set, length-set}
-use Rattle.search.specs.Search.{entries, placeOf, countOf}
+use Rattle.search.specs.Within.{countAfter}
+use Rattle.search.specs.Search.{entries, placeOf}
 use Rattle.alphabet.specs.Alphabet.{fields}
 use Rattle.alphabet.specs.Within.{part}
 use Rattle.alphabet.proofs.Laws.{field-some}
@@ -67,7 +68,7 @@ module _ (c : tie.After-start Inv-loop μ-loop) where
 number : (c : tie.After-enter Inv-loop μ-loop) → c .enter .result .number ≡ placeOf (foundIn (p (c .before .before .before .before)) (x (c .before .before .before .before))) (c .before .before .before .before .before .before .before .loop .stored)
 number c = ap (λ (n : Numbered). n .number) (c .enter .ensures .0)
 
-stored-after : (c : tie.After-enter Inv-loop μ-loop) → c .enter .result .stored ≡ countOf (foundIn (p (c .before .before .before .before)) (x (c .before .before .before .before))) (c .before .before .before .before .before .before .before .loop .stored)
+stored-after : (c : tie.After-enter Inv-loop μ-loop) → c .enter .result .stored ≡ countAfter (foundIn (p (c .before .before .before .before)) (x (c .before .before .before .before))) (c .before .before .before .before .before .before .before .loop .stored)
 stored-after c = ap (λ (n : Numbered). n .stored) (c .enter .ensures .0)
 
 unseen : (c : tie.Then1 Inv-loop μ-loop) → appearsIn (x (c .before .before .before .before .before .before .before .before .before)) (take (c .before .before .before .before .before .before .before .before .before .before .before .before .loop .i) (fields (c .before .before .before .before .before .before .before .before .before .before .before .before .before .before .before .before .before .before .args .text .now))) ≡ false

@@ -10,7 +10,7 @@ use Rattle.alphabet.specs.Alphabet.{lineLimit}
 use Rattle.store.specs.Layout.{Store, store}
 use Rattle.reports.specs.declared.Loader.{Loader}
 use Rattle.load.specs.Loader.{Load, load}
-use Rattle.load.proofs.Laws.{end-behind, end-within, run-between}
+use Rattle.text_lines.proofs.Laws.{end-behind, end-within, run-between}
 use Rattle.replies.specs.Within.{Put}
 use Rattle.replies.proofs.Laws.{put-none, put-said, put-next, put-left, put-length}
 use Rattle.program.specs.Steps.{State, asking, emptied, answerText, takeInput, sayInput}

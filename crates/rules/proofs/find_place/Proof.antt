@@ -6,7 +6,8 @@ use mathlib.Core.List.{List}
 use native.Mathlib.Omega.{arith}
 use borrow.Author.Tests.{lt-ltb, le-ltb}
 use lib.ListN.{getD}
-use Rattle.search.specs.Search.{first, placeOf, countOf, entries}
+use Rattle.search.specs.Within.{countAfter}
+use Rattle.search.specs.Search.{first, placeOf, entries}
 use Rattle.search.specs.Bytes.{sameBytes}
 use Rattle.search.specs.declared.Found.{Found}
 use Rattle.search.proofs.Laws.{count-le, found-place}
@@ -19,7 +20,7 @@ use Rattle.rules.proofs.find_place.Statement.{statement}
 use Rattle.rules.proofs.find_place.Tie as tie
 
 abbrev numbers : Found → ℕ → Numbered
-numbers f n = record { number = placeOf f n; count = countOf f n }
+numbers f n = record { number = placeOf f n; count = countAfter f n }
 
 same-numbers : {f g : Found} {m n : ℕ} → f ≡ g → m ≡ n → numbers f m ≡ numbers g n
 same-numbers p q = rw (p, q)
@@ -44,26 +45,26 @@ module _ (c : tie.After-number-for2) where
   subject-is : c .before .number-for .result ≡ numbers FS n
   subject-is = c .before .number-for .ensures ∙ same-numbers (c .before .before .before .find-label .ensures) refl
 
-  object-is : c .number-for2 .result ≡ numbers FO (countOf FS n)
+  object-is : c .number-for2 .result ≡ numbers FO (countAfter FS n)
   object-is = c .number-for2 .ensures ∙ same-numbers (c .before .before .find-label2 .ensures) (ap (λ (e : Numbered). e .count) subject-is)
 
   subject-number : c .before .number-for .result .number ≡ placeOf FS n
   subject-number = ap (λ (e : Numbered). e .number) subject-is
 
-  object-number : c .number-for2 .result .number ≡ placeOf FO (countOf FS n)
+  object-number : c .number-for2 .result .number ≡ placeOf FO (countAfter FS n)
   object-number = ap (λ (e : Numbered). e .number) object-is
 
-  object-count : c .number-for2 .result .count ≡ countOf FO (countOf FS n)
+  object-count : c .number-for2 .result .count ≡ countAfter FO (countAfter FS n)
   object-count = ap (λ (e : Numbered). e .count) object-is
 
-  subject-in : placeOf FS n < countOf FS n
+  subject-in : placeOf FS n < countAfter FS n
   subject-in = found-place (sameBytes (S .args .subject .now)) (labelAt (S .args .labels .now)) n n (omega arith)
 
-  object-in : placeOf FO (countOf FS n) < countOf FO (countOf FS n)
-  object-in = found-place (sameBytes (S .args .object .now)) (labelAt (S .args .labels .now)) n (countOf FS n) (count-le FS n .0)
+  object-in : placeOf FO (countAfter FS n) < countAfter FO (countAfter FS n)
+  object-in = found-place (sameBytes (S .args .object .now)) (labelAt (S .args .labels .now)) n (countAfter FS n) (count-le FS n .0)
 
-  grows : countOf FS n ≤ countOf FO (countOf FS n)
-  grows = count-le FO (countOf FS n) .0
+  grows : countAfter FS n ≤ countAfter FO (countAfter FS n)
+  grows = count-le FO (countAfter FS n) .0
 
 -- the pair's rule, by these numbers
 rule-is : (c : tie.After-find-pair) → c .find-pair .result ≡ ruleFound (S (c .before .before .before .before .before) .args .labels .now) (S (c .before .before .before .before .before) .args .entries .now) (S (c .before .before .before .before .before) .args .words .now) (S (c .before .before .before .before .before) .args .subject .now) (S (c .before .before .before .before .before) .args .object .now)
@@ -93,7 +94,7 @@ returns : tie.Need-returns
 returns c =
     let d = c .before .before in
     let a = S d .args in
-    let h : 64 < countOf (FO d) (countOf (FS d) (n d)) = omega (arith, object-count d) in
+    let h : 64 < countAfter (FO d) (countAfter (FS d) (n d)) = omega (arith, object-count d) in
     sym (placing-store (a .labels .now) (a .entries .now) (a .words .now) (a .subject .now) (a .object .now) ∙ rw (lt-ltb _ _ h))
 
 cast-find-pair : tie.Need-cast-find-pair
@@ -116,7 +117,7 @@ returns-2 : tie.Need-returns-2
 returns-2 c =
     let d = c .before .before .before .before .before .before .before in
     let a = S d .args in
-    let h : countOf (FO d) (countOf (FS d) (n d)) ≤ 64 = omega (arith, object-count d, c .before .before .before .before .before .if1 .left) in
+    let h : countAfter (FO d) (countAfter (FS d) (n d)) ≤ 64 = omega (arith, object-count d, c .before .before .before .before .before .if1 .left) in
     let f = ap (λ (x : Found). noPlace x (getD (a .words .now) 1 0) 256) (sym (rule-is (c .before .before))) ∙ sym (c .before .full .ensures) ∙ c .if2 .taken in
     sym (placing-store (a .labels .now) (a .entries .now) (a .words .now) (a .subject .now) (a .object .now) ∙ rw (le-ltb _ _ h, f))
 
@@ -124,7 +125,7 @@ returns-3 : tie.Need-returns-3
 returns-3 c =
     let d = c .before .before .before .before .before .before .before in
     let a = S d .args in
-    let h : countOf (FO d) (countOf (FS d) (n d)) ≤ 64 = omega (arith, object-count d, c .before .before .before .before .before .if1 .left) in
+    let h : countAfter (FO d) (countAfter (FS d) (n d)) ≤ 64 = omega (arith, object-count d, c .before .before .before .before .before .if1 .left) in
     let f = ap (λ (x : Found). noPlace x (getD (a .words .now) 1 0) 256) (sym (rule-is (c .before .before))) ∙ sym (c .before .full .ensures) ∙ c .if2 .left in
     sym (placing-store (a .labels .now) (a .entries .now) (a .words .now) (a .subject .now) (a .object .now) ∙ rw (le-ltb _ _ h, f) (cc (c .before .before .before .before .before .before .before .before .before .before .find-label .ensures, c .before .before .before .before .before .before .before .before .before .find-label2 .ensures, rule-is (c .before .before))))
 

@@ -1,12 +1,12 @@
--- `load::line_end` meets its contract: the first newline from `i` on is the one from `from` on. Assumes nothing.
+-- `text_lines::line_end` meets its contract: the first newline from `i` on is the one from `from` on. Assumes nothing.
 use Prim.Native.Nat.{_+_, _-_}
 use mathlib.Core.Path.{_≡_, refl}
 use lib.ListN.{length, drop}
 use native.Mathlib.Omega.{arith}
-use Rattle.load.specs.Loader.{beforeNewline}
-use Rattle.load.proofs.Laws.{newline-at, newline-behind, newline-none}
-use Rattle.load.proofs.line_end.Statement.{statement}
-use Rattle.load.proofs.line_end.Tie as tie
+use Rattle.text_lines.specs.Within.{beforeNewline}
+use Rattle.text_lines.proofs.Laws.{newline-at, newline-behind, newline-none}
+use Rattle.text_lines.proofs.line_end.Statement.{statement}
+use Rattle.text_lines.proofs.line_end.Tie as tie
 
 abbrev Inv-loop : tie.InvT-loop
 Inv-loop text from i₀ i = i + beforeNewline (drop i text) ≡ from + beforeNewline (drop from text)
