@@ -18,9 +18,9 @@ use Rattle.modes.specs.declared.Access.the-variants.{Modes}
 use Rattle.store.specs.declared.Rule.{Rule}
 use Rattle.store.specs.Table.{Table, labelIn, isPair}
 use Rattle.store.specs.Layout.{store, tableOf, ruleAt}
-use Rattle.access.specs.Rules.{holds, bringUp, Clause, rule6, rule7, firstOf, sevenRules}
+use Rattle.access.specs.SevenRules.{holds, bringUp, Clause, rule6, rule7, firstOf, sevenRules}
 use Rattle.store.specs.Pairs.{ruleBetween, has-modes, modesFound, modesBetween}
-use Rattle.access.specs.Access.{listed, effective, denied, answered, decide, answer}
+use Rattle.access.specs.Access.{onList, effective, denied, answered, decide, answer}
 use Rattle.access.specs.Within.{labelRules, tableRules, byTable}
 use Rattle.access.specs.declared.Denial.{Denial}
 use Rattle.access.specs.declared.Denial.the-variants.{AnyOther}
@@ -59,10 +59,10 @@ place-below p f n m Nothing e h z = z
 
 -- ---- the onlycap list
 
-pub listed-at : (l : List ℕ) (i k : ℕ) → first (eqb i) l ≡ At k → listed l (At i) ≡ true
+pub listed-at : (l : List ℕ) (i k : ℕ) → first (eqb i) l ≡ At k → onList l (At i) ≡ true
 listed-at l i k e = rw e
 
-pub listed-none : (l : List ℕ) (i : ℕ) → first (eqb i) l ≡ Nothing → listed l (At i) ≡ false
+pub listed-none : (l : List ℕ) (i : ℕ) → first (eqb i) l ≡ Nothing → onList l (At i) ≡ false
 listed-none l i e = rw e
 
 -- ---- the override capability
@@ -76,7 +76,7 @@ module _ (t : Table) (s : Found) where
   unfolding effective
   effective-open e = rw (eq-eqb (length (t .onlycap)) 0 e)
 
-  pub effective-listed : (length (t .onlycap) ≡ 0 → ⊥) → effective t s true ≡ listed (t .onlycap) s
+  pub effective-listed : (length (t .onlycap) ≡ 0 → ⊥) → effective t s true ≡ onList (t .onlycap) s
   unfolding effective
   effective-listed n = rw (ne-eqb (length (t .onlycap)) 0 n)
 

@@ -1,4 +1,4 @@
--- 01, Questions: the answer to a question. The seven rules stand in specs/Rules.antt; here are the override capability (CAP_MAC_OVERRIDE,
+-- 01, Questions: the answer to a question. The seven rules stand in specs/SevenRules.antt; here are the override capability (CAP_MAC_OVERRIDE,
 -- with the onlycap list), and the refusals. Assumes nothing.
 use Prim.Native.Nat.{ℕ}
 use mathlib.Core.Bool.{Bool, true, false, cond, _&&_, _||_}
@@ -15,7 +15,7 @@ use Rattle.modes.specs.declared.Access.the-variants.{Modes, Bad}
 use Rattle.refusals.specs.Refusals.{damaged, badLabel, badRequest}
 use Rattle.store.specs.Table.{Table, labelIn}
 use Rattle.store.specs.Layout.{Store, tableOf, undamagedOf}
-use Rattle.access.specs.Rules.{firstOf, sevenRules}
+use Rattle.access.specs.SevenRules.{firstOf, sevenRules}
 use Rattle.access.specs.declared.Denial.{Denial}
 use Rattle.access.specs.declared.Denial.the-variants.{AnyOther}
 use Rattle.access.specs.declared.Verdict.{Verdict}
@@ -31,13 +31,13 @@ isFound (At k) = true
 isFound Nothing = false
 
 -- whether the onlycap list (01: the override list) holds a label, by its first number; a label that is not in the table is on no list
-abbrev pub listed : List ℕ → Found → Bool
-listed onlycap (At i) = isFound (first (eqb i) onlycap)
-listed onlycap Nothing = false
+abbrev pub onList : List ℕ → Found → Bool
+onList onlycap (At i) = isFound (first (eqb i) onlycap)
+onList onlycap Nothing = false
 
 -- 01: override counts only if the asker has it and the list is empty or holds the subject
 unfoldable pub effective : Table → Found → Bool → Bool
-effective t s capable = capable && (eqb (length (t .onlycap)) 0 || listed (t .onlycap) s)
+effective t s capable = capable && (eqb (length (t .onlycap)) 0 || onList (t .onlycap) s)
 
 -- and only after a denial, whose rule it then names
 abbrev pub denied : Bool → Denial → Answer

@@ -1,3 +1,3 @@
-pub mod Rules
+pub mod SevenRules
 pub mod Access
 pub mod Within

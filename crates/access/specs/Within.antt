@@ -5,7 +5,7 @@ use mathlib.Core.Bool.{Bool}
 use mathlib.Core.List.{List}
 use lib.ListN.{take, drop}
 use Rattle.store.specs.Table.{Table, labelIn}
-use Rattle.access.specs.Rules.{Clause, rulesFor, firstOf}
+use Rattle.access.specs.SevenRules.{Clause, rulesFor, firstOf}
 use Rattle.store.specs.Pairs.{PairModes, no-rule, modesBetween}
 use Rattle.access.specs.Access.{effective, answered}
 use Rattle.access.specs.declared.Answer.{Answer}

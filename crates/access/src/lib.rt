@@ -12,7 +12,7 @@ ghost use Rattle.store.specs.Table.{labelLimit, ruleLimit, onlycapLimit};
 ghost use Rattle.store.specs.Layout.{store, lent, modesFrom, onlycapFrom, setsFrom, tableOf, Sizes};
 ghost use Rattle.store.specs.Within.{Counts};
 ghost use Rattle.store.specs.Pairs.{ruleBetween};
-ghost use Rattle.access.specs.Rules as rules;
+ghost use Rattle.access.specs.SevenRules as rules;
 ghost use Rattle.access.specs.Access as access;
 ghost use Rattle.access.specs.Within as within;
 
@@ -101,9 +101,9 @@ fn find_rule(entries: &[u8], words: &[u64], subject: Found, object: Found) -> Fo
 }
 
 // Whether the onlycap list holds a label, by its number. Who calls it has tested the store.
-fn listed(entries: &[u8], words: &[u64], subject: Found) -> bool
+fn on_list(entries: &[u8], words: &[u64], subject: Found) -> bool
     requires { ⌜ (onlycapFrom + onlycapLimit ≤ length (now entries)) × (setsFrom ≤ length (now words)) × Counts (now words) ⌝ }
-    ensures { λ r. ⌜ r ≡ access.listed (tableOf (store [] (now (entries .entry)) (now (words .entry))) .onlycap) subject ⌝ }
+    ensures { λ r. ⌜ r ≡ access.onList (tableOf (store [] (now (entries .entry)) (now (words .entry))) .onlycap) subject ⌝ }
 {
     let Found::At(s) = subject else {
         return false;
@@ -131,7 +131,7 @@ fn effective(entries: &[u8], words: &[u64], subject: Found, capable: bool) -> bo
     if words[store::ONLYCAP_COUNT] == 0 {
         return true;
     }
-    listed(entries, words, subject)
+    on_list(entries, words, subject)
 }
 
 // The answer after a denial. Who calls it has tested the store.

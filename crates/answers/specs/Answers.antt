@@ -6,7 +6,7 @@ use mathlib.Core.Bool.{true, false}
 use Rattle.store.specs.declared.Done.{Done}
 use Rattle.store.specs.declared.Done.the-variants as done
 use Rattle.places.specs.Places.{labelStart}
-use Rattle.access.specs.Rules.{denialNumber}
+use Rattle.access.specs.SevenRules.{denialNumber}
 use Rattle.access.specs.declared.Answer.{Answer}
 use Rattle.access.specs.declared.Answer.the-variants as answer
 use Rattle.revoke.specs.declared.Revoked.{Revoked}

@@ -12,7 +12,7 @@ use reports::Report;
 use revoke::Revoked;
 use store::Done;
 ghost use mathlib.Core.Path.{_≡_};
-ghost use Rattle.access.specs.Rules.{denialNumber};
+ghost use Rattle.access.specs.SevenRules.{denialNumber};
 ghost use Rattle.answers.specs.Answers.{shown, writeShown, revokeShown, pieceShown, endShown, listShown, lookupShown, searchShown};
 
 // What a question answers. Kind 0 is granted, 1 denied, 2 granted by override, 3 refused; the number is the rule's, or the refusal's.

@@ -26,7 +26,7 @@ use Rattle.lines.proofs.Laws.{Sound, rule-sound}
 use Rattle.reports.specs.Report.{freshLoader}
 use Rattle.load.specs.Loader.{Load, load, stepByte, stepEnd}
 use Rattle.lists.specs.Reader as r
-use Rattle.lists.specs.Reader.{Totals, counted, Reader, startOn, endLine, takeByte, finish, Write, judgeWrite, written, Event, byte, stop, wrote}
+use Rattle.lists.specs.Reader.{Totals, counted, Reader, startOn, endLine, takeByte, finish, Write, judgeWrite, afterWrite, Event, byte, stop, wrote}
 use Rattle.lists.proofs.Follows.{Holds, step-follows, finish-follows, fresh-holds}
 use Rattle.lists.proofs.Steps.{on}
 use Rattle.lists.proofs.Others.{storeLeft, write-holds}
@@ -192,7 +192,7 @@ sets t t₁ (r.revoke l) whole e = tt
 sets t t₁ (r.onlycap text) whole e = tt
 sets t t₁ (r.mapping text) whole e = tt
 
-write-made : (t : Table) (w : Write) {t′ : Table} {rest : List Act} → SoundTable t → Made (written t w) rest t′ → Made t (m.single w ∷ rest) t′
+write-made : (t : Table) (w : Write) {t′ : Table} {rest : List Act} → SoundTable t → Made (afterWrite t w) rest t′ → Made t (m.single w ∷ rest) t′
 write-made t w {t′} {rest} whole more = by-judged (judgeWrite w t) refl (not-skipped t w) more
   where
     by-judged : (j : Judged) → judgeWrite w t ≡ j → NotSkipped j → Made (tableAfter t j) rest t′ → Made t (m.single w ∷ rest) t′
@@ -230,7 +230,7 @@ made t (b ∷ bs) c (stop ∷ es) h =
     (held-end (record { table = t; kept = b ∷ bs; totals = c }) h)
 made t kept c (wrote w ∷ es) (s, h) =
     write-made t w (held-sound (record { table = t; kept = kept; totals = c }) (s, h))
-    (made (written t w) kept c es (load (storeLeft (s .store) w) (s .line) (s .loader), write-holds s (record { table = t; kept = kept; totals = c }) w h))
+    (made (afterWrite t w) kept c es (load (storeLeft (s .store) w) (s .line) (s .loader), write-holds s (record { table = t; kept = kept; totals = c }) w h))
 
 -- a grown table stays grown
 pub grown-made : {t t′ : Table} {ws : List Act} → Made t ws t′ → Grown t → Grown t′

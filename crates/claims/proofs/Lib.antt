@@ -1,4 +1,3 @@
 pub mod Cases
-pub mod Listed
 pub mod Refusals
 pub mod Program

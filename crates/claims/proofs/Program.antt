@@ -24,11 +24,11 @@ use Rattle.program.proofs.Laws.{some-turn}
 use Rattle.program.proofs.Plain.{Phase, loads, phaseOn, saidOn, saidFrom, said-append, plain-output}
 use Rattle.program.proofs.Follows.{Stands, feed-law, finish-law, begun}
 use Rattle.claims.specs.Program as c
-use Rattle.claims.specs.Program.{Called-begin, Called-feed, Called-finish, Runs, an-end, a-piece, joined, ProgramOutput}
+use Rattle.claims.specs.Program.{Called-begin, Called-feed, Called-finish, InPieces, an-end, a-piece, joined, ProgramOutput}
 
 -- ---- every run
 
-follows : {st : Store} {line : List ℕ} {x : Session} {pieces : List (List ℕ)} {said : List ℕ} (q : Phase) → Stands (state st line x) q → Runs st line x pieces said → said ≡ saidFrom q (joined pieces)
+follows : {st : Store} {line : List ℕ} {x : Session} {pieces : List (List ℕ)} {said : List ℕ} (q : Phase) → Stands (state st line x) q → InPieces st line x pieces said → said ≡ saidFrom q (joined pieces)
 follows q h (an-end k room) = finish-law q (k .ensures) room h
 follows q h (a-piece k {pieces} {said} room rest) =
     let input = now (seventh (k .args)) in
@@ -41,7 +41,7 @@ writes :
     (k : Called-begin) (line : List ℕ) (pieces : List (List ℕ)) (said : List ℕ) →
     Sizes (now (first (k .args))) (now (second (k .args))) (now (third (k .args))) →
     length line ≡ lineLimit →
-    Runs (c.begun k) line (k .result) pieces said →
+    InPieces (c.begun k) line (k .result) pieces said →
     said ≡ output (joined pieces)
 writes k line pieces said sizes full run =
     let fresh-state : state (c.begun k) line (k .result) ≡ state (freshStore (lent (k .args))) line freshSession = ap (λ (x : Store). state x line (k .result)) (k .ensures .1) ∙ ap (λ (x : Session). state (freshStore (lent (k .args))) line x) (k .ensures .0) in
@@ -105,7 +105,7 @@ room-long : (n : ℕ) → n ≤ length (room n)
 unfolding room
 room-long n = rw (length-replicate {A = ℕ} n 0) (omega arith)
 
-runs : (st : Store) (line : List ℕ) (x : Session) (pieces : List (List ℕ)) → (said : List ℕ) × Runs st line x pieces said
+runs : (st : Store) (line : List ℕ) (x : Session) (pieces : List (List ℕ)) → (said : List ℕ) × InPieces st line x pieces said
 runs st line x [] = (_, an-end (finish-call st line x (room 66)) (room-long 66))
 runs st line x (input ∷ pieces) =
     let k = feed-call st line x input (room (66 * length input)) in
@@ -114,7 +114,7 @@ runs st line x (input ∷ pieces) =
 
 some-run :
     (st : Store) (line : List ℕ) (pieces : List (List ℕ)) →
-    (k : Called-begin) × (lent (k .args) ≡ st) × (said : List ℕ) × Runs (c.begun k) line (k .result) pieces said
+    (k : Called-begin) × (lent (k .args) ≡ st) × (said : List ℕ) × InPieces (c.begun k) line (k .result) pieces said
 some-run st line pieces =
     let rest = runs (c.begun (begin-call st)) line freshSession pieces in
     (begin-call st, refl, rest .0, rest .1)

@@ -1,6 +1,5 @@
 pub mod Cases
 pub mod Exported
-pub mod Listed
 pub mod Program
-pub mod Refusals
-pub mod Runs
+pub mod Unchanged
+pub mod RunSearch

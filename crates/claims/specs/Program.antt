@@ -18,6 +18,7 @@ use Rattle.program.proofs.feed.Kinds as feed-kinds
 use Rattle.program.proofs.feed.Reads as feed-reads
 use Rattle.program.proofs.finish.Kinds as finish-kinds
 use Rattle.program.proofs.finish.Reads as finish-reads
+use Rattle.replies.specs.Replies.{lineRoom}
 
 -- ---- the three calls, as their caller knows them
 
@@ -37,13 +38,13 @@ begun k = store (first (k .last)) (now (second (k .args))) (third (k .last))
 -- ---- a run: the pieces of the input, and the bytes that the calls put at the front of their outputs, one behind the other. Each call is made with the tables, the
 -- line and the session that the one before it left, and with an output that has 66 bytes for each byte of the piece; the last is `finish`
 
-pub data Runs : Store → List ℕ → Session → List (List ℕ) → List ℕ → Type 0 where
-  an-end : (k : Called-finish) → 66 ≤ length (now (fifth (k .args))) → Runs (lent (k .args)) (now (fourth (k .args))) (sixth (k .args)) [] (take (wentCount (k .result)) (fifth (k .last)))
+pub data InPieces : Store → List ℕ → Session → List (List ℕ) → List ℕ → Type 0 where
+  an-end : (k : Called-finish) → lineRoom ≤ length (now (fifth (k .args))) → InPieces (lent (k .args)) (now (fourth (k .args))) (sixth (k .args)) [] (take (wentCount (k .result)) (fifth (k .last)))
   a-piece :
       (k : Called-feed) {pieces : List (List ℕ)} {said : List ℕ} →
-      66 * length (now (seventh (k .args))) ≤ length (now (fifth (k .args))) →
-      Runs (left (k .last)) (fourth (k .last)) (wentSession (sixth (k .args)) (k .result)) pieces said →
-      Runs (lent (k .args)) (now (fourth (k .args))) (sixth (k .args)) (now (seventh (k .args)) ∷ pieces) (take (wentCount (k .result)) (fifth (k .last)) ++ said)
+      lineRoom * length (now (seventh (k .args))) ≤ length (now (fifth (k .args))) →
+      InPieces (left (k .last)) (fourth (k .last)) (wentSession (sixth (k .args)) (k .result)) pieces said →
+      InPieces (lent (k .args)) (now (fourth (k .args))) (sixth (k .args)) (now (seventh (k .args)) ∷ pieces) (take (wentCount (k .result)) (fifth (k .last)) ++ said)
 
 -- the pieces as one input
 abbrev pub joined : List (List ℕ) → List ℕ
@@ -58,9 +59,9 @@ pub record ProgramOutput : Type 0 where
       (k : Called-begin) (line : List ℕ) (pieces : List (List ℕ)) (said : List ℕ) →
       Sizes (now (first (k .args))) (now (second (k .args))) (now (third (k .args))) →
       length line ≡ lineLimit →
-      Runs (begun k) line (k .result) pieces said →
+      InPieces (begun k) line (k .result) pieces said →
       said ≡ output (joined pieces)
   -- and from every memory every list of pieces has such calls, so that this does not speak of nothing
   pub some-run :
       (st : Store) (line : List ℕ) (pieces : List (List ℕ)) →
-      (k : Called-begin) × (lent (k .args) ≡ st) × (said : List ℕ) × Runs (begun k) line (k .result) pieces said
+      (k : Called-begin) × (lent (k .args) ≡ st) × (said : List ℕ) × InPieces (begun k) line (k .result) pieces said

@@ -1,4 +1,4 @@
-// What the users asked for, each claim under its name; demand 2 stands in the crate grown. These functions do nothing: what each ensures is
+// What the users asked for, each claim under its name; demand 2 stands in the crate grown, and in the crate faults by which number a call is refused. These functions do nothing: what each ensures is
 // the claim, so the check names it as proved, and a program that depends on this crate depends on the claims.
 ghost use mathlib.Core.Path.{_≡_};
 ghost use mathlib.Core.Bool.{true, false};
@@ -14,10 +14,9 @@ ghost use Rattle.calls.specs.PlainReaders.{PlainReaders, refusal-of};
 ghost use Rattle.lists.specs.Tables.{TablesFollow};
 ghost use Rattle.claims.specs.Cases.{right, cases};
 ghost use Rattle.claims.specs.Exported.{ExportedCalls};
-ghost use Rattle.claims.specs.Listed.{FromTheList};
 ghost use Rattle.claims.specs.Program.{ProgramOutput};
-ghost use Rattle.claims.specs.Refusals.{NothingChanges};
-ghost use Rattle.claims.specs.Runs.{SearchesTheRun};
+ghost use Rattle.claims.specs.Unchanged.{NothingChanges};
+ghost use Rattle.claims.specs.RunSearch.{SearchesTheRun};
 
 // Demand 1, that every input is met with an answer: of every exported function of the crate host, out of its own contract, it asks nothing of its
 // caller, and its answer and what it leaves in each lent slice are what the definitions say.
@@ -28,12 +27,6 @@ pub fn demand_1_every_call_answers()
 // Demand 1, that a refusal leaves the tables, the loader and every lent buffer holding what they held before.
 pub fn demand_1_refusals_change_nothing()
     ensures { λ _. ⌜ NothingChanges ⌝ }
-{}
-
-// Demand 1, that a refusal has a number from the list: 0 exactly when the state is damaged, and otherwise one that 01 gives for the call, or for a
-// line of rule text. (Which input is refused, and by which of them first, the definitions say.)
-pub fn demand_1_refusals_are_listed()
-    ensures { λ _. ⌜ FromTheList ⌝ }
 {}
 
 // What each write leaves in the lent slices is what 01 says it does to the tables, and an undamaged state stays undamaged.

@@ -14,11 +14,11 @@ use Rattle.store.specs.Table.{ruleNumbered}
 use Rattle.store.specs.Layout.{Store, ruleAt, tableOf, undamagedOf}
 use Rattle.store.proofs.Laws.{undamaged-is}
 use Rattle.output.proofs.Laws.{fits-answer, fits-out}
-use Rattle.rule_text.specs.RuleText.{textOf}
+use Rattle.rule_text.specs.RuleText.{longestRule, textOf}
 use Rattle.listing.specs.Listing.{ruleText, textsOf, listing, ruleGiven, listAnswer, listOut}
 use Rattle.output.specs.declared.Output.the-variants as l
 use Rattle.listing.proofs.Laws.{label-short, rule-listed}
-use Rattle.grown.specs.Relisted.{LoadsBack, front, listed, ListedByNumber}
+use Rattle.grown.specs.Relisted.{LoadsBack, front, listedByCalls, ListedByNumber}
 use Rattle.grown.proofs.Growing.{grown-sane}
 use Rattle.grown.proofs.Relisted.{loads-back}
 
@@ -28,7 +28,7 @@ module _ (st : Store) (undamaged : undamagedOf st ≡ true) where
   text k = ruleText (tableOf st) (ruleNumbered (tableOf st) k)
 
   -- two labels of at most 255 bytes, at most 6 letters, two spaces and a newline
-  short : (k : ℕ) → k < length (tableOf st .rules) → length (text k) ≤ 519
+  short : (k : ℕ) → k < length (tableOf st .rules) → length (text k) ≤ longestRule
   unfolding textOf
   short k h =
       let i : k < getD (st .words) 1 0 = omega (arith, entries-length (ruleAt (st .entries)) (getD (st .words) 1 0)) in
@@ -36,7 +36,7 @@ module _ (st : Store) (undamaged : undamagedOf st ≡ true) where
       (simp length-append
       (omega (arith, label-short (st .labels) (getD (st .entries) k 0), label-short (st .labels) (getD (st .entries) (256 + k) 0), text-long (getD (st .entries) (512 + k) 0))))
 
-  module _ (k : ℕ) (out : List ℕ) (h : k < length (tableOf st .rules)) (room : 519 ≤ length out) where
+  module _ (k : ℕ) (out : List ℕ) (h : k < length (tableOf st .rules)) (room : longestRule ≤ length out) where
     fits : length (text k) ≤ length out
     fits = let i = short k h in omega arith
 
@@ -52,17 +52,17 @@ module _ (st : Store) (undamaged : undamagedOf st ≡ true) where
     unfolding written
     put = rw (answered, written-there) (take-append-seam (text k) _)
 
-  module _ (buffers : ℕ → List ℕ) (room : (k : ℕ) → 519 ≤ length (buffers k)) where
+  module _ (buffers : ℕ → List ℕ) (room : (k : ℕ) → longestRule ≤ length (buffers k)) where
     -- from rule k on
-    from : (n k : ℕ) → k + n ≡ length (tableOf st .rules) → listed st buffers k n ≡ textsOf (tableOf st) (drop k (tableOf st .rules))
+    from : (n k : ℕ) → k + n ≡ length (tableOf st .rules) → listedByCalls st buffers k n ≡ textsOf (tableOf st) (drop k (tableOf st .rules))
     from zero k e = sym (ap (textsOf (tableOf st)) (drop-of-length-le (tableOf st .rules) {i = k} (omega arith)))
     from (suc n) k e =
         let h : k < length (tableOf st .rules) = omega arith in
-        ap (λ (x : List ℕ). x ++ listed st buffers (suc k) n) (put k (buffers k) h (room k))
+        ap (λ (x : List ℕ). x ++ listedByCalls st buffers (suc k) n) (put k (buffers k) h (room k))
         ∙ ap (λ (x : List ℕ). text k ++ x) (from n (suc k) (omega arith))
         ∙ sym (ap (textsOf (tableOf st)) (drop-cons (tableOf st .rules) k (record { subject = 0; object = 0; modes = 0 }) h))
 
-    whole : listed st buffers 0 (length (tableOf st .rules)) ≡ listing (tableOf st)
+    whole : listedByCalls st buffers 0 (length (tableOf st .rules)) ≡ listing (tableOf st)
     unfolding listing
     whole = from (length (tableOf st .rules)) 0 (omega arith)
 

@@ -11,7 +11,7 @@ use Rattle.search.specs.declared.Found.{Found}
 use Rattle.search.specs.declared.Found.the-variants.{At, Nothing}
 use Rattle.search.proofs.Laws.{no, first-is, first-at, first-before}
 use Rattle.store.specs.Table.{Table, labelIn}
-use Rattle.access.specs.Rules.{Clause, clause, firstOf, sevenRules, denialNumber}
+use Rattle.access.specs.SevenRules.{Clause, clause, firstOf, sevenRules, denialNumber}
 use Rattle.access.specs.Access.{effective, answered, answer}
 use Rattle.access.specs.declared.Denial.{Denial}
 use Rattle.access.specs.declared.Denial.the-variants.{StarSubject, AnyOther}

@@ -29,7 +29,7 @@ use Rattle.lines.specs.Lines.{Said, refused, rule, change, ruleOf, changeOf, ru
 use Rattle.lines.proofs.Laws.{Taken, Sound, rule-sound, change-sound}
 use Rattle.writes.specs.Writes.{judged, changed}
 use Rattle.store.specs.Judged.{Judged, is-skipped, is-refused, is-accepted, tableAfter}
-use Rattle.access.specs.Rules.{rulesFor, firstOf, sevenRules}
+use Rattle.access.specs.SevenRules.{rulesFor, firstOf, sevenRules}
 use Rattle.store.specs.Pairs.{ruleBetween, PairModes, has-modes, modesFound, modesBetween, modesSoFar}
 use Rattle.access.specs.Access.{effective, answered, decide, byRequest, answer}
 use Rattle.store.proofs.Pairs.{not-listed, not-subject, not-object}

@@ -10,7 +10,7 @@ use Rattle.alphabet.specs.Alphabet.{wellFormed}
 use Rattle.modes.specs.Modes.{readModes, requestLetters}
 use Rattle.modes.specs.declared.Access.the-variants.{Modes}
 use Rattle.store.specs.Table.{Table}
-use Rattle.access.specs.Rules.{Clause, clause, sevenRules, denialNumber}
+use Rattle.access.specs.SevenRules.{Clause, clause, sevenRules, denialNumber}
 use Rattle.access.specs.Access.{answer}
 use Rattle.access.specs.declared.Denial.{Denial}
 use Rattle.access.specs.declared.Verdict.{Verdict}

@@ -13,7 +13,7 @@ use Rattle.modes.specs.Modes.{readModes, ruleLetters}
 use Rattle.modes.specs.declared.Access.the-variants.{Modes}
 use Rattle.store.specs.Table.{Table, labelIn, labelLimit, ruleLimit, soundTable}
 use Rattle.store.specs.Judged.{Judged, is-skipped, is-refused, is-accepted}
-use Rattle.access.specs.Rules.{rulesFor, sevenRules}
+use Rattle.access.specs.SevenRules.{rulesFor, sevenRules}
 use Rattle.store.specs.Pairs.{PairModes, has-modes, no-rule, modesBetween}
 use Rattle.access.specs.Access.{effective, answer}
 

@@ -13,6 +13,7 @@ use Rattle.listing.specs.Listing.{ruleText, listing, listAnswer, listOut}
 use Rattle.output.specs.declared.Output.{Output}
 use Rattle.output.specs.declared.Output.the-variants as l
 use Rattle.grown.specs.Grown.{Grown}
+use Rattle.rule_text.specs.RuleText.{longestRule}
 
 -- a rule by the bytes of its labels, and its modes
 pub record Spelled : Type 0 where
@@ -48,9 +49,9 @@ front (l.Length n) out = take n out
 front (l.Refused n) out = []
 
 -- what n calls write, for the rules from number k on, one text behind the other; each call may be lent another buffer
-abbrev pub listed : Store → (ℕ → List ℕ) → ℕ → ℕ → List ℕ
-listed st buffers k zero = []
-listed st buffers k (suc n) = front (listAnswer st k (buffers k)) (listOut st k (buffers k)) ++ listed st buffers (suc k) n
+abbrev pub listedByCalls : Store → (ℕ → List ℕ) → ℕ → ℕ → List ℕ
+listedByCalls st buffers k zero = []
+listedByCalls st buffers k (suc n) = front (listAnswer st k (buffers k)) (listOut st k (buffers k)) ++ listedByCalls st buffers (suc k) n
 
 -- a buffer of 519 bytes is long enough for every rule; asked for each number in turn the call writes the listing; and the number after the
 -- last rule's is refused with 13, so that a host knows where it ends. What was written loads back
@@ -58,15 +59,15 @@ pub record ListedByNumber (st : Store) : Type 0 where
   pub given :
       (k : ℕ) (out : List ℕ) →
       k < length (tableOf st .rules) →
-      519 ≤ length out →
+      longestRule ≤ length out →
       listAnswer st k out ≡ l.Length (length (ruleText (tableOf st) (ruleNumbered (tableOf st) k)))
   pub whole :
       (buffers : ℕ → List ℕ) →
-      ((k : ℕ) → 519 ≤ length (buffers k)) →
-      listed st buffers 0 (length (tableOf st .rules)) ≡ listing (tableOf st)
+      ((k : ℕ) → longestRule ≤ length (buffers k)) →
+      listedByCalls st buffers 0 (length (tableOf st .rules)) ≡ listing (tableOf st)
   pub ends : (out : List ℕ) → listAnswer st (length (tableOf st .rules)) out ≡ l.Refused noSuchNumber
   pub loads-back :
       (buffers : ℕ → List ℕ) →
-      ((k : ℕ) → 519 ≤ length (buffers k)) →
+      ((k : ℕ) → longestRule ≤ length (buffers k)) →
       Grown (tableOf st) →
-      LoadsBack (tableOf st) (listed st buffers 0 (length (tableOf st .rules)))
+      LoadsBack (tableOf st) (listedByCalls st buffers 0 (length (tableOf st .rules)))

@@ -26,7 +26,7 @@ use Rattle.load.specs.Loader.{Load, load}
 use Rattle.answers.specs.Answers.{listShown, lookupShown, searchShown, partShown}
 use Rattle.answers.specs.declared.Part.{Part}
 use Rattle.lists.specs.Reader as r
-use Rattle.lists.specs.Reader.{Reader, doneReply, countReply, Write, written, writeSays, writeOn, askSays}
+use Rattle.lists.specs.Reader.{Reader, doneReply, countReply, Write, afterWrite, writeSays, writeOn, askSays}
 use Rattle.lists.specs.Tables.{Leaves}
 use Rattle.lists.proofs.Tables.{tables-follow}
 use Rattle.lists.proofs.Follows.{Holds}
@@ -38,7 +38,7 @@ storeLeft st (r.revoke l) = store (st .labels) (revokeStore st l .entries) (st .
 storeLeft st (r.onlycap text) = onlycapStore st text
 storeLeft st (r.mapping text) = mapStored st text
 
-pub store-leaves : (st : Store) (w : Write) → undamagedOf st ≡ true → Leaves (storeLeft st w) (written (tableOf st) w)
+pub store-leaves : (st : Store) (w : Write) → undamagedOf st ≡ true → Leaves (storeLeft st w) (afterWrite (tableOf st) w)
 store-leaves st (r.change text) u = tables-follow .change st text u
 store-leaves st (r.revoke l) u = tables-follow .revoke st l u
 store-leaves st (r.onlycap text) u = tables-follow .onlycap st text u
@@ -49,7 +49,7 @@ write-holds s p w h =
     let g = store-leaves (s .store) w (h .ready .undamaged) in
     record {
       ready = record { undamaged = g .undamaged; line = h .ready .line; kept = h .ready .kept };
-      table = g .table ∙ ap (λ (t : Table). written t w) (h .table);
+      table = g .table ∙ ap (λ (t : Table). afterWrite t w) (h .table);
       line = h .line;
       totals = h .totals;
     }

@@ -154,8 +154,8 @@ judgeWrite (onlycap text) = onlycapWrite text
 judgeWrite (mapping text) = mappingWrite text
 
 -- the tables after it, and its answer
-abbrev pub written : Table → Write → Table
-written t w = tableAfter t (judgeWrite w t)
+abbrev pub afterWrite : Table → Write → Table
+afterWrite t w = tableAfter t (judgeWrite w t)
 
 abbrev pub writeSays : Table → Write → Reply
 writeSays t (change text) = doneReply (doneOf (changeWrite text t))
@@ -174,7 +174,7 @@ askSays t (label-check k) = cond (ltb k (length (t .labels))) done (refusal noSu
 
 -- a line under way stays under way: it is judged at its end, against the table as it then is
 abbrev pub writeOn : Reader → Write → Reader
-writeOn p w = record { table = written (p .table) w; kept = p .kept; totals = p .totals }
+writeOn p w = record { table = afterWrite (p .table) w; kept = p .kept; totals = p .totals }
 
 abbrev pub after : Reader → Call → Reader
 after p (piece text) = takePiece p text

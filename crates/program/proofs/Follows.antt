@@ -32,7 +32,7 @@ use Rattle.replies.specs.Replies.{answerLine}
 use Rattle.program.specs.Program.{mark, isMark, asked, answerTo, reportLine}
 use Rattle.program.specs.declared.Turn.{Turn}
 use Rattle.program.specs.Turns.{wentCount}
-use Rattle.program.specs.Steps.{State, state, freshSession, asking, reading, atMark, emptied, unmarked, withoutMark, answerOf, answerText, endedText, textAfter, textSays, byteBy, sayBy, takeByte, sayByte, takeInput, sayInput, sayLastBy, takeLast, sayLast, Turns}
+use Rattle.program.specs.Steps.{State, state, freshSession, asking, reading, atMark, emptied, unmarked, withoutMark, answerOf, answerText, endedText, textAfter, textSays, byteBy, sayBy, takeInputByte, sayInputByte, takeInput, sayInput, sayLastBy, takeLast, sayLast, Turns}
 use Rattle.program.proofs.Laws.{unmarked-yes, unmarked-no}
 use Rattle.lists.proofs.Lines.{keeping}
 use Rattle.program.proofs.Plain.{Phase, loads, asks, plainUnmarked, phaseTo, reports, answers, phaseSays, phaseLast, phaseOn, saidOn}
@@ -151,7 +151,7 @@ byte-asks s p b h = by-test (eqb b newline)
     by-test true = record { stands = (refl, emptied-holds s p h); says = ap answerLine (answer-same s p h) }
     by-test false = record { stands = (refl, step-follows s p b h); says = refl }
 
-byte-follows : (s : State) (q : Phase) (b : ℕ) → Stands s q → Kept (takeByte s b) (sayByte s b) (phaseTo q b) (phaseSays q b)
+byte-follows : (s : State) (q : Phase) (b : ℕ) → Stands s q → Kept (takeInputByte s b) (sayInputByte s b) (phaseTo q b) (phaseSays q b)
 byte-follows s (loads p) b h = subst (λ (t : Bool). Kept (byteBy t (s .load) b) (sayBy t (s .load) b) (phaseTo (loads p) b) (phaseSays (loads p) b)) (sym (h .0)) (byte-loads (s .load) p b (h .1))
 byte-follows s (asks p) b h = subst (λ (t : Bool). Kept (byteBy t (s .load) b) (sayBy t (s .load) b) (phaseTo (asks p) b) (phaseSays (asks p) b)) (sym (h .0)) (byte-asks (s .load) p b (h .1))
 
@@ -159,8 +159,8 @@ input-follows : (s : State) (q : Phase) (input : List ℕ) → Stands s q → Ke
 input-follows s q [] h = record { stands = h; says = refl }
 input-follows s q (b ∷ bs) h =
     let one = byte-follows s q b h in
-    let rest = input-follows (takeByte s b) (phaseTo q b) bs (one .stands) in
-    record { stands = rest .stands; says = ap (λ (l : List ℕ). l ++ sayInput (takeByte s b) bs) (one .says) ∙ ap (λ (l : List ℕ). phaseSays q b ++ l) (rest .says) }
+    let rest = input-follows (takeInputByte s b) (phaseTo q b) bs (one .stands) in
+    record { stands = rest .stands; says = ap (λ (l : List ℕ). l ++ sayInput (takeInputByte s b) bs) (one .says) ∙ ap (λ (l : List ℕ). phaseSays q b ++ l) (rest .says) }
 
 last-asks : (s : Load) (p : Reader) → Holds s p → sayLastBy false s ≡ phaseLast (asks p)
 last-asks s p h = by-test (ltb 0 (length (p .kept))) refl

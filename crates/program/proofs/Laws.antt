@@ -35,7 +35,7 @@ use Rattle.program.specs.Turns.{wentSession, wentCount}
 use Rattle.program.specs.declared.Session.{Session}
 use Rattle.program.specs.declared.Turn.{Turn}
 use Rattle.program.specs.declared.Turn.the-variants as t
-use Rattle.program.specs.Steps.{State, state, sessionOf, reading, asking, atMark, emptied, unmarked, answerOf, answerText, endedText, withoutMark, textAfter, textSays, takeByte, sayByte, takeInput, sayInput, lastBy, sayLastBy, takeLast, sayLast, turnOf, Front, Turns}
+use Rattle.program.specs.Steps.{State, state, sessionOf, reading, asking, atMark, emptied, unmarked, answerOf, answerText, endedText, withoutMark, textAfter, textSays, takeInputByte, sayInputByte, takeInput, sayInput, lastBy, sayLastBy, takeLast, sayLast, turnOf, Front, Turns}
 use Rattle.program.specs.Within.{textEnd}
 
 -- ---- a call, by its answer
@@ -163,17 +163,17 @@ module _ (go stop : Load → State) (said : Load → List ℕ) where
   split-none : (s : Load) → Split s [] 0
   split-none s = record { inside = omega arith; all = λ e. (refl, refl); some = λ h. absurd (omega (arith, h)) }
 
-  split-here : (s : Load) (b : ℕ) (bs : List ℕ) → takeByte (go s) b ≡ stop s → sayByte (go s) b ≡ said s → Split s (b ∷ bs) 0
+  split-here : (s : Load) (b : ℕ) (bs : List ℕ) → takeInputByte (go s) b ≡ stop s → sayInputByte (go s) b ≡ said s → Split s (b ∷ bs) 0
   split-here s b bs p q =
       record {
         inside = omega arith;
         all = λ e. absurd (omega (arith, e));
-        some = λ h. (ap (λ (x : State). takeInput x bs) p, ap (λ (l : List ℕ). l ++ sayInput (takeByte (go s) b) bs) q ∙ ap (λ (x : State). said s ++ sayInput x bs) p);
+        some = λ h. (ap (λ (x : State). takeInput x bs) p, ap (λ (l : List ℕ). l ++ sayInput (takeInputByte (go s) b) bs) q ∙ ap (λ (x : State). said s ++ sayInput x bs) p);
       }
 
-  split-later : (s : Load) (b : ℕ) (bs : List ℕ) (n : ℕ) → takeByte (go s) b ≡ go (stepByte s b) → sayByte (go s) b ≡ [] → Split (stepByte s b) bs n → Split s (b ∷ bs) (suc n)
+  split-later : (s : Load) (b : ℕ) (bs : List ℕ) (n : ℕ) → takeInputByte (go s) b ≡ go (stepByte s b) → sayInputByte (go s) b ≡ [] → Split (stepByte s b) bs n → Split s (b ∷ bs) (suc n)
   split-later s b bs n p q rest =
-      let says : sayInput (go s) (b ∷ bs) ≡ sayInput (go (stepByte s b)) bs = ap (λ (l : List ℕ). l ++ sayInput (takeByte (go s) b) bs) q ∙ ap (λ (x : State). sayInput x bs) p in
+      let says : sayInput (go s) (b ∷ bs) ≡ sayInput (go (stepByte s b)) bs = ap (λ (l : List ℕ). l ++ sayInput (takeInputByte (go s) b) bs) q ∙ ap (λ (x : State). sayInput x bs) p in
       record {
         inside = omega (arith, rest .inside);
         all = λ e. let r = rest .all (omega (arith, e)) in (ap (λ (x : State). takeInput x bs) p ∙ r .0, says ∙ r .1);

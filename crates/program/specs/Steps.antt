@@ -20,7 +20,7 @@ use Rattle.reports.specs.Report.{freshLoader, withKept}
 use Rattle.load.specs.declared.Ended.{Ended}
 use Rattle.load.specs.declared.Ended.the-variants as e
 use Rattle.load.specs.Loader.{Load, load, ready, stepByte, endAfter, endAnswer}
-use Rattle.replies.specs.Replies.{reportText, answerLine}
+use Rattle.replies.specs.Replies.{lineRoom, reportText, answerLine}
 use Rattle.program.specs.Program.{mark, asked}
 use Rattle.program.specs.Turns.{wentSession, wentCount}
 use Rattle.program.specs.declared.Session.{Session}
@@ -93,11 +93,11 @@ abbrev pub sayBy : Bool → Load → ℕ → List ℕ
 sayBy true s b = cond (atMark (s .line) (s .loader) && eqb b newline) (textSays s) []
 sayBy false s b = cond (eqb b newline) (answerText s) []
 
-abbrev pub takeByte : State → ℕ → State
-takeByte s b = byteBy (s .loading) (s .load) b
+abbrev pub takeInputByte : State → ℕ → State
+takeInputByte s b = byteBy (s .loading) (s .load) b
 
-abbrev pub sayByte : State → ℕ → List ℕ
-sayByte s b = sayBy (s .loading) (s .load) b
+abbrev pub sayInputByte : State → ℕ → List ℕ
+sayInputByte s b = sayBy (s .loading) (s .load) b
 
 -- over many bytes, of any step and what it says
 abbrev pub saying : {S : Type 0} → (S → ℕ → S) → (S → ℕ → List ℕ) → S → List ℕ → List ℕ
@@ -105,10 +105,10 @@ saying step say s [] = []
 saying step say s (b ∷ bs) = say s b ++ saying step say (step s b) bs
 
 abbrev pub takeInput : State → List ℕ → State
-takeInput s input = foldl takeByte s input
+takeInput s input = foldl takeInputByte s input
 
 abbrev pub sayInput : State → List ℕ → List ℕ
-sayInput s input = saying takeByte sayByte s input
+sayInput s input = saying takeInputByte sayInputByte s input
 
 -- ---- the end of the input
 
@@ -152,7 +152,7 @@ leaves l e w line s r = state (left l e w) (now (line .exit)) (wentSession s r)
 -- ---- what the two calls ensure, of the state and the output that they are lent and those that they leave
 
 abbrev pub Feeds : State → List ℕ → Both (RefT (List ℕ)) (RefT (List ℕ)) → Turn → State → Type 0
-Feeds s input out r s′ = Turns (66 * length input) s (takeInput s input) (sayInput s input) (now (out .entry)) r s′ (now (out .exit))
+Feeds s input out r s′ = Turns (lineRoom * length input) s (takeInput s input) (sayInput s input) (now (out .entry)) r s′ (now (out .exit))
 
 abbrev pub Finishes : State → Both (RefT (List ℕ)) (RefT (List ℕ)) → Turn → State → Type 0
-Finishes s out r s′ = Turns 66 s (takeLast s) (sayLast s) (now (out .entry)) r s′ (now (out .exit))
+Finishes s out r s′ = Turns lineRoom s (takeLast s) (sayLast s) (now (out .entry)) r s′ (now (out .exit))

@@ -10,7 +10,7 @@ use Rattle.alphabet.specs.Alphabet.{newline}
 use Rattle.store.specs.Layout.{Store, lent}
 use Rattle.reports.specs.declared.Loader.{Loader}
 use Rattle.load.specs.Loader.{load}
-use Rattle.replies.specs.Replies.{answerLine}
+use Rattle.replies.specs.Replies.{lineRoom, answerLine}
 use Rattle.replies.specs.Within.{Put}
 use Rattle.program.specs.Program.{mark}
 use Rattle.program.specs.Steps.{State, asking, answerOf, textAfter, textSays, takeInput, sayInput, Turns}
@@ -24,17 +24,17 @@ textEnd empty marked (b ∷ bs) = cond (marked && eqb b newline) 0 (suc (textEnd
 
 -- what each function ensures, of the state and the output that it is lent and those that it leaves
 abbrev pub TextEnds : State → Both (RefT (List ℕ)) (RefT (List ℕ)) → Turn → State → Type 0
-TextEnds s out r s′ = Turns 66 s (textAfter (s .load)) (textSays (s .load)) (now (out .entry)) r s′ (now (out .exit))
+TextEnds s out r s′ = Turns lineRoom s (textAfter (s .load)) (textSays (s .load)) (now (out .entry)) r s′ (now (out .exit))
 
 abbrev pub TurnsOver : State → List ℕ → Both (RefT (List ℕ)) (RefT (List ℕ)) → Turn → State → Type 0
 TurnsOver s input out r s′ =
-    Turns (66 * suc (length input)) s (takeInput (textAfter (s .load)) input) (textSays (s .load) ++ sayInput (textAfter (s .load)) input) (now (out .entry)) r s′ (now (out .exit))
+    Turns (lineRoom * suc (length input)) s (takeInput (textAfter (s .load)) input) (textSays (s .load) ++ sayInput (textAfter (s .load)) input) (now (out .entry)) r s′ (now (out .exit))
 
 abbrev pub Answers : Store → List ℕ → ℕ → List ℕ → ℕ → List ℕ → ℕ → Type 0
-Answers st line kept out at out′ end = Put 66 out at (answerLine (answerOf st line kept)) out′ end
+Answers st line kept out at out′ end = Put lineRoom out at (answerLine (answerOf st line kept)) out′ end
 
 abbrev pub Says : State → List ℕ → List ℕ → ℕ → List ℕ → ℕ → Type 0
-Says s input out at out′ end = Put (66 * length input) out at (sayInput s input) out′ end
+Says s input out at out′ end = Put (lineRoom * length input) out at (sayInput s input) out′ end
 
 -- the state once questions are read: the line alone is lent by `&mut`, as it is when a function begins, and as it leaves it
 abbrev pub asks : {A B C D : Type 0} → Both (RefT (List ℕ)) A → Both (RefT (List ℕ)) B → Both (RefT (List ℕ)) C → Both (RefT (List ℕ)) D → Loader → State

@@ -18,9 +18,7 @@ ghost use Rattle.program.specs.Program.{asked};
 ghost use Rattle.program.specs.Turns.{wentCount};
 ghost use Rattle.program.specs.Steps as steps;
 ghost use Rattle.program.specs.Within as within;
-
-// The most bytes that a line of output has.
-const ROOM: usize = 66;
+ghost use Rattle.replies.specs.Replies.{lineRoom};
 
 const NEWLINE: u8 = 10;
 
@@ -155,7 +153,7 @@ fn answer_line(
     kept: usize,
     at: usize,
 ) -> usize
-    requires { ⌜ (length (now line) ≡ lineLimit) × (at + 66 ≤ length (now out)) ⌝ }
+    requires { ⌜ (length (now line) ≡ lineLimit) × (at + lineRoom ≤ length (now out)) ⌝ }
     ensures { λ r. ⌜ within.Answers (lent labels entries words) (now (line .entry)) kept (now (out .entry)) at (now (out .exit)) r ⌝ }
 {
     if alphabet::LINE_LIMIT < kept {
@@ -176,7 +174,7 @@ fn answer_lines(
     from: usize,
     input: &[u8],
 ) -> Step
-    requires { ⌜ (length (now line) ≡ lineLimit) × (from + 66 * length (now input) ≤ length (now out)) ⌝ }
+    requires { ⌜ (length (now line) ≡ lineLimit) × (from + lineRoom * length (now input) ≤ length (now out)) ⌝ }
     ensures { λ r. ⌜ within.asksOn labels entries words line (r .loader) ≡ steps.takeInput (within.asks labels entries words line l) (now (input .entry)) ⌝ }
     ensures { λ r. ⌜ within.Says (within.asks labels entries words line l) (now (input .entry)) (now (out .entry)) from (now (out .exit)) (r .at) ⌝ }
 {
@@ -204,9 +202,9 @@ fn end_text(
     out: &mut [u8],
     s: Session,
 ) -> Turn
-    requires { ⌜ 66 ≤ length (now out) ⌝ }
+    requires { ⌜ lineRoom ≤ length (now out) ⌝ }
     ensures { λ r. ⌜ within.TextEnds (steps.enters labels entries words line s) out r (steps.leaves labels entries words line s r) ⌝ }
-    ensures { λ r. ⌜ wentCount r ≤ 66 ⌝ }
+    ensures { λ r. ⌜ wentCount r ≤ lineRoom ⌝ }
 {
     let last = unmarked(line, s.loader);
     let Ended::Report(report, fresh) = load::end(labels, entries, words, line, last) else {
@@ -232,7 +230,7 @@ fn turn_to_questions(
     s: Session,
     input: &[u8],
 ) -> Turn
-    requires { ⌜ 66 * suc (length (now input)) ≤ length (now out) ⌝ }
+    requires { ⌜ lineRoom * suc (length (now input)) ≤ length (now out) ⌝ }
     ensures { λ r. ⌜ within.TurnsOver (steps.enters labels entries words line s) (now (input .entry)) out r (steps.leaves labels entries words line s r) ⌝ }
 {
     let Turn::Went(ended, at) = end_text(labels, entries, words, line, out, s) else {
@@ -256,7 +254,7 @@ fn take_text(
     s: Session,
     input: &[u8],
 ) -> Turn
-    requires { ⌜ (s .loading ≡ true) × (66 * length (now input) ≤ length (now out)) ⌝ }
+    requires { ⌜ (s .loading ≡ true) × (lineRoom * length (now input) ≤ length (now out)) ⌝ }
     ensures { λ r. ⌜ steps.Feeds (steps.enters labels entries words line s) (now (input .entry)) out r (steps.leaves labels entries words line s r) ⌝ }
 {
     let l = s.loader;
@@ -287,7 +285,7 @@ pub fn feed(
 ) -> Turn
     ensures { λ r. ⌜ steps.Feeds (steps.enters labels entries words line s) (now (input .entry)) out r (steps.leaves labels entries words line s r) ⌝ }
 {
-    if out.len() / ROOM < input.len() {
+    if out.len() / replies::LINE_ROOM < input.len() {
         return Turn::NoRoom;
     }
     if s.loading {
@@ -314,7 +312,7 @@ pub fn finish(
 ) -> Turn
     ensures { λ r. ⌜ steps.Finishes (steps.enters labels entries words line s) out r (steps.leaves labels entries words line s r) ⌝ }
 {
-    if out.len() < ROOM {
+    if out.len() < replies::LINE_ROOM {
         return Turn::NoRoom;
     }
     let l = s.loader;

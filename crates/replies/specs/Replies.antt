@@ -24,6 +24,10 @@ numbersLine [] = newline ∷ []
 numbersLine (n ∷ []) = decimal n ++ (newline ∷ [])
 numbersLine (n ∷ m ∷ ms) = (decimal n ++ (32 ∷ [])) ++ numbersLine (m ∷ ms)
 
+-- the most bytes of a line that is written: six numbers of at most ten digits, each with a blank or the newline
+abbrev pub lineRoom : ℕ
+lineRoom = 66
+
 -- a report, as it is written: lines, accepted, skipped, refused, first refused line, its reason
 abbrev pub reportText : Report → List ℕ
 reportText r = numbersLine (r .lines ∷ r .accepted ∷ r .skipped ∷ r .refused ∷ r .first ∷ r .reason ∷ [])

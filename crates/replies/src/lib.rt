@@ -4,8 +4,11 @@ use reports::Report;
 ghost use mathlib.Core.List.{[], _∷_, _++_};
 ghost use Prim.Native.Nat.{_+_, _≤_};
 ghost use lib.ListN.{length};
-ghost use Rattle.replies.specs.Replies.{decimal, reportText, wordOf, answerLine};
+ghost use Rattle.replies.specs.Replies.{lineRoom, decimal, reportText, wordOf, answerLine};
 ghost use Rattle.replies.specs.Within.{Put};
+
+// The most bytes of a line that is written.
+pub const LINE_ROOM: usize = 66;
 
 // Writes a number in decimal digits from index `at`, and answers the index behind it. Who calls it has made sure that there is room.
 fn write_number(out: &mut [u8], at: usize, n: u32) -> usize
@@ -33,8 +36,8 @@ fn write_field(out: &mut [u8], at: usize, n: u32, behind: u8) -> usize
 
 // Writes the report on one line, from index `at`. Who calls it has made sure that there is room for it: `program::feed` and `program::finish` test that.
 pub fn write_report(out: &mut [u8], at: usize, report: Report) -> usize
-    requires { ⌜ at + 66 ≤ length (now out) ⌝ }
-    ensures { λ r. ⌜ Put 66 (now (out .entry)) at (reportText report) (now (out .exit)) r ⌝ }
+    requires { ⌜ at + lineRoom ≤ length (now out) ⌝ }
+    ensures { λ r. ⌜ Put lineRoom (now (out .entry)) at (reportText report) (now (out .exit)) r ⌝ }
 {
     let a = write_field(out, at, report.lines, 32);
     let b = write_field(out, a, report.accepted, 32);
@@ -71,8 +74,8 @@ fn write_word(out: &mut [u8], at: usize, answer: Answer) -> usize
 
 // Writes an answer on one line, from index `at`. Who calls it has made sure that there is room for it: `program::feed` and `program::finish` test that.
 pub fn write_answer(out: &mut [u8], at: usize, answer: Answer) -> usize
-    requires { ⌜ at + 66 ≤ length (now out) ⌝ }
-    ensures { λ r. ⌜ Put 66 (now (out .entry)) at (answerLine answer) (now (out .exit)) r ⌝ }
+    requires { ⌜ at + lineRoom ≤ length (now out) ⌝ }
+    ensures { λ r. ⌜ Put lineRoom (now (out .entry)) at (answerLine answer) (now (out .exit)) r ⌝ }
 {
     let shown = answers::show(answer);
     let word = write_word(out, at, answer);

@@ -4,7 +4,7 @@ use mathlib.Core.Bool.{false, _&&_}
 use borrow.Author.Needs.{needs}
 use Rattle.search.specs.Bytes.{sameBytes}
 use Rattle.store.specs.Table.{floor, hat, star}
-use Rattle.access.specs.Rules.{onlyReadExecute}
+use Rattle.access.specs.SevenRules.{onlyReadExecute}
 use Rattle.access.proofs.Laws.{and-with}
 use Rattle.access.proofs.by_labels.Statement.{statement}
 use Rattle.access.proofs.by_labels.Tie as tie

@@ -2,7 +2,7 @@
 use mathlib.Core.Path.{_≡_, sym, _∙_}
 use Rattle.store.specs.Table.{Table, labelIn}
 use Rattle.store.specs.Layout.{store, tableOf}
-use Rattle.access.specs.Rules.{firstOf}
+use Rattle.access.specs.SevenRules.{firstOf}
 use Rattle.store.specs.Pairs.{modesBetween}
 use Rattle.access.specs.Access.{answered, effective, decide}
 use Rattle.access.specs.Within.{tableRules, byTable}

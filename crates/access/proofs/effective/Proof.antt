@@ -20,15 +20,15 @@ returns-2 c =
     let a = c .before .before .before .before .before .args in
     rw (not-false (a .capable) (c .before .before .if1 .left)) (sym (effective-open _ _ (entries-length (onlycapAt (a .entries .now)) (getD (a .words .now) 3 0) ∙ c .if2 .taken)))
 
-listed-requires : tie.Need-listed-requires
-listed-requires c κs = search needs
+on-list-requires : tie.Need-on-list-requires
+on-list-requires c κs = search needs
 
 returns-3 : tie.Need-returns-3
 returns-3 c =
     let a = c .before .before .before .before .before .before .args in
     let n = entries-length (onlycapAt (a .entries .now)) (getD (a .words .now) 3 0) in
-    rw (not-false (a .capable) (c .before .before .before .if1 .left)) (c .listed .ensures ∙ sym (effective-listed _ _ (λ e. c .before .if2 .left (sym n ∙ e))))
+    rw (not-false (a .capable) (c .before .before .before .if1 .left)) (c .on-list .ensures ∙ sym (effective-listed _ _ (λ e. c .before .if2 .left (sym n ∙ e))))
 
 pub effective-spec : {M : Type 1} → statement M
 effective-spec =
-    tie.close (tie.spec returns shared-slice-read-if2 returns-2 listed-requires returns-3)
+    tie.close (tie.spec returns shared-slice-read-if2 returns-2 on-list-requires returns-3)

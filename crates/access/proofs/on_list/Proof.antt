@@ -1,4 +1,4 @@
--- `access::listed` meets its contract: no number before index i is the label's. Assumes nothing.
+-- `access::on_list` meets its contract: no number before index i is the label's. Assumes nothing.
 use Prim.Native.Nat.{ℕ, _+_, _≤_, _<_, _-_}
 use mathlib.Core.Path.{_≡_, sym}
 use mathlib.Core.Bool.{false}
@@ -11,8 +11,8 @@ use borrow.Author.Tests.{eq-eqb, ne-eqb}
 use Rattle.search.proofs.Laws.{found-at, found-none}
 use Rattle.store.specs.Layout.{onlycapAt}
 use Rattle.access.proofs.Laws.{listed-at, listed-none}
-use Rattle.access.proofs.listed.Statement.{statement}
-use Rattle.access.proofs.listed.Tie as tie
+use Rattle.access.proofs.on_list.Statement.{statement}
+use Rattle.access.proofs.on_list.Tie as tie
 
 abbrev Inv-loop : tie.InvT-loop
 Inv-loop entries words s count i₀ i = (i ≤ count) × ((k : ℕ) → k < i → eqb s (getD entries (832 + k) 0) ≡ false)
@@ -71,8 +71,8 @@ returns-3 c =
     let s = l .before .before .before .subject .given .0 .0 in
     rw (l .before .before .before .subject .given .1) (sym (listed-none _ _ (found-none (eqb s) (onlycapAt (a .entries .now)) (getD (a .words .now) 3 0) (λ k h. l .loop .inv .1 k (omega arith)))))
 
-pub listed-spec : {M : Type 1} → statement M
-listed-spec =
+pub on-list-spec : {M : Type 1} → statement M
+on-list-spec =
     tie.close
     (tie.spec
     Inv-loop

@@ -1,0 +1,804 @@
+-- Of each call the first fault that holds: the answer is built by tests, and these are the faults in their order. Assumes nothing.
+use Prim.Native.Nat.{ℕ, _+_, _-_, _≤_}
+use native.Mathlib.Omega.{arith}
+use mathlib.Core.Path.{_≡_, refl, sym, ap, _∙_}
+use mathlib.Core.Bool.{Bool, true, false, cond, not, _&&_, _||_}
+use mathlib.Core.List.{List, [], _∷_, foldl}
+use lib.Dec.{eqb, ltb, leb}
+use lib.ListN.{length, getD}
+use borrow.Author.Tests.{lt-ltb, le-ltb, ltb-true, ltb-false, le-leb, lt-leb, leb-true, leb-false, eq-eqb, ne-eqb}
+use Rattle.search.specs.Search.{all, first, entries, placeOf}
+use Rattle.search.specs.Bytes.{sameBytes}
+use Rattle.search.specs.declared.Found.{Found}
+use Rattle.search.specs.declared.Found.the-variants.{At, Nothing}
+use Rattle.search.proofs.Laws.{no, and-both, entries-length, all-at, first-none}
+use Rattle.alphabet.specs.Alphabet.{wellFormed, fields}
+use Rattle.modes.specs.Modes.{allowedByte, modesOf, readModes, ruleLetters, changeLetters, requestLetters}
+use Rattle.modes.specs.declared.Access.the-variants.{Modes, Bad}
+use Rattle.numbers.specs.Categories.{isLevel, isCategory, knownSet, withCategory}
+use Rattle.numbers.specs.Numbers.{numberOf}
+use Rattle.numbers.specs.declared.Number.{Number}
+use Rattle.numbers.specs.declared.Number.the-variants as number
+use Rattle.store.specs.declared.Mapping.{Mapping}
+use Rattle.store.specs.declared.Done.{Done}
+use Rattle.store.specs.declared.Done.the-variants as d
+use Rattle.store.specs.Table.{Table, fresh, labelIn, mappingIn, names, ruleNumbered, noPlace, withOnlycap, soundRule, soundMapping, soundTable}
+use Rattle.store.specs.Pairs.{modesFound, modesBetween, modesSoFar}
+use Rattle.store.specs.Layout.{Store, tableOf, fullSizes, undamagedOf, labelAt, ruleAt, mappingAt}
+use Rattle.store.specs.Judged.{Judged, is-skipped, is-refused, is-accepted, doneOf, onState, freshWrite, freshAnswer}
+use Rattle.store.proofs.Laws.{undamaged-is}
+use Rattle.lines.specs.Lines.{skipped, refused, rule, change, ruleWith, ruleBy, ruleFields, ruleOf, changeWith, changeBy, changeFields, changeOf}
+use Rattle.rules.specs.Rules.{pairLabels, pairRule, withPair, pairJudged}
+use Rattle.rules.proofs.Pairs.{pair-length}
+use Rattle.writes.specs.Writes.{judged, changed, outcomeOf, lineOutcome, changeWrite, changeAnswer}
+use Rattle.writes.specs.declared.Outcome.{Outcome}
+use Rattle.writes.specs.declared.Outcome.the-variants as v
+use Rattle.revoke.specs.Revoke.{withoutModes, revokeWrite, revokeCount, countOf, revokeAnswer}
+use Rattle.revoke.specs.declared.Revoked.{Revoked}
+use Rattle.revoke.specs.declared.Revoked.the-variants as r
+use Rattle.onlycap.specs.Onlycap.{loneDash, different, labelsWith, withList, onlycapLabels, onlycapFields, onlycapWrite, onlycapAnswer}
+use Rattle.cipso.specs.Cipso as cipso
+use Rattle.cipso.proofs.Laws.{categoriesFrom, categories-start}
+use Rattle.lookups.specs.Lookups.{lookupBy, lookedUp, labelLookup, hasBoth, sought, levelLookup, numbered, byLabelOf, byLevelOf}
+use Rattle.lookups.specs.declared.Lookup.{Lookup}
+use Rattle.lookups.specs.declared.Lookup.the-variants as lookup
+use Rattle.lookups.specs.declared.Label.{Label}
+use Rattle.lookups.specs.declared.Label.the-variants as label
+use Rattle.run.specs.declared.Record.{Record}
+use Rattle.run.specs.declared.Best.{Best}
+use Rattle.run.specs.declared.Best.the-variants as best
+use Rattle.run.specs.Run as run
+use Rattle.access.specs.Access.{isFound, effective, answer, answered, decide, byRequest, questionOf}
+use Rattle.access.specs.SevenRules.{firstOf, sevenRules}
+use Rattle.access.specs.declared.Verdict.{Verdict}
+use Rattle.access.specs.declared.Verdict.the-variants as verdict
+use Rattle.access.specs.declared.Answer.{Answer}
+use Rattle.access.specs.declared.Answer.the-variants as a
+use Rattle.output.specs.Output as output
+use Rattle.output.specs.Output.{putAnswer, textAnswer}
+use Rattle.output.specs.declared.Output.{Output}
+use Rattle.output.specs.declared.Output.the-variants as l
+use Rattle.listing.specs.Listing.{ruleText, ruleGiven, listAnswer, labelAnswer}
+use Rattle.load.specs.Loader.{Load, ready, pieceAnswer, endAnswer}
+use Rattle.load.specs.declared.Fed.{Fed}
+use Rattle.load.specs.declared.Fed.the-variants as f
+use Rattle.load.specs.declared.Ended.{Ended}
+use Rattle.load.specs.declared.Ended.the-variants as e
+use Rattle.grown.specs.Pairs.{SoundTable, newLabels, hasRule}
+use Rattle.grown.proofs.Pairs.{undamaged-sound, labels-counted}
+use Rattle.faults.proofs.Different.{those-all, entered-many}
+use Rattle.faults.specs.Faults.{
+  Fault,
+  _when_,
+  Refusal,
+  none,
+  by,
+  firstFault,
+  Refuses,
+  badLabels,
+  badBytes,
+  freePlaces,
+  pairFaults,
+  ruleFaults,
+  lineFaults,
+  changeFaults,
+  revokeFaults,
+  changeFieldFaults,
+  differentOnes,
+  newOnes,
+  clears,
+  labelFaults,
+  overrideFaults,
+  onlycapFaults,
+  numberPasses,
+  levelField,
+  categoryField,
+  hasMapping,
+  mappingFieldFaults,
+  mappingFaults,
+  freshFaults,
+  loaderFaults,
+  byLabelFaults,
+  inRunFaults,
+  byLevelFaults,
+  questionFaults,
+  listingFaults,
+  labelByNumberFaults,
+  FirstInOrder,
+}
+
+-- ---- what each answer is refused by
+
+-- an answer that is refused by what the faults come to
+refuses :
+    {A : Type 0} (R : ℕ → A) (refusal : A → Refusal) →
+    ((n : ℕ) → refusal (R n) ≡ by n) →
+    ((x : A) (n : ℕ) → refusal x ≡ by n → x ≡ R n) →
+    (x : A) (faults : List Fault) →
+    refusal x ≡ firstFault faults →
+    Refuses x R faults
+refuses R refusal to from x faults e n = (λ q. sym e ∙ ap refusal q ∙ to n, λ q. from x n (e ∙ q))
+
+abbrev done-by : Done → Refusal
+done-by d.Done = none
+done-by (d.Refused n) = by n
+
+of-done : (x : Done) (faults : List Fault) → done-by x ≡ firstFault faults → Refuses x d.Refused faults
+of-done = refuses d.Refused done-by (λ n. refl) from
+  where
+    from : (x : Done) (n : ℕ) → done-by x ≡ by n → x ≡ d.Refused n
+    from d.Done n q = let z : _≡_ {A = ℕ} 0 1 = cc in absurd (omega arith)
+    from (d.Refused m) n q = let z : m ≡ n = cc in ap d.Refused z
+
+abbrev fed-by : Fed → Refusal
+fed-by (f.Done x) = none
+fed-by (f.Refused n) = by n
+
+of-fed : (x : Fed) (faults : List Fault) → fed-by x ≡ firstFault faults → Refuses x f.Refused faults
+of-fed = refuses f.Refused fed-by (λ n. refl) from
+  where
+    from : (x : Fed) (n : ℕ) → fed-by x ≡ by n → x ≡ f.Refused n
+    from (f.Done x) n q = let z : _≡_ {A = ℕ} 0 1 = cc in absurd (omega arith)
+    from (f.Refused m) n q = let z : m ≡ n = cc in ap f.Refused z
+
+abbrev ended-by : Ended → Refusal
+ended-by (e.Report x y) = none
+ended-by (e.Refused n) = by n
+
+of-ended : (x : Ended) (faults : List Fault) → ended-by x ≡ firstFault faults → Refuses x e.Refused faults
+of-ended = refuses e.Refused ended-by (λ n. refl) from
+  where
+    from : (x : Ended) (n : ℕ) → ended-by x ≡ by n → x ≡ e.Refused n
+    from (e.Report x y) n q = let z : _≡_ {A = ℕ} 0 1 = cc in absurd (omega arith)
+    from (e.Refused m) n q = let z : m ≡ n = cc in ap e.Refused z
+
+abbrev outcome-by : Outcome → Refusal
+outcome-by v.Skipped = none
+outcome-by v.Accepted = none
+outcome-by (v.Refused n) = by n
+
+of-outcome : (x : Outcome) (faults : List Fault) → outcome-by x ≡ firstFault faults → Refuses x v.Refused faults
+of-outcome = refuses v.Refused outcome-by (λ n. refl) from
+  where
+    from : (x : Outcome) (n : ℕ) → outcome-by x ≡ by n → x ≡ v.Refused n
+    from v.Skipped n q = let z : _≡_ {A = ℕ} 0 1 = cc in absurd (omega arith)
+    from v.Accepted n q = let z : _≡_ {A = ℕ} 0 1 = cc in absurd (omega arith)
+    from (v.Refused m) n q = let z : m ≡ n = cc in ap v.Refused z
+
+abbrev revoked-by : Revoked → Refusal
+revoked-by (r.Count x) = none
+revoked-by (r.Refused n) = by n
+
+of-revoked : (x : Revoked) (faults : List Fault) → revoked-by x ≡ firstFault faults → Refuses x r.Refused faults
+of-revoked = refuses r.Refused revoked-by (λ n. refl) from
+  where
+    from : (x : Revoked) (n : ℕ) → revoked-by x ≡ by n → x ≡ r.Refused n
+    from (r.Count x) n q = let z : _≡_ {A = ℕ} 0 1 = cc in absurd (omega arith)
+    from (r.Refused m) n q = let z : m ≡ n = cc in ap r.Refused z
+
+abbrev lookup-by : Lookup → Refusal
+lookup-by (lookup.Mapped x y w) = none
+lookup-by lookup.Unmapped = none
+lookup-by (lookup.Refused n) = by n
+
+of-lookup : (x : Lookup) (faults : List Fault) → lookup-by x ≡ firstFault faults → Refuses x lookup.Refused faults
+of-lookup = refuses lookup.Refused lookup-by (λ n. refl) from
+  where
+    from : (x : Lookup) (n : ℕ) → lookup-by x ≡ by n → x ≡ lookup.Refused n
+    from (lookup.Mapped x y w) n q = let z : _≡_ {A = ℕ} 0 1 = cc in absurd (omega arith)
+    from lookup.Unmapped n q = let z : _≡_ {A = ℕ} 0 1 = cc in absurd (omega arith)
+    from (lookup.Refused m) n q = let z : m ≡ n = cc in ap lookup.Refused z
+
+abbrev label-by : Label → Refusal
+label-by (label.Number x) = none
+label-by label.Nothing = none
+label-by (label.Refused n) = by n
+
+of-label : (x : Label) (faults : List Fault) → label-by x ≡ firstFault faults → Refuses x label.Refused faults
+of-label = refuses label.Refused label-by (λ n. refl) from
+  where
+    from : (x : Label) (n : ℕ) → label-by x ≡ by n → x ≡ label.Refused n
+    from (label.Number x) n q = let z : _≡_ {A = ℕ} 0 1 = cc in absurd (omega arith)
+    from label.Nothing n q = let z : _≡_ {A = ℕ} 0 1 = cc in absurd (omega arith)
+    from (label.Refused m) n q = let z : m ≡ n = cc in ap label.Refused z
+
+abbrev answer-by : Answer → Refusal
+answer-by (a.Granted x y) = none
+answer-by (a.Denied x) = none
+answer-by (a.Override x) = none
+answer-by (a.Refused n) = by n
+
+of-answer : (x : Answer) (faults : List Fault) → answer-by x ≡ firstFault faults → Refuses x a.Refused faults
+of-answer = refuses a.Refused answer-by (λ n. refl) from
+  where
+    from : (x : Answer) (n : ℕ) → answer-by x ≡ by n → x ≡ a.Refused n
+    from (a.Granted x y) n q = let z : _≡_ {A = ℕ} 0 1 = cc in absurd (omega arith)
+    from (a.Denied x) n q = let z : _≡_ {A = ℕ} 0 1 = cc in absurd (omega arith)
+    from (a.Override x) n q = let z : _≡_ {A = ℕ} 0 1 = cc in absurd (omega arith)
+    from (a.Refused m) n q = let z : m ≡ n = cc in ap a.Refused z
+
+abbrev output-by : Output → Refusal
+output-by (l.Length x) = none
+output-by (l.Refused n) = by n
+
+of-output : (x : Output) (faults : List Fault) → output-by x ≡ firstFault faults → Refuses x l.Refused faults
+of-output = refuses l.Refused output-by (λ n. refl) from
+  where
+    from : (x : Output) (n : ℕ) → output-by x ≡ by n → x ≡ l.Refused n
+    from (l.Length x) n q = let z : _≡_ {A = ℕ} 0 1 = cc in absurd (omega arith)
+    from (l.Refused m) n q = let z : m ≡ n = cc in ap l.Refused z
+
+-- and what a write is judged by
+abbrev stateFaults : Store → List Fault → List Fault
+stateFaults st more = 0 when not (undamagedOf st) ∷ more
+
+abbrev writeFaults : List ℕ → List Fault → List Fault
+writeFaults text more = 1 when ltb 600 (length text) ∷ more
+
+abbrev judged-by : Judged → Refusal
+judged-by is-skipped = none
+judged-by (is-refused n) = by n
+judged-by (is-accepted t) = none
+
+done-judged : (j : Judged) → done-by (doneOf j) ≡ judged-by j
+done-judged is-skipped = refl
+done-judged (is-refused n) = refl
+done-judged (is-accepted t) = refl
+
+outcome-judged : (j : Judged) → outcome-by (outcomeOf j) ≡ judged-by j
+outcome-judged is-skipped = refl
+outcome-judged (is-refused n) = refl
+outcome-judged (is-accepted t) = refl
+
+count-judged : (k : ℕ) (j : Judged) → revoked-by (countOf k j) ≡ judged-by j
+count-judged k is-skipped = refl
+count-judged k (is-refused n) = refl
+count-judged k (is-accepted t) = refl
+
+-- ---- the test of the state comes first
+
+state-first :
+    {A : Type 0} (refusal : A → Refusal) (b : Bool) (x y : A) (more : Refusal) →
+    refusal y ≡ by 0 →
+    (b ≡ true → refusal x ≡ more) →
+    refusal (cond b x y) ≡ cond (not b) (by 0) more
+state-first refusal true x y more e h = h refl
+state-first refusal false x y more e h = e
+
+-- ---- a fresh table, a piece, the end call
+
+fresh-first : (st : Store) → Refuses (freshAnswer st) d.Refused (freshFaults st)
+unfolding freshAnswer freshWrite
+fresh-first st = of-done _ (freshFaults st) (state-first (λ j. done-by (doneOf j)) (fullSizes st) (is-accepted fresh) (is-refused 0) none refl (λ u. refl))
+
+piece-first : (s : Load) (text : List ℕ) → Refuses (pieceAnswer s text) f.Refused (loaderFaults s)
+unfolding pieceAnswer
+piece-first s text = of-fed _ (loaderFaults s) (state-first fed-by (ready s) _ (f.Refused 0) none refl (λ u. refl))
+
+end-first : (s : Load) → Refuses (endAnswer s) e.Refused (loaderFaults s)
+unfolding endAnswer
+end-first s = of-ended _ (loaderFaults s) (state-first ended-by (ready s) _ (e.Refused 0) none refl (λ u. refl))
+
+-- ---- tests said otherwise
+
+-- more than the free ones of n places
+over-free : (places n k : ℕ) → n ≤ places → ltb places (n + k) ≡ ltb (places - n) k
+over-free places n k h = by-test (ltb places (n + k)) refl
+  where
+    by-test : (b : Bool) → ltb places (n + k) ≡ b → b ≡ ltb (places - n) k
+    by-test true q = sym (lt-ltb (places - n) k (omega (arith, ltb-true places (n + k) q)))
+    by-test false q = sym (le-ltb (places - n) k (omega (arith, ltb-false places (n + k) q)))
+
+-- of a table that has no more entries than it may have, it may have no more exactly when it has them all
+full : (limit n : ℕ) → n ≤ limit → leb limit n ≡ eqb n limit
+full limit n h = by-test (leb limit n) refl
+  where
+    by-test : (b : Bool) → leb limit n ≡ b → b ≡ eqb n limit
+    by-test true q = sym (eq-eqb n limit (omega (arith, leb-true limit n q)))
+    by-test false q = sym (ne-eqb n limit (λ z. omega (arith, leb-false limit n q)))
+
+not-ltb : (a b : ℕ) → not (ltb a b) ≡ leb b a
+not-ltb a b = by-test (ltb a b) refl
+  where
+    by-test : (x : Bool) → ltb a b ≡ x → not x ≡ leb b a
+    by-test true q = sym (lt-leb _ _ (ltb-true a b q))
+    by-test false q = sym (le-leb _ _ (ltb-false a b q))
+
+not-leb : (a b : ℕ) → not (leb a b) ≡ ltb b a
+not-leb a b = by-test (leb a b) refl
+  where
+    by-test : (x : Bool) → leb a b ≡ x → not x ≡ ltb b a
+    by-test true q = sym (le-ltb _ _ (leb-true a b q))
+    by-test false q = sym (lt-ltb _ _ (leb-false a b q))
+
+-- ---- a pair, in tables within their limits
+
+module _ (t : Table) (few-labels : length (t .labels) ≤ 64) (few-rules : length (t .rules) ≤ 256) where
+  no-rule-place : (g : Found) → noPlace g (length (t .rules)) 256 ≡ (not (hasRule (modesFound (t .rules) g)) && eqb (length (t .rules)) 256)
+  no-rule-place (At k) = refl
+  no-rule-place Nothing = full 256 (length (t .rules)) few-rules
+
+  pair-first : (s o : List ℕ) (m : ℕ) → sameBytes s o ≡ false → judged-by (pairJudged t s o m) ≡ firstFault (pairFaults t s o)
+  unfolding modesBetween
+  pair-first s o m different =
+      by-tests (ltb 64 (length (pairLabels t s o))) (noPlace (pairRule t s o) (length (t .rules)) 256)
+      ∙ rw (
+        pair-length t s o different,
+        labels-counted (labelIn t s) (labelIn t o) (length (t .labels)),
+        over-free 64 (length (t .labels)) (newLabels (labelIn t s) + newLabels (labelIn t o)) few-labels,
+        no-rule-place (pairRule t s o),
+      )
+    where
+      by-tests : (a b : Bool) → judged-by (cond a (is-refused 6) (cond b (is-refused 7) (is-accepted (withPair t s o m)))) ≡ cond a (by 6) (cond b (by 7) none)
+      by-tests true b = refl
+      by-tests false true = refl
+      by-tests false false = refl
+
+  -- ---- a line of rule text
+
+  rule-first :
+      (s o x : List ℕ) →
+      judged-by (judged t (ruleBy s o x))
+      ≡ cond (badLabels s o) (by 3) (cond (badBytes ruleLetters true x) (by 4) (cond (sameBytes s o) (by 5) (firstFault (pairFaults t s o))))
+  unfolding ruleBy readModes
+  rule-first s o x = by-tests (wellFormed s) (wellFormed o) (all (allowedByte ruleLetters true) x)
+    where
+      by-same :
+          (b : Bool) →
+          sameBytes s o ≡ b →
+          judged-by (judged t (cond b (refused 5) (rule s o (modesOf x)))) ≡ cond b (by 5) (firstFault (pairFaults t s o))
+      by-same true q = refl
+      by-same false q = pair-first s o (modesOf x) q
+
+      by-tests :
+          (a b c : Bool) →
+          judged-by (judged t (cond (a && b) (ruleWith s o (cond c (Modes (modesOf x)) Bad)) (refused 3)))
+          ≡ cond (not a || not b) (by 3) (cond (not c) (by 4) (cond (sameBytes s o) (by 5) (firstFault (pairFaults t s o))))
+      by-tests false b c = refl
+      by-tests true false c = refl
+      by-tests true true false = refl
+      by-tests true true true = by-same (sameBytes s o) refl
+
+  line-fields : (fs : List (List ℕ)) → judged-by (judged t (ruleFields fs)) ≡ firstFault (cond (eqb (length fs) 0) [] (ruleFaults t fs))
+  line-fields [] = refl
+  line-fields (s ∷ []) = refl
+  line-fields (s ∷ o ∷ []) = refl
+  line-fields (s ∷ o ∷ x ∷ []) = rule-first s o x
+  line-fields (s ∷ o ∷ x ∷ y ∷ more) =
+      rw (ne-eqb (length (s ∷ o ∷ x ∷ y ∷ more)) 0 (λ q. omega arith), ne-eqb (length (s ∷ o ∷ x ∷ y ∷ more)) 3 (λ q. omega arith))
+
+  line-first : (text : List ℕ) → judged-by (judged t (ruleOf text)) ≡ firstFault (lineFaults t text)
+  unfolding ruleOf
+  line-first text = by-length (ltb 600 (length text))
+    where
+      by-length :
+          (b : Bool) →
+          judged-by (judged t (cond b (refused 1) (ruleFields (fields text))))
+          ≡ cond b (by 1) (firstFault (cond (eqb (length (fields text)) 0) [] (ruleFaults t (fields text))))
+      by-length true = refl
+      by-length false = line-fields (fields text)
+
+  -- ---- change
+
+  change-by :
+      (s o x y : List ℕ) →
+      judged-by (judged t (changeBy s o x y))
+      ≡ cond (badLabels s o) (by 3)
+      (cond (badBytes changeLetters true x || badBytes changeLetters true y) (by 4) (cond (sameBytes s o) (by 5) (firstFault (pairFaults t s o))))
+  unfolding changeBy readModes
+  change-by s o x y = by-tests (wellFormed s) (wellFormed o) (all (allowedByte changeLetters true) x) (all (allowedByte changeLetters true) y)
+    where
+      by-same :
+          (b : Bool) →
+          sameBytes s o ≡ b →
+          judged-by (judged t (cond b (refused 5) (change s o (modesOf x) (modesOf y)))) ≡ cond b (by 5) (firstFault (pairFaults t s o))
+      by-same true q = refl
+      by-same false q = pair-first s o (changed (modesSoFar (modesBetween t s o)) (modesOf x) (modesOf y)) q
+
+      by-tests :
+          (a b c d : Bool) →
+          judged-by (judged t (cond (a && b) (changeWith s o (cond c (Modes (modesOf x)) Bad) (cond d (Modes (modesOf y)) Bad)) (refused 3)))
+          ≡ cond (not a || not b) (by 3) (cond (not c || not d) (by 4) (cond (sameBytes s o) (by 5) (firstFault (pairFaults t s o))))
+      by-tests false b c d = refl
+      by-tests true false c d = refl
+      by-tests true true false d = refl
+      by-tests true true true false = refl
+      by-tests true true true true = by-same (sameBytes s o) refl
+
+  change-fields : (fs : List (List ℕ)) → judged-by (judged t (changeFields fs)) ≡ firstFault (changeFieldFaults t fs)
+  change-fields [] = refl
+  change-fields (s ∷ []) = refl
+  change-fields (s ∷ o ∷ []) = refl
+  change-fields (s ∷ o ∷ x ∷ []) = refl
+  change-fields (s ∷ o ∷ x ∷ y ∷ []) = change-by s o x y
+  change-fields (s ∷ o ∷ x ∷ y ∷ z ∷ more) = rw (ne-eqb (length (s ∷ o ∷ x ∷ y ∷ z ∷ more)) 4 (λ q. omega arith))
+
+  change-judged : (text : List ℕ) → judged-by (changeWrite text t) ≡ cond (ltb 600 (length text)) (by 1) (firstFault (changeFieldFaults t (fields text)))
+  unfolding changeOf
+  change-judged text = by-length (ltb 600 (length text))
+    where
+      by-length :
+          (b : Bool) →
+          judged-by (judged t (cond b (refused 1) (changeFields (fields text)))) ≡ cond b (by 1) (firstFault (changeFieldFaults t (fields text)))
+      by-length true = refl
+      by-length false = change-fields (fields text)
+
+-- ---- of a lent state
+
+labels-few : (st : Store) → undamagedOf st ≡ true → length (tableOf st .labels) ≤ 64
+labels-few st u = rw (entries-length (labelAt (st .labels)) (getD (st .words) 0 0)) (undamaged-is st u .counts .labels)
+
+rules-few : (st : Store) → undamagedOf st ≡ true → length (tableOf st .rules) ≤ 256
+rules-few st u = rw (entries-length (ruleAt (st .entries)) (getD (st .words) 1 0)) (undamaged-is st u .counts .rules)
+
+mappings-few : (st : Store) → undamagedOf st ≡ true → length (tableOf st .mappings) ≤ 32
+mappings-few st u = rw (entries-length (mappingAt (st .entries) (st .words)) (getD (st .words) 2 0)) (undamaged-is st u .counts .mappings)
+
+-- a write that answers done
+write-first :
+    (st : Store) (write : Table → Judged) (more : List Fault) →
+    (undamagedOf st ≡ true → judged-by (write (tableOf st)) ≡ firstFault more) →
+    Refuses (doneOf (onState st write)) d.Refused (stateFaults st more)
+unfolding onState
+write-first st write more h =
+    of-done _ (stateFaults st more)
+    (state-first (λ j. done-by (doneOf j)) (undamagedOf st) (write (tableOf st)) (is-refused 0) (firstFault more) refl
+    (λ u. done-judged (write (tableOf st)) ∙ h u))
+
+line-refused : (st : Store) (text : List ℕ) → undamagedOf st ≡ true → Refuses (lineOutcome st text) v.Refused (lineFaults (tableOf st) text)
+unfolding lineOutcome
+line-refused st text u =
+    of-outcome _ (lineFaults (tableOf st) text)
+    (outcome-judged (judged (tableOf st) (ruleOf text)) ∙ line-first (tableOf st) (labels-few st u) (rules-few st u) text)
+
+change-refused : (st : Store) (text : List ℕ) → Refuses (changeAnswer st text) d.Refused (changeFaults st text)
+unfolding changeAnswer
+change-refused st text =
+    write-first st (changeWrite text) (writeFaults text (changeFieldFaults (tableOf st) (fields text)))
+    (λ u. change-judged (tableOf st) (labels-few st u) (rules-few st u) text)
+
+-- ---- revoke
+
+revoke-refused : (st : Store) (text : List ℕ) → Refuses (revokeAnswer st text) r.Refused (revokeFaults st text)
+unfolding revokeAnswer onState revokeWrite
+revoke-refused st text =
+    of-revoked _ (revokeFaults st text)
+    (state-first (λ j. revoked-by (countOf k j)) (undamagedOf st) (revokeWrite text (tableOf st)) (is-refused 0) _ refl
+    (λ u. count-judged k (revokeWrite text (tableOf st)) ∙ by-tests (ltb 600 (length text)) (wellFormed text)))
+  where
+    k : ℕ
+    k = revokeCount text (tableOf st)
+
+    by-tests :
+        (a b : Bool) →
+        judged-by (cond a (is-refused 1) (cond b (is-accepted (withoutModes (tableOf st) (labelIn (tableOf st) text))) (is-refused 3)))
+        ≡ cond a (by 1) (cond (not b) (by 3) none)
+    by-tests true b = refl
+    by-tests false true = refl
+    by-tests false false = refl
+
+-- ---- the override list, in tables within their limits
+
+different-many : (fs : List (List ℕ)) → length (different fs) ≡ length (differentOnes fs)
+different-many fs = let k = ap length (those-all (differentOnes fs)) in omega (arith, entered-many fs [])
+
+module _ (t : Table) (few-labels : length (t .labels) ≤ 64) where
+  labels-first : (fs : List (List ℕ)) → judged-by (onlycapLabels t fs) ≡ firstFault (labelFaults t fs)
+  labels-first fs =
+      by-tests (all wellFormed fs) (ltb 8 (length (different fs))) (ltb 64 (length (labelsWith t fs)))
+      ∙ rw (different-many fs, entered-many fs (t .labels), over-free 64 (length (t .labels)) (length (newOnes (t .labels) fs)) few-labels)
+    where
+      by-tests :
+          (a b c : Bool) →
+          judged-by (cond a (cond b (is-refused 11) (cond c (is-refused 6) (is-accepted (withList t fs)))) (is-refused 3))
+          ≡ cond (not a) (by 3) (cond b (by 11) (cond c (by 6) none))
+      by-tests false b c = refl
+      by-tests true true c = refl
+      by-tests true false true = refl
+      by-tests true false false = refl
+
+  lone-dash : (fs : List (List ℕ)) → loneDash fs ≡ clears fs
+  lone-dash [] = refl
+  lone-dash (x ∷ []) = refl
+  lone-dash (x ∷ y ∷ more) = rw (ne-eqb (length (x ∷ y ∷ more)) 1 (λ q. omega arith))
+
+  override-first : (fs : List (List ℕ)) → judged-by (onlycapFields t fs) ≡ firstFault (overrideFaults t fs)
+  override-first [] = refl
+  override-first (x ∷ more) = rw (ne-eqb (length (x ∷ more)) 0 (λ q. omega arith)) (by-dash (loneDash (x ∷ more)) (lone-dash (x ∷ more)))
+    where
+      by-dash :
+          (b : Bool) →
+          b ≡ clears (x ∷ more) →
+          judged-by (cond b (is-accepted (withOnlycap t [])) (onlycapLabels t (x ∷ more))) ≡ firstFault (cond (clears (x ∷ more)) [] (labelFaults t (x ∷ more)))
+      by-dash true q = rw (← q)
+      by-dash false q = rw (← q) (labels-first (x ∷ more))
+
+  onlycap-judged : (text : List ℕ) → judged-by (onlycapWrite text t) ≡ firstFault (writeFaults text (overrideFaults t (fields text)))
+  unfolding onlycapWrite
+  onlycap-judged text = by-length (ltb 600 (length text))
+    where
+      by-length : (b : Bool) → judged-by (cond b (is-refused 1) (onlycapFields t (fields text))) ≡ cond b (by 1) (firstFault (overrideFaults t (fields text)))
+      by-length true = refl
+      by-length false = override-first (fields text)
+
+onlycap-refused : (st : Store) (text : List ℕ) → Refuses (onlycapAnswer st text) d.Refused (onlycapFaults st text)
+unfolding onlycapAnswer
+onlycap-refused st text =
+    write-first st (onlycapWrite text) (writeFaults text (overrideFaults (tableOf st) (fields text))) (λ u. onlycap-judged (tableOf st) (labels-few st u) text)
+
+-- ---- mapping
+
+-- of what is built by a test, both ways that the test can go
+either : {A : Type 0} (refusal : A → Refusal) (b : Bool) {x y : A} {m n : Refusal} → refusal x ≡ m → refusal y ≡ n → refusal (cond b x y) ≡ cond b m n
+either refusal true g h = g
+either refusal false g h = h
+
+module _ (t : Table) (few-labels : length (t .labels) ≤ 64) (few-mappings : length (t .mappings) ≤ 32) (sound : SoundTable t) where
+  no-label-place : (g : Found) → noPlace g (length (t .labels)) 64 ≡ ltb (freePlaces t) (newLabels g)
+  no-label-place (At k) = sym (le-ltb (64 - length (t .labels)) 0 (omega arith))
+  no-label-place Nothing = by-test (leb 64 (length (t .labels))) refl
+    where
+      by-test : (b : Bool) → leb 64 (length (t .labels)) ≡ b → b ≡ ltb (64 - length (t .labels)) 1
+      by-test true q = sym (lt-ltb (64 - length (t .labels)) 1 (omega (arith, leb-true 64 (length (t .labels)) q)))
+      by-test false q = sym (le-ltb (64 - length (t .labels)) 1 (omega (arith, leb-false 64 (length (t .labels)) q)))
+
+  -- no mapping names the number that a new label gets
+  mappings-sound : all (soundMapping (length (t .labels))) (t .mappings) ≡ true
+  unfolding soundTable
+  mappings-sound =
+      let n = length (t .labels) in
+      let a = and-both (all (soundRule n) (t .rules) && all (soundMapping n) (t .mappings)) (all (λ (k : ℕ). ltb k n) (t .onlycap)) sound in
+      and-both (all (soundRule n) (t .rules)) (all (soundMapping n) (t .mappings)) (a .0) .1
+
+  new-unmapped : mappingIn t (length (t .labels)) ≡ Nothing
+  unfolding soundMapping names
+  new-unmapped =
+      first-none (names (length (t .labels))) nowhere (t .mappings)
+      (λ k h.
+      let m = getD (t .mappings) k nowhere in
+      let e = all-at (soundMapping (length (t .labels))) nowhere (t .mappings) mappings-sound k h in
+      let c = and-both (ltb (m .label) (length (t .labels))) (knownSet (m .set)) e in
+      ne-eqb (m .label) (length (t .labels)) (λ q. omega (arith, ltb-true (m .label) (length (t .labels)) (c .0))))
+    where
+      nowhere : Mapping
+      nowhere = record { label = 0; level = 0; set = 0 }
+
+  no-mapping-place :
+      (x : List ℕ) →
+      noPlace (cipso.mappingFor t x) (length (t .mappings)) 32 ≡ (not (hasMapping t (labelIn t x)) && eqb (length (t .mappings)) 32)
+  no-mapping-place x = by-label (labelIn t x)
+    where
+      by-mapping : (g : Found) → noPlace g (length (t .mappings)) 32 ≡ (not (isFound g) && eqb (length (t .mappings)) 32)
+      by-mapping (At k) = refl
+      by-mapping Nothing = full 32 (length (t .mappings)) few-mappings
+
+      by-label :
+          (g : Found) →
+          noPlace (mappingIn t (placeOf g (length (t .labels)))) (length (t .mappings)) 32 ≡ (not (hasMapping t g) && eqb (length (t .mappings)) 32)
+      by-label (At n) = by-mapping (mappingIn t n)
+      by-label Nothing = rw new-unmapped (full 32 (length (t .mappings)) few-mappings)
+
+  abbrev roomFaults : List ℕ → List Fault
+  roomFaults x =
+      6 when ltb (freePlaces t) (newLabels (labelIn t x)) ∷ 10 when (not (hasMapping t (labelIn t x)) && eqb (length (t .mappings)) 32) ∷ []
+
+  room-first : (x : List ℕ) (level s : ℕ) → judged-by (cipso.mappingJudged t x level s) ≡ firstFault (roomFaults x)
+  room-first x level s =
+      by-tests (noPlace (labelIn t x) (length (t .labels)) 64) (noPlace (cipso.mappingFor t x) (length (t .mappings)) 32)
+      ∙ rw (no-label-place (labelIn t x), no-mapping-place x)
+    where
+      by-tests :
+          (a b : Bool) →
+          judged-by (cond a (is-refused 6) (cond b (is-refused 10) (is-accepted (cipso.withMapping t x level s)))) ≡ cond a (by 6) (cond b (by 10) none)
+      by-tests true b = refl
+      by-tests false true = refl
+      by-tests false false = refl
+
+  -- fields make a set exactly when each is a category: one that is none makes the fault, which stays
+  with-fault :
+      (x : List ℕ) (level : ℕ) (fs : List (List ℕ)) →
+      judged-by (cipso.saidJudged t (cipso.withSet x level (foldl cipso.withField (cipso.withNumber 0 number.Bad) fs))) ≡ by 9
+  with-fault x level [] = refl
+  with-fault x level (g ∷ fs) = with-fault x level fs
+
+  with-categories :
+      (x : List ℕ) (level s : ℕ) (fs : List (List ℕ)) →
+      judged-by (cipso.saidJudged t (cipso.withSet x level (categoriesFrom s fs))) ≡ cond (not (all categoryField fs)) (by 9) (firstFault (roomFaults x))
+  unfolding all
+  with-categories x level s [] = room-first x level s
+  with-categories x level s (g ∷ fs) = by-number (numberOf g) (λ k. with-categories x level (withCategory s k) fs)
+    where
+      by-test : (b c : Bool) → cond b (cond (not c) (by 9) (firstFault (roomFaults x))) (by 9) ≡ cond (not (b && c)) (by 9) (firstFault (roomFaults x))
+      by-test true c = refl
+      by-test false c = refl
+
+      by-number :
+          (k : Number) →
+          ((n : ℕ) →
+          judged-by (cipso.saidJudged t (cipso.withSet x level (categoriesFrom (withCategory s n) fs)))
+          ≡ cond (not (all categoryField fs)) (by 9) (firstFault (roomFaults x))) →
+          judged-by (cipso.saidJudged t (cipso.withSet x level (foldl cipso.withField (cipso.withNumber s k) fs)))
+          ≡ cond (not (numberPasses isCategory k && all categoryField fs)) (by 9) (firstFault (roomFaults x))
+      by-number number.Bad more = with-fault x level fs
+      by-number (number.Value n) more =
+          either (λ cs. judged-by (cipso.saidJudged t (cipso.withSet x level (foldl cipso.withField cs fs)))) (isCategory n) (more n) (with-fault x level fs)
+          ∙ by-test (isCategory n) (all categoryField fs)
+
+  mapping-by :
+      (x level : List ℕ) (fs : List (List ℕ)) →
+      judged-by (cipso.saidJudged t (cipso.saidBy x level fs))
+      ≡ cond (not (wellFormed x)) (by 3) (cond (not (levelField level) || not (all categoryField fs)) (by 9) (firstFault (roomFaults x)))
+  unfolding cipso.saidBy
+  mapping-by x level fs = by-formed (wellFormed x)
+    where
+      by-test :
+          (n : ℕ) (b : Bool) →
+          judged-by (cipso.saidJudged t (cond b (cipso.withSet x n (cipso.categoriesOf fs)) (cipso.refused 9)))
+          ≡ cond (not b || not (all categoryField fs)) (by 9) (firstFault (roomFaults x))
+      by-test n true = rw (categories-start fs) (with-categories x n 0 fs)
+      by-test n false = refl
+
+      by-level :
+          (k : Number) →
+          judged-by (cipso.saidJudged t (cipso.withLevel x k (cipso.categoriesOf fs)))
+          ≡ cond (not (numberPasses isLevel k) || not (all categoryField fs)) (by 9) (firstFault (roomFaults x))
+      by-level number.Bad = refl
+      by-level (number.Value n) = by-test n (isLevel n)
+
+      by-formed :
+          (b : Bool) →
+          judged-by (cipso.saidJudged t (cond b (cipso.withLevel x (numberOf level) (cipso.categoriesOf fs)) (cipso.refused 3)))
+          ≡ cond (not b) (by 3) (cond (not (levelField level) || not (all categoryField fs)) (by 9) (firstFault (roomFaults x)))
+      by-formed true = by-level (numberOf level)
+      by-formed false = refl
+
+  mapping-fields : (fs : List (List ℕ)) → judged-by (cipso.saidJudged t (cipso.saidFields fs)) ≡ firstFault (mappingFieldFaults t fs)
+  mapping-fields [] = refl
+  mapping-fields (x ∷ []) = refl
+  mapping-fields (x ∷ level ∷ fs) = rw (le-ltb (length (x ∷ level ∷ fs)) 2 (omega arith)) (mapping-by x level fs)
+
+  mapping-judged : (text : List ℕ) → judged-by (cipso.mappingWrite text t) ≡ firstFault (writeFaults text (mappingFieldFaults t (fields text)))
+  unfolding cipso.mappingWrite cipso.mappingOf
+  mapping-judged text = by-length (ltb 600 (length text))
+    where
+      by-length :
+          (b : Bool) →
+          judged-by (cipso.saidJudged t (cond b (cipso.refused 1) (cipso.saidFields (fields text))))
+          ≡ cond b (by 1) (firstFault (mappingFieldFaults t (fields text)))
+      by-length true = refl
+      by-length false = mapping-fields (fields text)
+
+mapping-refused : (st : Store) (text : List ℕ) → Refuses (cipso.mapAnswer st text) d.Refused (mappingFaults st text)
+unfolding cipso.mapAnswer
+mapping-refused st text =
+    write-first st (cipso.mappingWrite text) (writeFaults text (mappingFieldFaults (tableOf st) (fields text)))
+    (λ u. mapping-judged (tableOf st) (labels-few st u) (mappings-few st u) (undamaged-sound st u) text)
+
+-- ---- the lookups
+
+by-label-refused : (st : Store) (x : List ℕ) → Refuses (byLabelOf st x) lookup.Refused (byLabelFaults st x)
+unfolding byLabelOf labelLookup
+by-label-refused st x = of-lookup _ (byLabelFaults st x) (state-first lookup-by (undamagedOf st) _ (lookup.Refused 0) _ refl (λ u. by-test (wellFormed x)))
+  where
+    by-mapping : (at : Found) → lookup-by (lookedUp (tableOf st .mappings) at) ≡ none
+    by-mapping (At i) = refl
+    by-mapping Nothing = refl
+
+    by-place : (at : Found) → lookup-by (lookupBy (tableOf st) at) ≡ none
+    by-place Nothing = refl
+    by-place (At k) = by-mapping (mappingIn (tableOf st) k)
+
+    by-test : (b : Bool) → lookup-by (cond b (lookupBy (tableOf st) (labelIn (tableOf st) x)) (lookup.Refused 3)) ≡ cond (not b) (by 3) none
+    by-test true = by-place (labelIn (tableOf st) x)
+    by-test false = refl
+
+-- a level and a set that can be looked up
+by-sought : (x : Label) (level set : ℕ) → label-by x ≡ none → label-by (cond (sought level set) x (label.Refused 9)) ≡ firstFault (inRunFaults level set)
+unfolding sought
+by-sought x level set e = by-tests (isLevel level) (knownSet set)
+  where
+    by-tests : (a b : Bool) → label-by (cond (a && b) x (label.Refused 9)) ≡ cond (not a || not b) (by 9) none
+    by-tests true true = e
+    by-tests true false = refl
+    by-tests false b = refl
+
+numbered-label : (at : Found) → label-by (numbered at) ≡ none
+numbered-label (At k) = refl
+numbered-label Nothing = refl
+
+by-level-refused : (st : Store) (level set : ℕ) → Refuses (byLevelOf st level set) label.Refused (byLevelFaults st level set)
+unfolding byLevelOf levelLookup
+by-level-refused st level set =
+    of-label _ (byLevelFaults st level set)
+    (state-first label-by (undamagedOf st) _ (label.Refused 0) _ refl
+    (λ u. by-sought _ level set (numbered-label (first (hasBoth (tableOf st) level set) (entries (λ (k : ℕ). k) (length (tableOf st .labels)))))))
+
+run-refused : (records : List Record) (level set : ℕ) → Refuses (run.runOf records level set) label.Refused (inRunFaults level set)
+unfolding run.runOf run.settledOf
+run-refused records level set =
+    of-label _ (inRunFaults level set)
+    (by-sought (run.said (run.lowestOf records level set)) level set (by-best (run.lowestOf records level set)))
+  where
+    by-best : (b : Best) → label-by (run.said b) ≡ none
+    by-best (best.Label k) = refl
+    by-best best.Nothing = refl
+
+-- ---- a question
+
+question-refused : (st : Store) (s o request : List ℕ) (capable : Bool) → Refuses (questionOf st s o request capable) a.Refused (questionFaults st s o request)
+unfolding questionOf answer decide readModes
+question-refused st s o request capable =
+    of-answer _ (questionFaults st s o request)
+    (state-first answer-by (undamagedOf st) _ (a.Refused 0) _ refl
+    (λ u. by-tests (wellFormed s) (wellFormed o) (eqb (length request) 0) (all (allowedByte requestLetters false) request)))
+  where
+    by-verdict : (override : Bool) (x : Verdict) → answer-by (answered override x) ≡ none
+    by-verdict override (verdict.Grants k b) = refl
+    by-verdict true (verdict.Denies x) = refl
+    by-verdict false (verdict.Denies x) = refl
+    by-verdict true verdict.Undecided = refl
+    by-verdict false verdict.Undecided = refl
+
+    by-tests :
+        (p q m n : Bool) →
+        answer-by (cond (p && q) (cond m (a.Refused 8) (byRequest (tableOf st) s o capable (cond n (Modes (modesOf request)) Bad))) (a.Refused 3))
+        ≡ cond (not p || not q) (by 3) (cond (m || not n) (by 8) none)
+    by-tests false q m n = refl
+    by-tests true false m n = refl
+    by-tests true true true n = refl
+    by-tests true true false false = refl
+    by-tests true true false true =
+        by-verdict (effective (tableOf st) (labelIn (tableOf st) s) capable) (firstOf (sevenRules (tableOf st) s o (modesOf request)))
+
+-- ---- a rule and a label by number
+
+listing-refused : (st : Store) (k : ℕ) (out : List ℕ) → Refuses (listAnswer st k out) l.Refused (listingFaults st k out)
+unfolding listAnswer ruleGiven putAnswer
+listing-refused st k out =
+    of-output _ (listingFaults st k out)
+    (state-first (λ x. output-by (textAnswer x out)) (undamagedOf st) _ (output.refused 0) _ refl
+    (λ u. by-number (ltb k (length (tableOf st .rules))) ∙ rw (not-ltb k (length (tableOf st .rules)), not-leb (length given) (length out))))
+  where
+    given : List ℕ
+    given = ruleText (tableOf st) (ruleNumbered (tableOf st) k)
+
+    by-length : (b : Bool) → output-by (cond b (l.Length (length given)) (l.Refused 12)) ≡ cond (not b) (by 12) none
+    by-length true = refl
+    by-length false = refl
+
+    by-number :
+        (b : Bool) →
+        output-by (textAnswer (cond b (output.text given) (output.refused 13)) out)
+        ≡ cond (not b) (by 13) (cond (not (leb (length given) (length out))) (by 12) none)
+    by-number false = refl
+    by-number true = by-length (leb (length given) (length out))
+
+label-refused : (st : Store) (k : ℕ) → Refuses (labelAnswer st k) d.Refused (labelByNumberFaults st k)
+unfolding labelAnswer
+label-refused st k =
+    of-done _ (labelByNumberFaults st k)
+    (state-first done-by (undamagedOf st) _ (d.Refused 0) _ refl
+    (λ u. by-test (ltb k (length (tableOf st .labels))) ∙ rw (not-ltb k (length (tableOf st .labels)))))
+  where
+    by-test : (b : Bool) → done-by (cond b d.Done (d.Refused 13)) ≡ cond (not b) (by 13) none
+    by-test true = refl
+    by-test false = refl
+
+pub first-in-order : FirstInOrder
+first-in-order =
+    record {
+      fresh-table = fresh-first;
+      piece = piece-first;
+      end-call = end-first;
+      line = line-refused;
+      change = change-refused;
+      revoke = revoke-refused;
+      onlycap = onlycap-refused;
+      mapping = mapping-refused;
+      mapping-by-label = by-label-refused;
+      by-level-and-set = by-level-refused;
+      in-a-run = run-refused;
+      question = question-refused;
+      listing = listing-refused;
+      label-by-number = label-refused;
+    }

@@ -1,0 +1,280 @@
+-- Demand 1: bad input is refused by a number from the list. 01, The refusal numbers: of each call the faults that it can have, in 01's order, each as
+-- the test that 01's table says in words, by the fields of the text and the tables as they are; a call is refused by the first that holds, and by
+-- none exactly when none holds. Assumes nothing.
+use Prim.Native.Nat.{ℕ, _+_, _-_}
+use mathlib.Core.Path.{_≡_}
+use mathlib.Core.Bool.{Bool, true, false, cond, not, _&&_, _||_}
+use mathlib.Core.List.{List, [], _∷_}
+use mathlib.Core.Logic.{_↔_}
+use lib.ListN.{length, drop, getD}
+use lib.Dec.{eqb, ltb, leb}
+use Rattle.refusals.specs.Refusals as refusal
+use Rattle.search.specs.Search.{all, those}
+use Rattle.search.specs.Bytes.{sameBytes}
+use Rattle.search.specs.declared.Found.{Found}
+use Rattle.search.specs.declared.Found.the-variants.{At, Nothing}
+use Rattle.alphabet.specs.Alphabet.{wellFormed, fields, lineLimit, dash}
+use Rattle.modes.specs.Modes.{allowedByte, ruleLetters, changeLetters, requestLetters}
+use Rattle.numbers.specs.Numbers.{numberOf}
+use Rattle.numbers.specs.Categories.{isLevel, isCategory, knownSet}
+use Rattle.numbers.specs.declared.Number.{Number}
+use Rattle.numbers.specs.declared.Number.the-variants as number
+use Rattle.store.specs.declared.Done.the-variants as d
+use Rattle.store.specs.Table.{Table, labelIn, mappingIn, ruleNumbered, labelLimit, ruleLimit, mappingLimit, onlycapLimit}
+use Rattle.store.specs.Pairs.{modesBetween}
+use Rattle.store.specs.Layout.{Store, tableOf, fullSizes, undamagedOf}
+use Rattle.store.specs.Judged.{freshAnswer}
+use Rattle.load.specs.Loader.{Load, ready, pieceAnswer, endAnswer}
+use Rattle.load.specs.declared.Fed.the-variants as f
+use Rattle.load.specs.declared.Ended.the-variants as e
+use Rattle.writes.specs.Writes.{lineOutcome, changeAnswer}
+use Rattle.writes.specs.declared.Outcome.the-variants as v
+use Rattle.revoke.specs.Revoke.{revokeAnswer}
+use Rattle.revoke.specs.declared.Revoked.the-variants as r
+use Rattle.onlycap.specs.Onlycap.{onlycapAnswer}
+use Rattle.cipso.specs.Cipso.{mapAnswer}
+use Rattle.lookups.specs.Lookups.{byLabelOf, byLevelOf}
+use Rattle.lookups.specs.declared.Lookup.the-variants as lookup
+use Rattle.lookups.specs.declared.Label.the-variants as label
+use Rattle.run.specs.declared.Record.{Record}
+use Rattle.run.specs.Run.{runOf}
+use Rattle.access.specs.Access.{isFound, questionOf}
+use Rattle.access.specs.declared.Answer.the-variants as a
+use Rattle.listing.specs.Listing.{ruleText, listAnswer, labelAnswer}
+use Rattle.output.specs.declared.Output.the-variants as l
+use Rattle.grown.specs.Pairs.{newLabels, hasRule}
+
+-- ---- the first fault
+
+infix 70 _when_
+-- a refusal's number, and the test for which it is given
+pub record Fault : Type 0 where
+  pub number : ℕ
+  pub holds : Bool
+
+-- `n when test`: the number n is given where the test holds
+abbrev pub _when_ : ℕ → Bool → Fault
+_when_ n test = record { number = n; holds = test }
+
+-- what a list of faults comes to: no refusal, or one by its number
+pub data Refusal : Type 0 where
+  none : Refusal
+  by : ℕ → Refusal
+
+-- 01: the first in this order is given; none where none holds
+abbrev pub firstFault : List Fault → Refusal
+firstFault [] = none
+firstFault (x ∷ xs) = cond (x .holds) (by (x .number)) (firstFault xs)
+
+-- an answer is refused with n exactly when n is the number of the first fault that holds: so it is no refusal exactly when none holds
+abbrev pub Refuses : {A : Type 0} → A → (ℕ → A) → List Fault → Type 0
+Refuses answer refused faults = (n : ℕ) → (answer ≡ refused n) ↔ (firstFault faults ≡ by n)
+
+-- ---- the tests that several calls share
+
+-- a line or write has over 600 bytes
+abbrev pub overLong : List ℕ → Bool
+overLong text = ltb lineLimit (length text)
+
+-- of the fields of a text, field k, from 0
+abbrev pub field : List (List ℕ) → ℕ → List ℕ
+field fs k = getD fs k []
+
+-- of subject and object, one is not well formed
+abbrev pub badLabels : List ℕ → List ℕ → Bool
+badLabels s o = not (wellFormed s) || not (wellFormed o)
+
+-- an access field has a byte not allowed there: it may have these letters, and dashes or none
+abbrev pub badBytes : ℕ → Bool → List ℕ → Bool
+badBytes letters dashes access = not (all (allowedByte letters dashes) access)
+
+-- the free label places
+abbrev pub freePlaces : Table → ℕ
+freePlaces t = labelLimit - length (t .labels)
+
+-- what a pair needs room for: more new labels than free label places; the pair has no rule and 256 are stored
+abbrev pub pairFaults : Table → List ℕ → List ℕ → List Fault
+pairFaults t s o =
+    refusal.labelsFull when ltb (freePlaces t) (newLabels (labelIn t s) + newLabels (labelIn t o))
+    ∷ refusal.rulesFull when (not (hasRule (modesBetween t s o)) && eqb (length (t .rules)) ruleLimit)
+    ∷ []
+
+-- ---- a line of rule text: 1 2 3 4 5 6 7
+
+-- of its fields, subject, object, access
+abbrev pub ruleFaults : Table → List (List ℕ) → List Fault
+ruleFaults t fs =
+    refusal.wrongFields when not (eqb (length fs) 3)
+    ∷ refusal.badLabel when badLabels (field fs 0) (field fs 1)
+    ∷ refusal.badAccess when badBytes ruleLetters true (field fs 2)
+    ∷ refusal.sameLabels when sameBytes (field fs 0) (field fs 1)
+    ∷ pairFaults t (field fs 0) (field fs 1)
+
+-- of the line; where it has no field it is skipped, and has no further fault
+abbrev pub lineFaults : Table → List ℕ → List Fault
+lineFaults t text = refusal.tooLong when overLong text ∷ cond (eqb (length (fields text)) 0) [] (ruleFaults t (fields text))
+
+-- ---- change: the same
+
+-- of its fields, subject, object, allow, deny
+abbrev pub changeFieldFaults : Table → List (List ℕ) → List Fault
+changeFieldFaults t fs =
+    refusal.wrongFields when not (eqb (length fs) 4)
+    ∷ refusal.badLabel when badLabels (field fs 0) (field fs 1)
+    ∷ refusal.badAccess when (badBytes changeLetters true (field fs 2) || badBytes changeLetters true (field fs 3))
+    ∷ refusal.sameLabels when sameBytes (field fs 0) (field fs 1)
+    ∷ pairFaults t (field fs 0) (field fs 1)
+
+-- of the write to a lent state: 0 comes before every other
+abbrev pub changeFaults : Store → List ℕ → List Fault
+changeFaults st text =
+    refusal.damaged when not (undamagedOf st)
+    ∷ refusal.tooLong when overLong text
+    ∷ changeFieldFaults (tableOf st) (fields text)
+
+-- ---- revoke: 1 3
+
+-- the whole buffer is the label
+abbrev pub revokeFaults : Store → List ℕ → List Fault
+revokeFaults st text =
+    refusal.damaged when not (undamagedOf st)
+    ∷ refusal.tooLong when overLong text
+    ∷ refusal.badLabel when not (wellFormed text)
+    ∷ []
+
+-- ---- the override list: 1 2 3 11 6
+
+-- whether a label is among some
+abbrev pub among : List ℕ → List (List ℕ) → Bool
+among x [] = false
+among x (y ∷ ys) = sameBytes x y || among x ys
+
+-- the different labels of a write: each once, where it stands last
+abbrev pub differentOnes : List (List ℕ) → List (List ℕ)
+differentOnes [] = []
+differentOnes (x ∷ xs) = cond (among x xs) (differentOnes xs) (x ∷ differentOnes xs)
+
+-- those of them that are not among the stored ones
+abbrev pub newOnes : List (List ℕ) → List (List ℕ) → List (List ℕ)
+newOnes stored xs = those (λ (x : List ℕ). not (among x stored)) (differentOnes xs)
+
+-- a lone dash, which clears the list
+abbrev pub clears : List (List ℕ) → Bool
+clears fs = eqb (length fs) 1 && sameBytes (field fs 0) (dash ∷ [])
+
+-- of its labels, which are the fields
+abbrev pub labelFaults : Table → List (List ℕ) → List Fault
+labelFaults t fs =
+    refusal.badLabel when not (all wellFormed fs)
+    ∷ refusal.tooManyOverrides when ltb onlycapLimit (length (differentOnes fs))
+    ∷ refusal.labelsFull when ltb (freePlaces t) (length (newOnes (t .labels) fs))
+    ∷ []
+
+-- of its fields; a lone dash has no further fault
+abbrev pub overrideFaults : Table → List (List ℕ) → List Fault
+overrideFaults t fs = refusal.wrongFields when eqb (length fs) 0 ∷ cond (clears fs) [] (labelFaults t fs)
+
+-- of the write to a lent state
+abbrev pub onlycapFaults : Store → List ℕ → List Fault
+onlycapFaults st text = refusal.damaged when not (undamagedOf st) ∷ refusal.tooLong when overLong text ∷ overrideFaults (tableOf st) (fields text)
+
+-- ---- mapping: 1 2 3 9 6 10
+
+-- a field is a number that passes a test
+abbrev pub numberPasses : (ℕ → Bool) → Number → Bool
+numberPasses test (number.Value n) = test n
+numberPasses test number.Bad = false
+
+-- a level, and a category, as 01 has them
+abbrev pub levelField : List ℕ → Bool
+levelField x = numberPasses isLevel (numberOf x)
+
+abbrev pub categoryField : List ℕ → Bool
+categoryField x = numberPasses isCategory (numberOf x)
+
+-- whether a label, by its number, has a mapping; a label that is not in the table has none
+abbrev pub hasMapping : Table → Found → Bool
+hasMapping t (At n) = isFound (mappingIn t n)
+hasMapping t Nothing = false
+
+-- of its fields, label, level, then no or more categories
+abbrev pub mappingFieldFaults : Table → List (List ℕ) → List Fault
+mappingFieldFaults t fs =
+    refusal.wrongFields when ltb (length fs) 2
+    ∷ refusal.badLabel when not (wellFormed (field fs 0))
+    ∷ refusal.badLevelOrCategory when (not (levelField (field fs 1)) || not (all categoryField (drop 2 fs)))
+    ∷ refusal.labelsFull when ltb (freePlaces t) (newLabels (labelIn t (field fs 0)))
+    ∷ refusal.mappingsFull when (not (hasMapping t (labelIn t (field fs 0))) && eqb (length (t .mappings)) mappingLimit)
+    ∷ []
+
+-- of the write to a lent state
+abbrev pub mappingFaults : Store → List ℕ → List Fault
+mappingFaults st text = refusal.damaged when not (undamagedOf st) ∷ refusal.tooLong when overLong text ∷ mappingFieldFaults (tableOf st) (fields text)
+
+-- ---- look-ups: by label 3; by level and set, in the table or a run, 9
+
+-- by label
+abbrev pub byLabelFaults : Store → List ℕ → List Fault
+byLabelFaults st x = refusal.damaged when not (undamagedOf st) ∷ refusal.badLabel when not (wellFormed x) ∷ []
+
+-- in a run: the level is not as above, or the set has a bit that is no category. A run is no part of the state, and never gets 0
+abbrev pub inRunFaults : ℕ → ℕ → List Fault
+inRunFaults level set = refusal.badLevelOrCategory when (not (isLevel level) || not (knownSet set)) ∷ []
+
+-- in the table
+abbrev pub byLevelFaults : Store → ℕ → ℕ → List Fault
+byLevelFaults st level set = refusal.damaged when not (undamagedOf st) ∷ inRunFaults level set
+
+-- ---- question: 3 8
+
+-- the request is empty or has another byte than r w x a, either case
+abbrev pub questionFaults : Store → List ℕ → List ℕ → List ℕ → List Fault
+questionFaults st s o request =
+    refusal.damaged when not (undamagedOf st)
+    ∷ refusal.badLabel when badLabels s o
+    ∷ refusal.badRequest when (eqb (length request) 0 || badBytes requestLetters false request)
+    ∷ []
+
+-- ---- listing: 13 12; label by number: 13
+
+-- no rule of that number; its text is longer than the lent output
+abbrev pub listingFaults : Store → ℕ → List ℕ → List Fault
+listingFaults st k out =
+    refusal.damaged when not (undamagedOf st)
+    ∷ refusal.noSuchNumber when leb (length (tableOf st .rules)) k
+    ∷ refusal.outputTooShort when ltb (length out) (length (ruleText (tableOf st) (ruleNumbered (tableOf st) k)))
+    ∷ []
+
+-- no label of that number
+abbrev pub labelByNumberFaults : Store → ℕ → List Fault
+labelByNumberFaults st k = refusal.damaged when not (undamagedOf st) ∷ refusal.noSuchNumber when leb (length (tableOf st .labels)) k ∷ []
+
+-- ---- a fresh table, a piece, the end call: 0 alone
+
+-- a part has not its full size
+abbrev pub freshFaults : Store → List Fault
+freshFaults st = refusal.damaged when not (fullSizes st) ∷ []
+
+-- the tables or the loader are damaged
+abbrev pub loaderFaults : Load → List Fault
+loaderFaults s = refusal.damaged when not (ready s) ∷ []
+
+-- ---- of every call. A line of rule text is judged in a state that was tested, and its number stands in the report
+
+pub record FirstInOrder : Type 0 where
+  pub fresh-table : (st : Store) → Refuses (freshAnswer st) d.Refused (freshFaults st)
+  pub piece : (s : Load) (text : List ℕ) → Refuses (pieceAnswer s text) f.Refused (loaderFaults s)
+  pub end-call : (s : Load) → Refuses (endAnswer s) e.Refused (loaderFaults s)
+  pub line : (st : Store) (text : List ℕ) → undamagedOf st ≡ true → Refuses (lineOutcome st text) v.Refused (lineFaults (tableOf st) text)
+  pub change : (st : Store) (text : List ℕ) → Refuses (changeAnswer st text) d.Refused (changeFaults st text)
+  pub revoke : (st : Store) (text : List ℕ) → Refuses (revokeAnswer st text) r.Refused (revokeFaults st text)
+  pub onlycap : (st : Store) (text : List ℕ) → Refuses (onlycapAnswer st text) d.Refused (onlycapFaults st text)
+  pub mapping : (st : Store) (text : List ℕ) → Refuses (mapAnswer st text) d.Refused (mappingFaults st text)
+  pub mapping-by-label : (st : Store) (x : List ℕ) → Refuses (byLabelOf st x) lookup.Refused (byLabelFaults st x)
+  pub by-level-and-set : (st : Store) (level set : ℕ) → Refuses (byLevelOf st level set) label.Refused (byLevelFaults st level set)
+  pub in-a-run : (run : List Record) (level set : ℕ) → Refuses (runOf run level set) label.Refused (inRunFaults level set)
+  pub question :
+      (st : Store) (s o request : List ℕ) (capable : Bool) →
+      Refuses (questionOf st s o request capable) a.Refused (questionFaults st s o request)
+  pub listing : (st : Store) (k : ℕ) (out : List ℕ) → Refuses (listAnswer st k out) l.Refused (listingFaults st k out)
+  pub label-by-number : (st : Store) (k : ℕ) → Refuses (labelAnswer st k) d.Refused (labelByNumberFaults st k)
