@@ -20,9 +20,8 @@ ghost use Rattle.program.specs.Steps as steps;
 ghost use Rattle.program.specs.Within as within;
 ghost use Rattle.replies.specs.Replies.{lineRoom};
 
-const NEWLINE: u8 = 10;
-
-const MARK: u8 = 63;
+// A line that is exactly this byte ends the rule text.
+const MARK: u8 = b'?';
 
 // The session between two calls: whether rule text is still read, and the loader, whose kept line is the line under way.
 pub struct Session {
@@ -90,11 +89,11 @@ fn text_end(input: &[u8], empty: bool, marked: bool) -> usize
     let mut i = 0;
     while i < input.len() {
         let b = input[i];
-        if lone & (b == NEWLINE) {
+        if lone & (b == alphabet::NEWLINE) {
             return i;
         }
         lone = none & (b == MARK);
-        none = b == NEWLINE;
+        none = b == alphabet::NEWLINE;
         i += 1;
     }
     i
@@ -128,8 +127,7 @@ fn question_line(labels: &[u8], entries: &[u8], words: &[u64], line: &[u8]) -> A
     let Field::End = alphabet::next_field(line, h) else {
         return Answer::Refused(refusals::WRONG_FIELDS);
     };
-    let capability = [111u8];
-    if search::same_bytes(&line[g..h], &capability) {
+    if search::same_bytes(&line[g..h], b"o") {
         return access::question(
             labels,
             entries,

@@ -4,7 +4,7 @@ use mathlib.Core.Bool.{Bool, true, false, cond}
 use mathlib.Core.List.{List, [], _∷_, _++_}
 use lib.Dec.{ltb}
 use Rattle.search.specs.Bytes.{ascii}
-use Rattle.alphabet.specs.Alphabet.{newline}
+use Rattle.alphabet.specs.Alphabet.{space, newline}
 use Rattle.answers.specs.Answers.{shown}
 use Rattle.reports.specs.declared.Report.{Report}
 use Rattle.access.specs.declared.Answer.{Answer}
@@ -22,7 +22,7 @@ decimal n = digits (suc n) n
 abbrev pub numbersLine : List ℕ → List ℕ
 numbersLine [] = newline ∷ []
 numbersLine (n ∷ []) = decimal n ++ (newline ∷ [])
-numbersLine (n ∷ m ∷ ms) = (decimal n ++ (32 ∷ [])) ++ numbersLine (m ∷ ms)
+numbersLine (n ∷ m ∷ ms) = (decimal n ++ (space ∷ [])) ++ numbersLine (m ∷ ms)
 
 -- the most bytes of a line that is written: six numbers of at most ten digits, each with a blank or the newline
 abbrev pub lineRoom : ℕ

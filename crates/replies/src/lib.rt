@@ -16,11 +16,11 @@ fn write_number(out: &mut [u8], at: usize, n: u32) -> usize
     ensures { λ r. ⌜ Put 10 (now (out .entry)) at (decimal n) (now (out .exit)) r ⌝ }
 {
     if n < 10 {
-        out[at] = 48 + n as u8;
+        out[at] = b'0' + n as u8;
         return at + 1;
     }
     let next = write_number(out, at, n / 10);
-    out[next] = 48 + (n % 10) as u8;
+    out[next] = b'0' + (n % 10) as u8;
     next + 1
 }
 
@@ -39,12 +39,12 @@ pub fn write_report(out: &mut [u8], at: usize, report: Report) -> usize
     requires { ⌜ at + lineRoom ≤ length (now out) ⌝ }
     ensures { λ r. ⌜ Put lineRoom (now (out .entry)) at (reportText report) (now (out .exit)) r ⌝ }
 {
-    let a = write_field(out, at, report.lines, 32);
-    let b = write_field(out, a, report.accepted, 32);
-    let c = write_field(out, b, report.skipped, 32);
-    let d = write_field(out, c, report.refused, 32);
-    let e = write_field(out, d, report.first, 32);
-    write_field(out, e, report.reason as u32, 10)
+    let a = write_field(out, at, report.lines, alphabet::SPACE);
+    let b = write_field(out, a, report.accepted, alphabet::SPACE);
+    let c = write_field(out, b, report.skipped, alphabet::SPACE);
+    let d = write_field(out, c, report.refused, alphabet::SPACE);
+    let e = write_field(out, d, report.first, alphabet::SPACE);
+    write_field(out, e, report.reason as u32, alphabet::NEWLINE)
 }
 
 // Writes an answer's word and a space.
@@ -84,6 +84,6 @@ pub fn write_answer(out: &mut [u8], at: usize, answer: Answer) -> usize
         search::copy_at(out, end, b" b\n");
         return end + 3;
     }
-    out[end] = 10;
+    out[end] = alphabet::NEWLINE;
     end + 1
 }
