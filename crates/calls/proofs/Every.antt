@@ -83,7 +83,7 @@ use Rattle.host.proofs.Laws.{label-stands}
 use Rattle.lists.specs.Called.{Called}
 use Rattle.lists.specs.Reader as r
 use Rattle.lists.specs.Reader.{Ask, Write, Call, Reply}
-use Rattle.calls.specs.Calls.{Answers, Writes, Runs, none, a-piece, an-end, an-ask, a-write, a-question, a-change, a-revoke, an-onlycap, a-mapping, a-look-up, a-search, a-listing, a-label, a-check, taken-reply, finished-reply, written-reply, counted-reply, part-reply}
+use Rattle.calls.specs.Calls.{Answers, Writes, Runs, none, a-piece, an-end, an-ask, a-write, a-question, a-change, a-revoke, an-onlycap, a-mapping, a-look-up, a-search, a-listing, a-label, a-check, taken-reply, finished-reply}
 
 -- ---- the routines
 

@@ -45,8 +45,8 @@ use Rattle.lists.specs.Called.{Called, first, second, third, fourth, fifth, six
 use Rattle.lists.specs.Reader as r
 use Rattle.lists.specs.Reader.{Totals, Ask, Write, Call, Reply}
 
--- ---- what a list begins with: a table that is undamaged, a line of full size, and a fresh loader. The state between two calls is a `Load`: the three slices of the
--- tables, that of the line, and the loader
+-- ---- what a list begins with: a table that is undamaged, a line of full size, and a fresh loader. The state between two calls is a `Load`: the three
+-- slices of the tables, that of the line, and the loader
 
 pub record Fresh (s : Load) : Type 0 where
   pub undamaged : undamagedOf (s .store) ≡ true
@@ -74,12 +74,13 @@ counted-reply a = cond (a .refused) (r.refusal (a .number)) (r.count (a .count))
 abbrev pub part-reply : Part → List ℕ → Reply
 part-reply a labels = cond (a .refused) (r.refusal (a .number)) (r.label-is (take (a .length) (drop (a .start) labels)))
 
--- ---- a call on the tables alone, as a host makes it: with the tables that it is lent, what it is asked, and what is read of its answer. What is lent by `&` has
--- no last value, and is as it was
+-- ---- a call on the tables alone, as a host makes it: with the tables that it is lent, what it is asked, and what is read of its answer. What is lent
+-- by `&` has no last value, and is as it was
 
 pub data Answers : Store → Ask → Reply → Type 0 where
   a-question : (k : Called question-kinds.ps question-kinds.r question-reads.Asked question-reads.Learnt) →
-      Answers (lent (k .args)) (r.question (now (fourth (k .args))) (now (fifth (k .args))) (now (sixth (k .args))) (seventh (k .args))) (r.answered (k .result))
+      Answers (lent (k .args)) (r.question (now (fourth (k .args))) (now (fifth (k .args))) (now (sixth (k .args))) (seventh (k .args)))
+          (r.answered (k .result))
   a-look-up : (k : Called by-label-kinds.ps by-label-kinds.r by-label-reads.Asked by-label-reads.Learnt) →
       Answers (lent (k .args)) (r.by-label (now (fourth (k .args)))) (r.mapped (k .result))
   a-search : (k : Called by-level-kinds.ps by-level-kinds.r by-level-reads.Asked by-level-reads.Learnt) →
@@ -96,15 +97,16 @@ pub data Writes : Store → Write → Reply → Store → Type 0 where
   a-change : (k : Called change-kinds.ps change-kinds.r change-reads.Asked change-reads.Learnt) →
       Writes (lent (k .args)) (r.change (now (fourth (k .args)))) (written-reply (k .result)) (left (k .last))
   a-revoke : (k : Called revoke-kinds.ps revoke-kinds.r revoke-reads.Asked revoke-reads.Learnt) →
-      Writes (lent (k .args)) (r.revoke (now (fourth (k .args)))) (counted-reply (k .result)) (store (now (first (k .args))) (second (k .last)) (now (third (k .args))))
+      Writes (lent (k .args)) (r.revoke (now (fourth (k .args)))) (counted-reply (k .result))
+          (store (now (first (k .args))) (second (k .last)) (now (third (k .args))))
   an-onlycap : (k : Called onlycap-kinds.ps onlycap-kinds.r onlycap-reads.Asked onlycap-reads.Learnt) →
       Writes (lent (k .args)) (r.onlycap (now (fourth (k .args)))) (written-reply (k .result)) (left (k .last))
   a-mapping : (k : Called mapping-kinds.ps mapping-kinds.r mapping-reads.Asked mapping-reads.Learnt) →
       Writes (lent (k .args)) (r.mapping (now (fourth (k .args)))) (written-reply (k .result)) (left (k .last))
 
 -- ---- every list of calls, each made from the state that the one before it left. (Each case is read from its last line: from this state, with this call
--- and this reply in front; the line above it says from which state the rest of the list goes on.) A call on the tables alone is made beside a line under way, whose bytes
--- and loader stay as they are
+-- and this reply in front; the line above it says from which state the rest of the list goes on.) A call on the tables alone is made beside a line under
+-- way, whose bytes and loader stay as they are
 
 pub data Runs : Load → List Call → List Reply → Load → Type 0 where
   none : {s : Load} → Runs s [] [] s

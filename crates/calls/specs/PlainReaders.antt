@@ -69,7 +69,8 @@ pub data Made : Table → List Act → Table → Type 0 where
       Made t₁ rest t′ →
       Made t (line bytes ∷ rest) t′
   write-refused : {t t′ : Table} {rest : List Act} (w : Write) (n : ℕ) → judgeWrite w t ≡ is-refused n → Made t rest t′ → Made t (single w ∷ rest) t′
-  write-accepted : {t t₁ t′ : Table} {rest : List Act} (w : Write) → judgeWrite w t ≡ is-accepted t₁ → Sets t t₁ w → Made t₁ rest t′ → Made t (single w ∷ rest) t′
+  write-accepted : {t t₁ t′ : Table} {rest : List Act} (w : Write) → judgeWrite w t ≡ is-accepted t₁ → Sets t t₁ w →
+      Made t₁ rest t′ → Made t (single w ∷ rest) t′
 
 -- what holds after a list of calls that began at s, was answered rs and ended at s′
 pub record PlainReaders (s : Load) (cs : List Call) (rs : List Reply) (s′ : Load) : Type 0 where
@@ -77,8 +78,8 @@ pub record PlainReaders (s : Load) (cs : List Call) (rs : List Reply) (s′ : Lo
   pub table : tableOf (s′ .store) ≡ afterAll (startOn (tableOf (s .store))) cs .table
   -- every answer is the plain reader's: each piece's, the whole report of each end call, each question's, and those of the other calls
   pub replies : rs ≡ saysAll (startOn (tableOf (s .store))) cs
-  -- each line ended by a newline or an end call has been judged whole, an accepted one as demand 2 says; and nothing else has acted, but for the single writes: no byte
-  -- after the last newline or end call is among the acts
+  -- each line ended by a newline or an end call has been judged whole, an accepted one as demand 2 says; and nothing else has acted, but for the single
+  -- writes: no byte after the last newline or end call is among the acts
   pub made : Made (tableOf (s .store)) (acts cs) (tableOf (s′ .store))
   -- a table grown from a fresh one stays one
   pub grown : Grown (tableOf (s .store)) → Grown (tableOf (s′ .store))

@@ -110,7 +110,8 @@ pub record ExportedCalls : Type 0 where
       (λ κs a r l. r ≡ freshLoader)
   -- a piece of rule text
   pub piece : Promise piece.ended piece-reads.Asked piece-reads.Learnt
-      (λ κs a r l. (r ≡ pieceShown (fifth a) (pieceAnswer (loading a) (now (sixth a)))) × (loaded l (r .loader) ≡ pieceAfter (loading a) (now (sixth a))) × (sixth l ≡ tt))
+      (λ κs a r l. (r ≡ pieceShown (fifth a) (pieceAnswer (loading a) (now (sixth a))))
+      × (loaded l (r .loader) ≡ pieceAfter (loading a) (now (sixth a))) × (sixth l ≡ tt))
   -- the end call
   pub end-call : Promise end.ended end-reads.Asked end-reads.Learnt
       (λ κs a r l. (r ≡ endShown (fifth a) (endAnswer (loading a))) × (loaded l (r .loader) ≡ endAfter (loading a)))
@@ -119,7 +120,8 @@ pub record ExportedCalls : Type 0 where
       (λ κs a r l. (r ≡ writeShown (changeAnswer (lent a) (now (fourth a)))) × (left l ≡ changeStore (lent a) (now (fourth a))) × (fourth l ≡ tt))
   -- revoke-subject: the entries alone are lent by `&mut`
   pub revoke : Promise revoke.ended revoke-reads.Asked revoke-reads.Learnt
-      (λ κs a r l. (r ≡ revokeShown (revokeAnswer (lent a) (now (fourth a)))) × (second l ≡ revokeStore (lent a) (now (fourth a)) .entries) × (first l ≡ tt) × (third l ≡ tt) × (fourth l ≡ tt))
+      (λ κs a r l. (r ≡ revokeShown (revokeAnswer (lent a) (now (fourth a)))) × (second l ≡ revokeStore (lent a) (now (fourth a)) .entries)
+      × (first l ≡ tt) × (third l ≡ tt) × (fourth l ≡ tt))
   -- the override list
   pub onlycap : Promise onlycap.ended onlycap-reads.Asked onlycap-reads.Learnt
       (λ κs a r l. (r ≡ writeShown (onlycapAnswer (lent a) (now (fourth a)))) × (left l ≡ onlycapStore (lent a) (now (fourth a))) × (fourth l ≡ tt))
@@ -134,16 +136,19 @@ pub record ExportedCalls : Type 0 where
       (λ κs a r l. (r ≡ searchShown (byLevelOf (lent a) (fourth a) (fifth a))) × (l ≡ (tt, (tt, (tt, (tt, (tt, tt)))))))
   -- the same in a run whose fields stand in three slices
   pub in-three-slices : Promise lowest-of.ended lowest-of-reads.Asked lowest-of-reads.Learnt
-      (λ κs a r l. (r ≡ searchShown (runOf (recordsOf (now (first a)) (now (second a)) (now (third a))) (fourth a) (fifth a))) × (l ≡ (tt, (tt, (tt, (tt, (tt, tt)))))))
+      (λ κs a r l. (r ≡ searchShown (runOf (recordsOf (now (first a)) (now (second a)) (now (third a))) (fourth a) (fifth a)))
+      × (l ≡ (tt, (tt, (tt, (tt, (tt, tt)))))))
   -- and in a run of records
   pub in-a-run : Promise lowest-in-run.ended Asked-in-run Learnt-in-run
       (λ κs a r l. (r ≡ searchShown (runOf (now (first a)) (second a) (third a))) × (l ≡ (tt, (tt, (tt, tt)))))
   -- a question: subject, object, request, and whether the asker has the capability
   pub question : Promise question.ended question-reads.Asked question-reads.Learnt
-      (λ κs a r l. (r ≡ shown (questionOf (lent a) (now (fourth a)) (now (fifth a)) (now (sixth a)) (seventh a))) × (l ≡ (tt, (tt, (tt, (tt, (tt, (tt, (tt, tt)))))))))
+      (λ κs a r l. (r ≡ shown (questionOf (lent a) (now (fourth a)) (now (fifth a)) (now (sixth a)) (seventh a)))
+      × (l ≡ (tt, (tt, (tt, (tt, (tt, (tt, (tt, tt)))))))))
   -- a rule by its number, at the front of the lent buffer
   pub listing : Promise list-rule.ended list-rule-reads.Asked list-rule-reads.Learnt
-      (λ κs a r l. (r ≡ listShown (listAnswer (lent a) (fourth a) (now (fifth a)))) × (fifth l ≡ listOut (lent a) (fourth a) (now (fifth a))) × (first l ≡ tt) × (second l ≡ tt) × (third l ≡ tt))
+      (λ κs a r l. (r ≡ listShown (listAnswer (lent a) (fourth a) (now (fifth a)))) × (fifth l ≡ listOut (lent a) (fourth a) (now (fifth a)))
+      × (first l ≡ tt) × (second l ≡ tt) × (third l ≡ tt))
   -- whether a number is a label's
   pub label-check : Promise label-check.ended label-check-reads.Asked label-check-reads.Learnt
       (λ κs a r l. (r ≡ writeShown (labelAnswer (lent a) (fourth a))) × (l ≡ (tt, (tt, (tt, (tt, tt))))))

@@ -35,16 +35,18 @@ Called-finish = Called finish-kinds.ps finish-kinds.r finish-reads.Asked finish-
 abbrev pub begun : Called-begin → Store
 begun k = store (first (k .last)) (now (second (k .args))) (third (k .last))
 
--- ---- a run: the pieces of the input, and the bytes that the calls put at the front of their outputs, one behind the other. Each call is made with the tables, the
--- line and the session that the one before it left, and with an output that has 66 bytes for each byte of the piece; the last is `finish`
+-- ---- a run: the pieces of the input, and the bytes that the calls put at the front of their outputs, one behind the other. Each call is made with the
+-- tables, the line and the session that the one before it left, and with an output that has 66 bytes for each byte of the piece; the last is `finish`
 
 pub data InPieces : Store → List ℕ → Session → List (List ℕ) → List ℕ → Type 0 where
-  an-end : (k : Called-finish) → lineRoom ≤ length (now (fifth (k .args))) → InPieces (lent (k .args)) (now (fourth (k .args))) (sixth (k .args)) [] (take (wentCount (k .result)) (fifth (k .last)))
+  an-end : (k : Called-finish) → lineRoom ≤ length (now (fifth (k .args))) →
+      InPieces (lent (k .args)) (now (fourth (k .args))) (sixth (k .args)) [] (take (wentCount (k .result)) (fifth (k .last)))
   a-piece :
       (k : Called-feed) {pieces : List (List ℕ)} {said : List ℕ} →
       lineRoom * length (now (seventh (k .args))) ≤ length (now (fifth (k .args))) →
       InPieces (left (k .last)) (fourth (k .last)) (wentSession (sixth (k .args)) (k .result)) pieces said →
-      InPieces (lent (k .args)) (now (fourth (k .args))) (sixth (k .args)) (now (seventh (k .args)) ∷ pieces) (take (wentCount (k .result)) (fifth (k .last)) ++ said)
+      InPieces (lent (k .args)) (now (fourth (k .args))) (sixth (k .args)) (now (seventh (k .args)) ∷ pieces)
+          (take (wentCount (k .result)) (fifth (k .last)) ++ said)
 
 -- the pieces as one input
 abbrev pub joined : List (List ℕ) → List ℕ

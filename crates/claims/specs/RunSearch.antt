@@ -7,13 +7,13 @@ use lib.ListN.{length, getD}
 use Rattle.refusals.specs.Refusals.{badLevelOrCategory}
 use Rattle.run.specs.declared.Record.{Record}
 use Rattle.lookups.specs.declared.Label.the-variants as label
-use Rattle.run.specs.Lowest.{LowestLabel, Unmatched}
+use Rattle.run.specs.Lowest.{LowestInRun, Unmatched}
 use Rattle.lookups.specs.Lookups.{sought}
 use Rattle.run.specs.Run.{runOf, recordsOf, Shortest}
 
 pub record SearchesTheRun : Type 0 where
   -- a number that is answered is the lowest of those whose level and set both match
-  pub found : (run : List Record) (level set n : ℕ) → runOf run level set ≡ label.Number n → LowestLabel run level set n
+  pub found : (run : List Record) (level set n : ℕ) → runOf run level set ≡ label.Number n → LowestInRun run level set n
   -- none is answered exactly where none matches
   pub none : (run : List Record) (level set : ℕ) → runOf run level set ≡ label.Nothing → Unmatched run level set
   pub unmatched : (run : List Record) (level set : ℕ) → sought level set ≡ true → Unmatched run level set → runOf run level set ≡ label.Nothing

@@ -1,5 +1,6 @@
-// What the users asked for, each claim under its name; demand 2 stands in the crate grown, and in the crate faults by which number a call is refused. These functions do nothing: what each ensures is
-// the claim, so the check names it as proved, and a program that depends on this crate depends on the claims.
+// What the users asked for, each claim under its name; demand 2 stands in the crate grown, and in the crate faults by which number a call is refused.
+// These functions do nothing: what each ensures is the claim, so the check names it as proved, and a program that depends on this crate depends on the
+// claims.
 ghost use mathlib.Core.Path.{_≡_};
 ghost use mathlib.Core.Bool.{true, false};
 ghost use mathlib.Core.List.{List, map};
@@ -60,7 +61,8 @@ pub fn search_of_a_run()
 {}
 
 // Byte classes, labels and letters as 01 says them, byte by byte: label byte, blank, newline or other; what a well-formed label is; each letter's bit in
-// either case, and the letters that each place allows. That the code's tables are these, say the contracts of `alphabet::classes` and of what reads and writes modes.
+// either case, and the letters that each place allows. That the code's tables are these, say the contracts of `alphabet::classes` and of what reads and
+// writes modes.
 pub fn bytes_and_letters()
     ensures { λ _. ⌜ ByteClasses classOf ⌝ }
     ensures { λ _. ⌜ LabelForm ⌝ }

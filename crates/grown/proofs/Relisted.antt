@@ -1,7 +1,7 @@
 -- A listing loads back: each of its lines says its rule, which goes last, and there is room, since no label enters that the table has not.
 -- Assumes nothing.
 use mathlib.Core.Path.{_≡_, refl, sym, ap, _∙_, subst}
-use mathlib.Core.Bool.{true, false}
+use mathlib.Core.Bool.{true}
 use mathlib.Core.List.{List, [], _∷_, _++_, append-assoc, append-nil, foldl-append, map}
 use Prim.Native.Nat.{ℕ, _+_, _<_, _≤_}
 use native.Mathlib.Omega.{arith}
@@ -14,7 +14,7 @@ use Rattle.search.specs.Bytes.{sameBytes}
 use Rattle.search.specs.declared.Found.{Found}
 use Rattle.search.specs.declared.Found.the-variants.{At, Nothing}
 use Rattle.search.proofs.Laws.{no, and-both, same-equal, not-so, all-at, all-by, first-is, front-first, map-at, map-same, map-snoc, distinct-fits}
-use Rattle.alphabet.specs.Alphabet.{newline, isNewline, wellFormed}
+use Rattle.alphabet.specs.Alphabet.{newline, wellFormed}
 use Rattle.modes.specs.Modes.{modesText}
 use Rattle.store.specs.declared.Rule.{Rule}
 use Rattle.store.specs.Table.{Table, fresh, labelIn, enter, isPair, pairIn, soundRule, labelNumbered, ruleNumbered}

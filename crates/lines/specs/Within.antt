@@ -113,7 +113,8 @@ changeAtAccess line p (Modes a) Bad = c.Refused badAccess
 changeAtAccess line p (Modes a) (Modes d) = apartAt c.Refused line p (c.Change p a d)
 
 abbrev pub changeAtFifth : List ℕ → Pair → Span → Span → Field → ChangeLine
-changeAtFifth line p a d End = labelsAt c.Refused line p (changeAtAccess line p (readModes changeLetters true (at line a)) (readModes changeLetters true (at line d)))
+changeAtFifth line p a d End =
+    labelsAt c.Refused line p (changeAtAccess line p (readModes changeLetters true (at line a)) (readModes changeLetters true (at line d)))
 changeAtFifth line p a d (Part i j) = c.Refused wrongFields
 
 abbrev pub changeAtFourth : List ℕ → Pair → Span → Field → ChangeLine

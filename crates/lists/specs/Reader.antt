@@ -1,7 +1,7 @@
--- 01, Rule text: the plain reader, 01's own term for the reference model of the loader. It holds the tables, a kept line of any length and
--- the report's true numbers. It is fed only each call's kind and arguments. Nothing here names a lent slice of the state or a limit of
--- storage, but for those of 01's tables and lines. Demand 3 speaks of pieces, end calls and questions; here are the other calls too, a single write of which acts at
--- once. Assumes nothing.
+-- 01, Rule text: the plain reader, 01's own term for the reference model of the loader. It holds the tables, a kept line of any length and the report's
+-- true numbers. It is fed only each call's kind and arguments. Nothing here names a lent slice of the state or a limit of storage, but for those of 01's
+-- tables and lines. Demand 3 speaks of pieces, end calls and questions; here are the other calls too, a single write of which acts at once. Assumes
+-- nothing.
 use Prim.Native.Nat.{ℕ, _+_, min}
 use mathlib.Core.Bool.{Bool, cond}
 use mathlib.Core.List.{List, [], _∷_, _++_, foldl, map}
@@ -45,8 +45,10 @@ zeros = record { lines = 0; accepted = 0; skipped = 0; refused = 0; first = 0; r
 
 -- a line more: every line counts; the first refused one is kept
 abbrev pub counted : Totals → Judged → Totals
-counted c is-skipped = record { lines = c .lines + 1; accepted = c .accepted; skipped = c .skipped + 1; refused = c .refused; first = c .first; reason = c .reason }
-counted c (is-accepted t) = record { lines = c .lines + 1; accepted = c .accepted + 1; skipped = c .skipped; refused = c .refused; first = c .first; reason = c .reason }
+counted c is-skipped =
+    record { lines = c .lines + 1; accepted = c .accepted; skipped = c .skipped + 1; refused = c .refused; first = c .first; reason = c .reason }
+counted c (is-accepted t) =
+    record { lines = c .lines + 1; accepted = c .accepted + 1; skipped = c .skipped; refused = c .refused; first = c .first; reason = c .reason }
 counted c (is-refused n) =
     record {
       lines = c .lines + 1;

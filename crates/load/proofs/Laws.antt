@@ -1,14 +1,14 @@
 -- Laws of the loader's exact step. Assumes nothing.
-use mathlib.Core.Path.{_≡_, refl, sym, ap, _∙_, subst}
+use mathlib.Core.Path.{_≡_, refl, sym, ap, _∙_}
 use mathlib.Core.Bool.{Bool, true, false, cond, _&&_}
 use mathlib.Core.List.{List, [], _∷_, _++_, append-assoc, foldl, foldl-append}
-use Prim.Native.Nat.{ℕ, zero, suc, _+_, _-_, _<_, _≤_}
+use Prim.Native.Nat.{ℕ, suc, _+_, _-_, _<_, _≤_}
 use native.Mathlib.Numerals.{add-one}
 use native.Mathlib.Omega.{arith}
 use lib.Dec.{ltb, leb, eqb}
-use borrow.Author.Tests.{eqb-true, eqb-false, leb-true, ltb-true, eq-eqb, ne-eqb, le-leb, lt-ltb, le-ltb}
-use lib.ListN.{length, take, drop, set, getD, length-set, length-drop, take-append-drop, drop-of-length-le}
-use lib.Seq.{drop-cons, drop-drop, take-add, take-all, length-take-le, sets, sets-eq}
+use borrow.Author.Tests.{eqb-true, leb-true, ltb-true, eq-eqb, ne-eqb, le-leb, lt-ltb, le-ltb}
+use lib.ListN.{length, take, drop, set, length-set, length-drop, take-append-drop}
+use lib.Seq.{length-take-le, sets, sets-eq}
 use Rattle.search.specs.Bytes.{written}
 use Rattle.search.proofs.Laws.{and-both}
 use Rattle.store.specs.Layout.{Store, store, undamagedOf}

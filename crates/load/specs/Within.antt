@@ -1,5 +1,4 @@
 -- What the contracts within the library say of a call's answer; nobody has to believe these. Assumes nothing.
-use Prim.Native.Nat.{ℕ}
 use Rattle.reports.specs.declared.Loader.{Loader}
 use Rattle.load.specs.declared.Fed.{Fed}
 use Rattle.load.specs.declared.Fed.the-variants as f

@@ -5,11 +5,11 @@ use mathlib.Core.List.{List, [], _∷_, _++_, append-assoc, append-nil, foldl, f
 use Prim.Native.Nat.{ℕ}
 use native.Mathlib.Omega.{arith}
 use lib.Dec.{ltb, eqb}
-use borrow.Author.Tests.{not-true, ltb-false}
+use borrow.Author.Tests.{ltb-false}
 use lib.ListN.{length}
 use Rattle.search.specs.Search.{all}
 use Rattle.search.specs.Bytes.{sameBytes}
-use Rattle.search.proofs.Laws.{all-snoc, and-both}
+use Rattle.search.proofs.Laws.{all-snoc}
 use Rattle.store.specs.Table.{fresh}
 use Rattle.access.specs.Access.{answer}
 use Rattle.lists.specs.Reader.{Reader, startOn, endLine, takeByte, takePiece, finish, limitedTotals}

@@ -146,7 +146,8 @@ pub record Turns (most : ℕ) (s after : State) (said out : List ℕ) (r : Turn)
 abbrev pub enters : {A B C D : Type 0} → Both (RefT (List ℕ)) A → Both (RefT (List ℕ)) B → Both (RefT (List ℕ)) C → Both (RefT (List ℕ)) D → Session → State
 enters l e w line s = state (lent l e w) (now (line .entry)) s
 
-abbrev pub leaves : {A B C D : Type 0} → Both A (RefT (List ℕ)) → Both B (RefT (List ℕ)) → Both C (RefT (List ℕ)) → Both D (RefT (List ℕ)) → Session → Turn → State
+abbrev pub leaves : {A B C D : Type 0} → Both A (RefT (List ℕ)) → Both B (RefT (List ℕ)) → Both C (RefT (List ℕ)) → Both D (RefT (List ℕ)) → Session →
+    Turn → State
 leaves l e w line s r = state (left l e w) (now (line .exit)) (wentSession s r)
 
 -- ---- what the two calls ensure, of the state and the output that they are lent and those that they leave

@@ -22,8 +22,10 @@ more n = cond (ltb n countLimit) (n + 1) n
 
 -- a line more, and the next begins empty
 abbrev pub count : Loader → Outcome → Loader
-count l v.Skipped = record { kept = 0; lines = more (l .lines); accepted = l .accepted; skipped = more (l .skipped); refused = l .refused; first = l .first; reason = l .reason }
-count l v.Accepted = record { kept = 0; lines = more (l .lines); accepted = more (l .accepted); skipped = l .skipped; refused = l .refused; first = l .first; reason = l .reason }
+count l v.Skipped =
+    record { kept = 0; lines = more (l .lines); accepted = l .accepted; skipped = more (l .skipped); refused = l .refused; first = l .first; reason = l .reason }
+count l v.Accepted =
+    record { kept = 0; lines = more (l .lines); accepted = more (l .accepted); skipped = l .skipped; refused = l .refused; first = l .first; reason = l .reason }
 count l (v.Refused n) =
     record {
       kept = 0;

@@ -18,7 +18,7 @@ use Rattle.run.specs.declared.Record.{Record}
 use Rattle.run.specs.declared.Best.{Best}
 use Rattle.run.specs.declared.Best.the-variants as best
 use Rattle.run.specs.Run.{matches, lowerLabel, lowerOf, lowestOf, said, settledOf, runOf, recordsOf, Shortest}
-use Rattle.run.specs.Lowest.{LowestLabel, Unmatched}
+use Rattle.run.specs.Lowest.{LowestInRun, Unmatched}
 use Rattle.run.specs.Within.{searched}
 
 -- ---- the lowest label of a run
@@ -101,7 +101,7 @@ module _ (level s : ℕ) where
   finds (x ∷ xs) b n e = finds-more b x xs n (finds xs (lowerOf level s b x) n e)
 
   -- THE LOWEST: what the fold answers is the lowest label of the records that match
-  pub lowest-found : (run : List Record) (n : ℕ) → lowestOf run level s ≡ best.Label n → LowestLabel run level s n
+  pub lowest-found : (run : List Record) (n : ℕ) → lowestOf run level s ≡ best.Label n → LowestInRun run level s n
   unfolding lowestOf
   lowest-found run n e =
       let f = finds run best.Nothing n e in
@@ -208,7 +208,7 @@ module _ (run : List Record) (level s : ℕ) where
       by-test false h b e = (cc, h)
 
   -- a label number that is answered is the lowest of those whose level and set both match
-  pub run-found : (n : ℕ) → runOf run level s ≡ label.Number n → LowestLabel run level s n
+  pub run-found : (n : ℕ) → runOf run level s ≡ label.Number n → LowestInRun run level s n
   unfolding runOf settledOf
   run-found n e = lowest-found level s run n (by-test (sought level s) (lowestOf run level s) e)
     where

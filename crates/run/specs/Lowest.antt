@@ -7,7 +7,7 @@ use Rattle.run.specs.declared.Record.{Record}
 use Rattle.run.specs.Run.{matches}
 
 -- n is the lowest label of the records that match: one of them has it, and none has a lower one
-pub record LowestLabel (run : List Record) (level s n : ℕ) : Type 0 where
+pub record LowestInRun (run : List Record) (level s n : ℕ) : Type 0 where
   pub found : (r : Record) × List·Memᴰ r run × (matches level s r ≡ true) × (r .label ≡ n)
   pub least : (r : Record) → List·Memᴰ r run → matches level s r ≡ true → n ≤ r .label
 
