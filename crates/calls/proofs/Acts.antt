@@ -33,6 +33,10 @@ use Rattle.lists.proofs.Others.{storeLeft, write-holds}
 use Rattle.grown.specs.Grown.{Grown, by-line, by-write}
 use Rattle.grown.specs.Pairs.{SoundTable, isAccepted}
 use Rattle.grown.proofs.Pairs.{undamaged-sound, line-sets, change-sets, rule-triple, rule-accepted}
+use Rattle.effects.proofs.Places.{rule-keeps, change-keeps}
+use Rattle.effects.proofs.Revoked.{revoke-clears}
+use Rattle.effects.proofs.Listed.{list-sets}
+use Rattle.effects.proofs.Mapped.{mapping-maps}
 use Rattle.calls.specs.PlainReaders as m
 use Rattle.calls.specs.PlainReaders.{Act, actsFrom, Made}
 
@@ -104,6 +108,7 @@ line-made t bytes {t′} {rest} whole more = by-judged (judged t (ruleOf bytes))
         m.accepted s o k e (rule-triple bytes s o k q)
         (sym (rule-accepted t s o k (subst Sound q (rule-sound bytes) .0 .apart)) ∙ ap isAccepted (ap (judged t) (sym q) ∙ e))
         (line-sets t t₁ bytes s o k whole q e)
+        (rule-keeps t t₁ s o k (ap (judged t) (sym q) ∙ e))
         more
 
     by-judged : (j : Judged) → judged t (ruleOf bytes) ≡ j → Made (tableAfter t j) rest t′ → Made t (m.line bytes ∷ rest) t′
@@ -187,10 +192,10 @@ not-skipped t (r.mapping text) = by-said (cipso.mappingOf text)
     by-said (cipso.mapping l level s) = by-tests (noPlace (labelIn t l) (length (t .labels)) 64) (noPlace (cipso.mappingFor t l) (length (t .mappings)) 32) (cipso.withMapping t l level s)
 
 sets : (t t₁ : Table) (w : Write) → SoundTable t → judgeWrite w t ≡ is-accepted t₁ → m.Sets t t₁ w
-sets t t₁ (r.change text) whole e = λ s o a d q. change-sets t t₁ text s o a d whole q e
-sets t t₁ (r.revoke l) whole e = tt
-sets t t₁ (r.onlycap text) whole e = tt
-sets t t₁ (r.mapping text) whole e = tt
+sets t t₁ (r.change text) whole e = λ s o a d q. (change-sets t t₁ text s o a d whole q e, change-keeps t t₁ s o a d (ap (judged t) (sym q) ∙ e))
+sets t t₁ (r.revoke l) whole e = revoke-clears t t₁ l e
+sets t t₁ (r.onlycap text) whole e = list-sets t t₁ text whole e
+sets t t₁ (r.mapping text) whole e = λ l level set q. mapping-maps t t₁ text l level set whole q e
 
 write-made : (t : Table) (w : Write) {t′ : Table} {rest : List Act} → SoundTable t → Made (afterWrite t w) rest t′ → Made t (m.single w ∷ rest) t′
 write-made t w {t′} {rest} whole more = by-judged (judgeWrite w t) refl (not-skipped t w) more
@@ -237,6 +242,6 @@ pub grown-made : {t t′ : Table} {ws : List Act} → Made t ws t′ → Grown t
 grown-made m.none g = g
 grown-made (m.skipped e more) g = grown-made more g
 grown-made (m.refused n e more) g = grown-made more g
-grown-made (m.accepted {bytes = bytes} s o k e w room sets more) g = grown-made more (by-line bytes g e)
+grown-made (m.accepted {bytes = bytes} s o k e w room sets keeps more) g = grown-made more (by-line bytes g e)
 grown-made (m.write-refused w n e more) g = grown-made more g
 grown-made (m.write-accepted w e sets more) g = grown-made more (by-write w g e)

@@ -4,7 +4,7 @@ use mathlib.Core.Path.{_≡_}
 use mathlib.Core.Bool.{true, cond}
 use mathlib.Core.List.{List, [], _∷_, _++_}
 use Rattle.refusals.specs.Refusals.{damaged}
-use Rattle.alphabet.specs.Alphabet.{isNewline}
+use Rattle.alphabet.specs.Alphabet.{isNewline, fields}
 use Rattle.store.specs.Table.{Table}
 use Rattle.store.specs.Layout.{tableOf}
 use Rattle.lines.specs.Lines.{change, ruleOf, changeOf}
@@ -21,6 +21,8 @@ use Rattle.lists.specs.Reader.{startOn, Write, Call, Reply, judgeWrite, afterAl
 use Rattle.grown.specs.Grown.{Grown}
 use Rattle.store.specs.Pairs.{modesBetween, modesSoFar}
 use Rattle.grown.specs.Pairs.{Triple, hasRoom, SetsPair}
+use Rattle.cipso.specs.Cipso.{mapping, mappingOf}
+use Rattle.effects.specs.Effects.{KeepsPlaces, Revokes, SetsFields, Maps}
 
 -- ---- what acts on the tables: each line that a newline or an end call ends, whole, and each single write, in order. The bytes after the last
 -- newline or end call are no line
@@ -42,20 +44,20 @@ actsFrom kept (wrote w ∷ es) = single w ∷ actsFrom kept es
 abbrev pub acts : List Call → List Act
 acts cs = actsFrom [] (events cs)
 
--- what an accepted change does, as demand 2 says of a line: its pair is left with (old modes or allow) without deny, and no other pair's answer
--- changes
+-- what an accepted single write does: a change leaves its pair with (old modes or allow) without deny, and changes no other pair's answer, as demand 2
+-- says of a line; revoke clears the rules of its subject; the override list is who overrides; a mapping is what its label's look-up finds
 abbrev pub Sets : Table → Table → Write → Type 0
 Sets t t₁ (r.change text) =
     (s o : List ℕ) (allow deny : ℕ) →
     changeOf text ≡ change s o allow deny →
-    SetsPair t t₁ s o (changed (modesSoFar (modesBetween t s o)) allow deny)
-Sets t t₁ (r.revoke l) = Unit {0}
-Sets t t₁ (r.onlycap text) = Unit {0}
-Sets t t₁ (r.mapping text) = Unit {0}
+    SetsPair t t₁ s o (changed (modesSoFar (modesBetween t s o)) allow deny) × KeepsPlaces t t₁ s o
+Sets t t₁ (r.revoke l) = Revokes t t₁ l
+Sets t t₁ (r.onlycap text) = SetsFields t t₁ (fields text)
+Sets t t₁ (r.mapping text) = (l : List ℕ) (level set : ℕ) → mappingOf text ≡ mapping l level set → Maps t t₁ l level set
 
 -- From table t to table t′ by these acts, one after the other. A line is judged whole, by its bytes and the table that the acts before it
 -- left: skipped or refused it changes nothing; accepted it is a well-formed triple with room for it, sets its pair's modes and changes no other
--- pair's answer (demand 2). A single write acts at once: refused it changes nothing
+-- pair's answer (demand 2), and every label and rule keeps its place. A single write acts at once: refused it changes nothing
 pub data Made : Table → List Act → Table → Type 0 where
   none : {t : Table} → Made t [] t
   skipped : {t t′ : Table} {bytes : List ℕ} {rest : List Act} → judged t (ruleOf bytes) ≡ is-skipped → Made t rest t′ → Made t (line bytes ∷ rest) t′
@@ -66,6 +68,7 @@ pub data Made : Table → List Act → Table → Type 0 where
       Triple bytes s o m →
       hasRoom t s o ≡ true →
       SetsPair t t₁ s o m →
+      KeepsPlaces t t₁ s o →
       Made t₁ rest t′ →
       Made t (line bytes ∷ rest) t′
   write-refused : {t t′ : Table} {rest : List Act} (w : Write) (n : ℕ) → judgeWrite w t ≡ is-refused n → Made t rest t′ → Made t (single w ∷ rest) t′

@@ -1,0 +1,52 @@
+-- 01, Questions, the last sentence: override; and Single writes, the paragraph after them: the look-up by level and set. Assumes nothing.
+use Prim.Native.Nat.{ℕ, _<_}
+use mathlib.Core.Bool.{Bool, true, false, cond}
+use mathlib.Core.Path.{_≡_}
+use mathlib.Core.Logic.{_↔_, _⊎_}
+use mathlib.Core.List.{List, [], List·Memᴰ}
+use lib.ListN.{length}
+use Rattle.search.specs.declared.Found.the-variants.{At, Nothing}
+use Rattle.numbers.specs.Categories.{categories}
+use Rattle.store.specs.Table.{Table, labelIn, labelNumbered}
+use Rattle.lookups.specs.declared.Lookup.the-variants.{Mapped}
+use Rattle.lookups.specs.declared.Label.the-variants as label
+use Rattle.lookups.specs.Lookups.{labelLookup, levelLookup}
+use Rattle.access.specs.declared.Denial.{Denial}
+use Rattle.access.specs.declared.Answer.{Answer}
+use Rattle.access.specs.declared.Answer.the-variants.{Granted, Denied, Override, Refused}
+use Rattle.access.specs.Access.{effective, answer}
+
+-- ---- override
+
+-- an answer where override counts: a denial is granted by override, with the rule that would have denied; any other answer stays
+abbrev pub overridden : Answer → Answer
+overridden (Granted n b) = Granted n b
+overridden (Denied by) = Override by
+overridden (Override by) = Override by
+overridden (Refused n) = Refused n
+
+-- 01: override counts only if the asker has it and the list is empty or holds the subject, and only after a denial
+pub record OverrideCounts (t : Table) : Type 0 where
+  -- who has it gets the answer that he would get without it, or that one overridden
+  pub after-denial :
+      (s o request : List ℕ) →
+      answer t s o request true ≡ cond (effective t (labelIn t s) true) (overridden (answer t s o request false)) (answer t s o request false)
+  -- who has it not gets no override
+  pub never-without : (s o request : List ℕ) (by : Denial) → answer t s o request false ≡ Override by → ⊥
+  -- it counts exactly for an asker who has it, where the list is empty or holds the subject; a label that is not in the table is on no list
+  pub holder : (i : ℕ) (capable : Bool) → (effective t (At i) capable ≡ true) ↔ ((capable ≡ true) × ((t .onlycap ≡ []) ⊎ List·Memᴰ i (t .onlycap)))
+  pub unknown : (capable : Bool) → (effective t Nothing capable ≡ true) ↔ ((capable ≡ true) × (t .onlycap ≡ []))
+
+-- ---- looked up by level and set
+
+-- label number n, looked up, has this level and this set
+abbrev pub HasBoth : Table → ℕ → ℕ → ℕ → Type 0
+HasBoth t level set n = labelLookup t (labelNumbered t n) ≡ Mapped level set (length (categories set))
+
+-- 01: the lowest-numbered label whose both are equal, or none
+pub record LowestLabel (t : Table) (level set : ℕ) : Type 0 where
+  pub lowest :
+      (n : ℕ) →
+      (levelLookup t level set ≡ label.Number n)
+      ↔ ((n < length (t .labels)) × HasBoth t level set n × ((k : ℕ) → k < n → HasBoth t level set k → ⊥))
+  pub none : (levelLookup t level set ≡ label.Nothing) ↔ ((n : ℕ) → n < length (t .labels) → HasBoth t level set n → ⊥)

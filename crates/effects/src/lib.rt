@@ -1,0 +1,64 @@
+// What an accepted revoke, override list and mapping do, what override is, and what the look-ups find, as contracts: these functions do nothing, and
+// what each ensures is a theorem on the definitions. So the check names each of them, and a reader finds each by its name.
+ghost use mathlib.Core.Path.{_≡_};
+ghost use mathlib.Core.Bool.{true};
+ghost use mathlib.Core.Logic.{_↔_};
+ghost use mathlib.Core.List.{List};
+ghost use Prim.Native.Nat.{ℕ};
+ghost use lib.ListN.{length};
+ghost use Rattle.store.specs.Table.{Table};
+ghost use Rattle.store.specs.Judged.{is-accepted};
+ghost use Rattle.revoke.specs.Revoke.{revokeWrite, revokeCount};
+ghost use Rattle.alphabet.specs.Alphabet.{fields};
+ghost use Rattle.lines.specs.Lines.{rule, change};
+ghost use Rattle.writes.specs.Writes.{judged};
+ghost use Rattle.onlycap.specs.Onlycap.{onlycapWrite};
+ghost use Rattle.cipso.specs.Cipso.{mapping, mappingOf, mappingWrite};
+ghost use Rattle.lookups.specs.Lookups.{sought};
+ghost use Rattle.grown.specs.Sane.{Sane};
+ghost use Rattle.grown.specs.Pairs.{SoundTable};
+ghost use Rattle.effects.specs.Effects.{Revokes, rulesOf, SetsFields, Maps, KeepsPlaces};
+ghost use Rattle.effects.specs.MappingText.{MappingText};
+ghost use Rattle.effects.specs.Answers.{OverrideCounts, LowestLabel};
+
+// An accepted revoke clears the modes of every rule with its subject, which keeps its place, and changes no answer of another subject.
+pub fn accepted_revoke_clears_its_subject()
+    ensures { λ _. ⌜ ((t t′ : Table) (l : List ℕ) → revokeWrite l t ≡ is-accepted t′ → Revokes t t′ l) ⌝ }
+{}
+
+// Its answer is how many rules have that subject.
+pub fn revoke_counts_its_rules()
+    ensures { λ _. ⌜ ((t : Table) (l : List ℕ) → Sane t → revokeCount l t ≡ length (rulesOf t l)) ⌝ }
+{}
+
+// An accepted override list is who overrides from then on: the labels of its fields, each once, in the order of their first appearance.
+pub fn accepted_list_is_who_overrides()
+    ensures { λ _. ⌜ ((t t′ : Table) (text : List ℕ) → SoundTable t → onlycapWrite text t ≡ is-accepted t′ → SetsFields t t′ (fields text)) ⌝ }
+{}
+
+// An accepted mapping is what its label's look-up finds from then on.
+pub fn accepted_mapping_is_found()
+    ensures { λ _. ⌜ ((t t′ : Table) (text l : List ℕ) (level set : ℕ) → SoundTable t → mappingOf text ≡ mapping l level set →
+        mappingWrite text t ≡ is-accepted t′ → Maps t t′ l level set) ⌝ }
+{}
+
+// What a mapping write says, by its fields: label, level, then no or more categories.
+pub fn what_a_mapping_write_says()
+    ensures { λ _. ⌜ ((text l : List ℕ) (level set : ℕ) → (mappingOf text ≡ mapping l level set) ↔ MappingText text l level set) ⌝ }
+{}
+
+// A line of rule text and a change let every label and every rule keep its place; what is new goes last.
+pub fn labels_and_pairs_keep_their_places()
+    ensures { λ _. ⌜ ((t t′ : Table) (s o : List ℕ) (m : ℕ) → judged t (rule s o m) ≡ is-accepted t′ → KeepsPlaces t t′ s o) ⌝ }
+    ensures { λ _. ⌜ ((t t′ : Table) (s o : List ℕ) (allow deny : ℕ) → judged t (change s o allow deny) ≡ is-accepted t′ → KeepsPlaces t t′ s o) ⌝ }
+{}
+
+// Override turns a denial into a grant by override, and nothing else; it counts for an asker who has it where the list is empty or holds the subject.
+pub fn override_after_a_denial()
+    ensures { λ _. ⌜ ((t : Table) → OverrideCounts t) ⌝ }
+{}
+
+// The look-up by level and set finds the lowest-numbered label that has both, or none.
+pub fn lowest_label_of_a_level_and_set()
+    ensures { λ _. ⌜ ((t : Table) (level set : ℕ) → Sane t → sought level set ≡ true → LowestLabel t level set) ⌝ }
+{}
