@@ -1,7 +1,7 @@
 -- An accepted override list is who overrides from then on. Assumes nothing.
 use mathlib.Core.Path.{_≡_, refl, sym, ap, _∙_, subst}
 use mathlib.Core.Bool.{Bool, true, false, cond, _&&_, _||_, or-true}
-use mathlib.Core.Logic.{_↔_}
+use mathlib.Core.Logic.{_↔_, _≢_}
 use mathlib.Core.List.{List, [], _∷_, map}
 use Prim.Native.Nat.{ℕ, suc}
 use native.Mathlib.Omega.{arith}
@@ -108,7 +108,10 @@ module _ (t : Table) (sound : SoundTable t) where
         }
 
   dash-set : (fs : List (List ℕ)) → loneDash fs ≡ true → SetsFields t (withOnlycap t []) fs
-  dash-set fs e = record { lone-dash = λ q. none-set; its-labels = λ q. absurd (q (dash-is fs .0 e)) }
+  dash-set fs e = record { lone-dash = λ q. none-set; its-labels = other }
+    where
+      other : fs ≢ (45 ∷ []) ∷ [] → SetsList t (withOnlycap t []) fs
+      other q = absurd (q (dash-is fs .0 e))
 
   labelled-set : (f : List ℕ) (more : List (List ℕ)) → loneDash (f ∷ more) ≡ false → SetsFields t (withList t (f ∷ more)) (f ∷ more)
   labelled-set f more e = record { lone-dash = λ q. absurd (no (sym e ∙ dash-is (f ∷ more) .1 q)); its-labels = λ q. labels-set f more }

@@ -1,20 +1,21 @@
 -- Laws of the definitions of specs/: decimal numbers, and sets of categories as bits. Assumes nothing.
-use mathlib.Core.Path.{_≡_, refl, sym, ap, _∙_}
-use mathlib.Core.Bool.{Bool, true, false, cond, _||_, and-false}
-use mathlib.Core.List.{List, [], _∷_, _++_, foldl}
+use mathlib.Core.Path.{_≡_, refl, sym, ap, _∙_, subst}
+use mathlib.Core.Bool.{Bool, true, false, cond, _&&_, _||_, and-false}
+use mathlib.Core.Logic.{_↔_, ⊎-elim}
+use mathlib.Core.List.{List, [], _∷_, _++_, foldl, List·Memᴰ, List·Memᴰ·head, List·Memᴰ·tail, List·Memᴰ·not-nil, List·Memᴰ·cases-cons}
 use Prim.Native.Nat.{ℕ, zero, suc, _+_, _-_, _*_, _/_, _%_, _^_, _<_, _≤_, max}
-use native.Mathlib.Nat.{pow-suc, pow-le-pow-right, mod-lt, mul-mod-left, mod-eq-of-lt, one-mul, mul-div-cancel, div-self, div-eq-of-lt}
+use native.Mathlib.Nat.{le-of-suc-le-suc, pow-suc, pow-le-pow-right, mod-lt, mul-mod-left, mod-eq-of-lt, one-mul, mul-div-cancel, div-self, div-eq-of-lt}
 use native.Mathlib.Numerals.{add-one}
 use native.Mathlib.Omega.{arith}
 use lib.Dec.{eqb, leb, ltb}
 use lib.Bits.{bitOr, or-step, or-shr}
 use lib.Pow.{pow-pos, pow-lt, pow-add, shr-shr}
 use lib.Count.{ones, ones-step}
-use borrow.Author.Tests.{eqb-true, eqb-false, eq-eqb, ltb-true, ltb-false, leb-true, le-leb, lt-leb}
+use borrow.Author.Tests.{eqb-true, eqb-false, eq-eqb, ltb-true, ltb-false, lt-ltb, leb-true, le-leb, lt-leb}
 use lib.ListN.{length, drop, getD, length-append}
 use lib.Seq.{drop-cons}
 use Rattle.search.specs.Search.{all, those, entries}
-use Rattle.search.proofs.Laws.{no, and-both}
+use Rattle.search.proofs.Laws.{no, and-both, entries-length, entries-at}
 use Rattle.numbers.specs.Numbers.{isDigit, oneMore, numberOf}
 use Rattle.numbers.specs.Categories.{isCategory, categoryBit, hasCategory, categories, withCategory, CategorySets}
 use Rattle.numbers.specs.Within.{Category}
@@ -215,6 +216,98 @@ is-category n e = let h = and-both (leb 1 n) (leb n 63) e in (leb-true 1 n (h .0
 category-is : (n : ℕ) → Category n → isCategory n ≡ true
 category-is n h = rw (le-leb 1 n (h .0), le-leb n 63 (h .1))
 
+-- ---- the categories of a set, listed
+
+those-member : (p : ℕ → Bool) (k : ℕ) (l : List ℕ) → List·Memᴰ k (those p l) ↔ ((p k ≡ true) × List·Memᴰ k l)
+those-member p k [] = (λ m. absurd (List·Memᴰ·not-nil m), λ q. absurd (List·Memᴰ·not-nil (q .1)))
+those-member p k (x ∷ xs) = by-test (p x) refl (those-member p k xs)
+  where
+    by-test :
+        (b : Bool) →
+        p x ≡ b →
+        List·Memᴰ k (those p xs) ↔ ((p k ≡ true) × List·Memᴰ k xs) →
+        List·Memᴰ k (cond b (x ∷ those p xs) (those p xs)) ↔ ((p k ≡ true) × List·Memᴰ k (x ∷ xs))
+    by-test true e ih = (
+      λ m.
+          ⊎-elim
+          (λ (z : k ≡ x). (ap p z ∙ e, List·Memᴰ·head z))
+          (λ (q : List·Memᴰ k (those p xs)). let h = ih .0 q in (h .0, List·Memᴰ·tail (h .1)))
+          (List·Memᴰ·cases-cons m),
+      λ q. ⊎-elim (λ (z : k ≡ x). List·Memᴰ·head z) (λ (m : List·Memᴰ k xs). List·Memᴰ·tail (ih .1 (q .0, m))) (List·Memᴰ·cases-cons (q .1)),
+    )
+    by-test false e ih = (
+      λ m. let h = ih .0 m in (h .0, List·Memᴰ·tail (h .1)),
+      λ q. ⊎-elim (λ (z : k ≡ x). absurd (no (sym e ∙ ap p (sym z) ∙ q .0))) (λ (m : List·Memᴰ k xs). ih .1 (q .0, m)) (List·Memᴰ·cases-cons (q .1)),
+    )
+
+member-passes : (p : ℕ → Bool) (k : ℕ) (l : List ℕ) → all p l ≡ true → List·Memᴰ k l → p k ≡ true
+unfolding all
+member-passes p k [] e m = absurd (List·Memᴰ·not-nil m)
+member-passes p k (x ∷ xs) e m =
+    let h = and-both (p x) (all p xs) e in
+    ⊎-elim (λ (z : k ≡ x). ap p z ∙ h .0) (λ (q : List·Memᴰ k xs). member-passes p k xs (h .1) q) (List·Memᴰ·cases-cons m)
+
+entry-member : (l : List ℕ) (i : ℕ) → i < length l → List·Memᴰ (getD l i 0) l
+entry-member [] i h = absurd (omega arith)
+entry-member (x ∷ xs) zero h = List·Memᴰ·head refl
+entry-member (x ∷ xs) (suc i) h = List·Memᴰ·tail (entry-member xs i (le-of-suc-le-suc h))
+
+abbrev candidates : List ℕ
+candidates = entries (λ (k : ℕ). k + 1) 63
+
+candidates-are : all isCategory candidates ≡ true
+unfolding all entries
+candidates-are = refl
+
+category-member : (k : ℕ) → Category k → List·Memᴰ k candidates
+category-member k h =
+    let i : k - 1 < 63 = omega arith in
+    let e : getD candidates (k - 1) 0 ≡ k = entries-at (λ (j : ℕ). j + 1) 0 63 (k - 1) i ∙ omega arith in
+    subst (λ (x : ℕ). List·Memᴰ x candidates) e (entry-member candidates (k - 1) (omega (arith, entries-length (λ (j : ℕ). j + 1) 63)))
+
+-- each above the one before, and the first above b
+abbrev ascends : ℕ → List ℕ → Bool
+ascends b [] = true
+ascends b (x ∷ xs) = ltb b x && ascends x xs
+
+ascends-from : (a b : ℕ) (l : List ℕ) → a < b → ascends b l ≡ true → ascends a l ≡ true
+ascends-from a b [] h e = refl
+ascends-from a b (x ∷ xs) h e =
+    let q = and-both (ltb b x) (ascends x xs) e in
+    rw (lt-ltb a x (omega (arith, ltb-true b x (q .0))), q .1)
+
+those-ascend : (p : ℕ → Bool) (b : ℕ) (l : List ℕ) → ascends b l ≡ true → ascends b (those p l) ≡ true
+those-ascend p b [] e = refl
+those-ascend p b (x ∷ xs) e =
+    let q = and-both (ltb b x) (ascends x xs) e in
+    by-test (p x) (q .0) (those-ascend p x xs (q .1))
+  where
+    by-test : (t : Bool) → ltb b x ≡ true → ascends x (those p xs) ≡ true → ascends b (cond t (x ∷ those p xs) (those p xs)) ≡ true
+    by-test true h ih = rw (h, ih)
+    by-test false h ih = ascends-from b x (those p xs) (ltb-true b x h) ih
+
+ascends-at : (b : ℕ) (l : List ℕ) (i : ℕ) → ascends b l ≡ true → suc i < length l → getD l i 0 < getD l (suc i) 0
+ascends-at b [] i e h = absurd (omega arith)
+ascends-at b (x ∷ []) i e h = absurd (omega arith)
+ascends-at b (x ∷ y ∷ ys) zero e h = ltb-true x y (and-both (ltb x y) (ascends y ys) (and-both (ltb b x) (ltb x y && ascends y ys) e .1) .0)
+ascends-at b (x ∷ y ∷ ys) (suc i) e h = ascends-at x (y ∷ ys) i (and-both (ltb b x) (ltb x y && ascends y ys) e .1) (le-of-suc-le-suc h)
+
+candidates-ascend : ascends 0 candidates ≡ true
+unfolding entries
+candidates-ascend = refl
+
+listed-are : (set k : ℕ) → List·Memᴰ k (categories set) ↔ ((isCategory k ≡ true) × (hasCategory set k ≡ true))
+unfolding categories
+listed-are set k =
+    let h = those-member (hasCategory set) k candidates in (
+      λ m. let q = h .0 m in (member-passes isCategory k candidates candidates-are (q .1), q .0),
+      λ q. h .1 (q .1, category-member k (is-category k (q .0))),
+    )
+
+listed-ascend : (set i : ℕ) → suc i < length (categories set) → getD (categories set) i 0 < getD (categories set) (suc i) 0
+unfolding categories
+listed-ascend set i h = ascends-at 0 (those (hasCategory set) candidates) i (those-ascend (hasCategory set) 0 candidates candidates-ascend) h
+
 pub category-sets : CategorySets
 category-sets =
     record {
@@ -222,4 +315,6 @@ category-sets =
       one-more = λ set n k hn hk. has-with set n k (is-category n hn) (is-category k hk);
       still-known = λ set n hn. ap (λ (x : ℕ). eqb x 0) (with-low set n (is-category n hn));
       same = λ a b ha hb ka kb h. eq-eqb a b (same-set a b ha hb (λ k i. h k (category-is k i)) (eqb-true _ _ ka ∙ sym (eqb-true _ _ kb)));
+      listed = listed-are;
+      ascending = listed-ascend;
     }

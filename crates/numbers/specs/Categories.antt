@@ -1,9 +1,11 @@
 -- 01: levels are 0 to 255, and categories sit as bits of a u64. Category n, from 1 to 63, is the bit 2 ^ (64 - n): category 1 the top one; bit 0 is no
 -- category. All that is said of a set of categories stands here. Assumes nothing.
-use Prim.Native.Nat.{ℕ, _+_, _-_, _/_, _%_, _^_, _<_}
+use Prim.Native.Nat.{ℕ, suc, _+_, _-_, _/_, _%_, _^_, _<_}
 use mathlib.Core.Path.{_≡_}
 use mathlib.Core.Bool.{Bool, true, false, _&&_, _||_}
-use mathlib.Core.List.{List}
+use mathlib.Core.List.{List, List·Memᴰ}
+use mathlib.Core.Logic.{_↔_}
+use lib.ListN.{length, getD}
 use lib.Dec.{eqb, leb}
 use lib.Bits.{bitOr}
 use Rattle.search.specs.Search.{those, entries}
@@ -66,3 +68,6 @@ pub record CategorySets : Type 0 where
       knownSet b ≡ true →
       ((k : ℕ) → isCategory k ≡ true → hasCategory a k ≡ hasCategory b k) →
       sameSet a b ≡ true
+  -- the categories that a set has are listed, and no others, each above the one before: so the list is as long as they are many
+  pub listed : (set k : ℕ) → List·Memᴰ k (categories set) ↔ ((isCategory k ≡ true) × (hasCategory set k ≡ true))
+  pub ascending : (set i : ℕ) → suc i < length (categories set) → getD (categories set) i 0 < getD (categories set) (suc i) 0
