@@ -42,7 +42,7 @@ label-is b = (there, back)
     back : LabelByte b → labelByte b ≡ true
     back x = rw (le-leb 33 b (x .0), le-leb b 126 (x .1), ne-eqb b 47 (x .2), ne-eqb b 92 (x .3), ne-eqb b 39 (x .4), ne-eqb b 34 (x .5))
 
-blank-is : (b : ℕ) → (isBlank b ≡ true) ↔ Blank b
+pub blank-is : (b : ℕ) → (isBlank b ≡ true) ↔ Blank b
 unfolding isBlank
 blank-is b = or-is (eqb b 32) (eqb b 9) (eqb-is b 32) (eqb-is b 9)
 

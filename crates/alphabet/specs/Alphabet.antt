@@ -5,7 +5,7 @@ use Prim.Native.Nat.{ℕ, _<_, _≤_}
 use mathlib.Core.Path.{_≡_}
 use mathlib.Core.Logic.{_↔_, _≢_, _⊎_}
 use mathlib.Core.Bool.{Bool, true, false, cond, not, _&&_, _||_}
-use mathlib.Core.List.{List, [], _∷_}
+use mathlib.Core.List.{List, [], _∷_, _++_}
 use lib.ListN.{length, getD}
 use lib.Dec.{eqb, leb}
 use Rattle.search.specs.Search.{all, those}
@@ -109,3 +109,27 @@ hasByte (b ∷ bs) = true
 
 unfoldable pub fields : List ℕ → List (List ℕ)
 fields line = those hasByte (parts line)
+
+-- What 01 says of the fields, without the parts above. Every byte is a blank, and no byte is one:
+abbrev pub Blanks : List ℕ → Type 0
+Blanks bs = (k : ℕ) → k < length bs → Blank (getD bs k 0)
+
+abbrev pub NoBlanks : List ℕ → Type 0
+NoBlanks f = (k : ℕ) → k < length f → Blank (getD f k 0) → ⊥
+
+-- the fields that a line is cut into: none where it is blanks alone; or else, past blanks, a field that has bytes and no blank among them and is followed
+-- by a blank or by nothing, and then the fields of what is left
+pub data Cut : List ℕ → List (List ℕ) → Type 0 where
+  blanks : (bs : List ℕ) → Blanks bs → Cut bs []
+  field :
+      (bs f rest : List ℕ) (fs : List (List ℕ)) →
+      Blanks bs →
+      1 ≤ length f →
+      NoBlanks f →
+      (1 ≤ length rest → Blank (getD rest 0 0)) →
+      Cut rest fs →
+      Cut (bs ++ (f ++ rest)) (f ∷ fs)
+
+-- these are the fields of a line, and no others
+abbrev pub FieldsOfALine : Type 0
+FieldsOfALine = (line : List ℕ) (fs : List (List ℕ)) → (fields line ≡ fs) ↔ Cut line fs

@@ -3,7 +3,7 @@ use search::Found;
 ghost use mathlib.Core.Path.{_≡_};
 ghost use Prim.Native.Nat.{_+_};
 ghost use lib.ListN.{drop, getD};
-ghost use Rattle.alphabet.specs.Alphabet.{classOf, ByteClasses};
+ghost use Rattle.alphabet.specs.Alphabet.{classOf, ByteClasses, FieldsOfALine};
 ghost use Rattle.alphabet.specs.Within.{classTable, run, fieldAt, faultOf};
 
 // The bytes that have a part of their own.
@@ -367,3 +367,8 @@ pub fn next_field(line: &[u8], from: usize) -> Field
     let end = skip(&classes, line, start, false);
     Field::Part { start, end }
 }
+
+// The claim that the fields of a line are those that 01 says: the longest runs of bytes that are neither space nor tab.
+pub fn fields_of_a_line()
+    ensures { λ _. ⌜ FieldsOfALine ⌝ }
+{}

@@ -8,6 +8,7 @@ ghost use Rattle.search.specs.Search.{all, entries as listed};
 ghost use Rattle.store.specs.Table.{soundRule, soundTable, ruleLimit, mappingLimit, onlycapLimit};
 ghost use Rattle.store.specs.Layout.{store, lent, modesFrom, onlycapFrom, setsFrom, ruleAt, tableOf, undamagedOf};
 ghost use Rattle.store.specs.Within.{Counts};
+ghost use Rattle.damage.specs.Undamaged.{WhatUndamagedIs};
 ghost use Rattle.damage.specs.Within.{Bounded};
 
 // What no known modes reach: there are six letters, each a bit.
@@ -106,6 +107,11 @@ fn sound(entries: &[u8], words: &[u64]) -> bool
     let listed = search::all_below(&entries[store::ONLYCAP_FROM..ONLYCAP_TO], onlycap, labels);
     rules & (mapped & sets) & listed
 }
+
+// The claim that a state passes the definition's damage test, and so, by the contract below, the code's, exactly where it is as 01 says of refusal 0.
+pub fn what_undamaged_is()
+    ensures { λ _. ⌜ WhatUndamagedIs ⌝ }
+{}
 
 // Whether the lent state is undamaged: refusal 0 otherwise.
 pub fn undamaged(labels: &[u8], entries: &[u8], words: &[u64]) -> bool

@@ -2,7 +2,7 @@
 ghost use mathlib.Core.Path.{_≡_};
 ghost use Prim.Native.Nat.{_+_, _%_};
 ghost use lib.ListN.{length};
-ghost use Rattle.numbers.specs.Numbers.{numberOf};
+ghost use Rattle.numbers.specs.Numbers.{numberOf, NumbersOfDigits};
 ghost use Rattle.numbers.specs.Categories.{categoryBit, categories, withCategory, CategorySets};
 ghost use Rattle.numbers.specs.Within.{Category};
 
@@ -49,6 +49,11 @@ pub fn read_number(field: &[u8]) -> Number
     }
     Number::Value(value)
 }
+
+// The claim that a number is as 01 says: the definition's, and so, by the contract above, the code's.
+pub fn numbers_of_digits()
+    ensures { λ _. ⌜ NumbersOfDigits ⌝ }
+{}
 
 // The claim that a set is told by its categories: what one category more changes, and that two sets with the same categories are equal.
 pub fn category_sets()

@@ -1,7 +1,10 @@
 -- 01, What the program reads and writes: the lines that are written, as bytes. Assumes nothing.
-use Prim.Native.Nat.{ℕ, zero, suc, _+_, _/_, _%_}
+use Prim.Native.Nat.{ℕ, zero, suc, _+_, _-_, _*_, _/_, _%_, _<_, _≤_}
+use mathlib.Core.Path.{_≡_}
+use mathlib.Core.Logic.{_↔_, _≢_}
 use mathlib.Core.Bool.{Bool, true, false, cond}
-use mathlib.Core.List.{List, [], _∷_, _++_}
+use mathlib.Core.List.{List, [], _∷_, _++_, foldl}
+use lib.ListN.{length, getD}
 use lib.Dec.{ltb}
 use Rattle.search.specs.Bytes.{ascii}
 use Rattle.alphabet.specs.Alphabet.{space, newline}
@@ -17,6 +20,18 @@ digits (suc k) n = cond (ltb n 10) ((48 + n) ∷ []) (digits k (n / 10) ++ ((48 
 
 unfoldable pub decimal : ℕ → List ℕ
 decimal n = digits (suc n) n
+
+-- What a number in decimal digits is, without the division above: bytes 0 (48) to 9 (57), of which the first is no 0 where there are more, and which
+-- read from the left give the number.
+pub record Decimal (n : ℕ) (ds : List ℕ) : Type 0 where
+  pub some : 1 ≤ length ds
+  pub bytes : (k : ℕ) → k < length ds → (48 ≤ getD ds k 0) × (getD ds k 0 ≤ 57)
+  pub no-leading-zero : 1 < length ds → getD ds 0 0 ≢ 48
+  pub value : foldl (λ (v b : ℕ). v * 10 + (b - 48)) 0 ds ≡ n
+
+-- the digits of a number are those, and no others
+abbrev pub DecimalReadsBack : Type 0
+DecimalReadsBack = (n : ℕ) (ds : List ℕ) → (decimal n ≡ ds) ↔ Decimal n ds
 
 -- numbers on one line, with a space between
 abbrev pub numbersLine : List ℕ → List ℕ

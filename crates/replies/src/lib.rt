@@ -4,7 +4,7 @@ use reports::Report;
 ghost use mathlib.Core.List.{[], _∷_, _++_};
 ghost use Prim.Native.Nat.{_+_, _≤_};
 ghost use lib.ListN.{length};
-ghost use Rattle.replies.specs.Replies.{lineRoom, decimal, reportText, wordOf, answerLine};
+ghost use Rattle.replies.specs.Replies.{lineRoom, decimal, DecimalReadsBack, reportText, wordOf, answerLine};
 ghost use Rattle.replies.specs.Within.{Put};
 
 // The most bytes of a line that is written.
@@ -23,6 +23,11 @@ fn write_number(out: &mut [u8], at: usize, n: u32) -> usize
     out[next] = b'0' + (n % 10) as u8;
     next + 1
 }
+
+// The claim that a number in decimal digits, the definition's and so, by the contract above, the code's, reads back as that number.
+pub fn decimal_reads_back()
+    ensures { λ _. ⌜ DecimalReadsBack ⌝ }
+{}
 
 // Writes a number and the byte behind it.
 fn write_field(out: &mut [u8], at: usize, n: u32, behind: u8) -> usize
