@@ -1,15 +1,17 @@
 -- What the program writes: every run of its calls says what 01 has written, and every input has a run. Assumes nothing.
 use mathlib.Core.Path.{_≡_, refl, sym, ap, _∙_, subst}
-use mathlib.Core.Bool.{cond, _&&_}
+use mathlib.Core.Bool.{true, false, cond, _&&_}
 use mathlib.Core.List.{List, [], _∷_, _++_}
 use Prim.Native.Nat.{ℕ, _*_, _≤_}
 use native.Mathlib.Omega.{arith}
 use lib.Dec.{leb}
 use lib.ListN.{length, replicate, length-replicate}
 use denote.Ref.{RefT, now}
-use Rattle.search.specs.Bytes.{written}
-use Rattle.alphabet.specs.Alphabet.{lineLimit}
-use Rattle.store.specs.Table.{fresh}
+use borrow.Author.Tests.{le-ltb}
+use Rattle.search.specs.Bytes.{ascii, sameBytes, written}
+use Rattle.alphabet.specs.Alphabet.{lineLimit, fields}
+use Rattle.store.specs.Table.{Table, fresh}
+use Rattle.access.specs.Access.{answer}
 use Rattle.store.specs.Layout.{Store, Sizes}
 use Rattle.store.specs.Judged.{freshStore}
 use Rattle.store.proofs.Judged.{fresh-entries}
@@ -17,7 +19,7 @@ use Rattle.load.specs.Loader.{ready}
 use Rattle.lists.specs.Called.{first, second, third, fourth, seventh, lent, left}
 use Rattle.lists.specs.Reader.{startOn}
 use Rattle.program.specs.declared.Session.{Session}
-use Rattle.program.specs.Program.{output}
+use Rattle.program.specs.Program.{answerTo, output}
 use Rattle.program.specs.Steps.{State, state, freshSession, turnOf, takeInput, sayInput, takeLast, sayLast}
 use Rattle.program.specs.Turns.{wentSession}
 use Rattle.program.proofs.Laws.{some-turn}
@@ -119,5 +121,21 @@ some-run st line pieces =
     let rest = runs (c.begun (begin-call st)) line freshSession pieces in
     (begin-call st, refl, rest .0, rest .1)
 
+asks :
+    (t : Table) (line s o request : List ℕ) →
+    length line ≤ lineLimit →
+    fields line ≡ s ∷ o ∷ request ∷ [] →
+    answerTo (answer t) line ≡ answer t s o request false
+unfolding answerTo
+asks t line s o request h e = rw (le-ltb lineLimit (length line) h, e)
+
+asks-capable :
+    (t : Table) (line s o request : List ℕ) →
+    length line ≤ lineLimit →
+    fields line ≡ s ∷ o ∷ request ∷ ascii "o" ∷ [] →
+    answerTo (answer t) line ≡ answer t s o request true
+unfolding answerTo sameBytes
+asks-capable t line s o request h e = rw (le-ltb lineLimit (length line) h, e)
+
 pub program-output : ProgramOutput
-program-output = record { writes = writes; some-run = some-run }
+program-output = record { writes = writes; some-run = some-run; asks = asks; asks-capable = asks-capable }

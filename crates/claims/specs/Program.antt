@@ -6,11 +6,15 @@ use mathlib.Core.Path.{_≡_}
 use mathlib.Core.List.{List, [], _∷_, _++_}
 use lib.ListN.{length, take}
 use denote.Ref.{now}
-use Rattle.alphabet.specs.Alphabet.{lineLimit}
+use mathlib.Core.Bool.{true, false}
+use Rattle.search.specs.Bytes.{ascii}
+use Rattle.alphabet.specs.Alphabet.{lineLimit, fields}
 use Rattle.store.specs.Layout.{Store, store, Sizes}
 use Rattle.lists.specs.Called.{Called, first, second, third, fourth, fifth, sixth, seventh, lent, left}
 use Rattle.program.specs.declared.Session.{Session}
-use Rattle.program.specs.Program.{output}
+use Rattle.store.specs.Table.{Table}
+use Rattle.access.specs.Access.{answer}
+use Rattle.program.specs.Program.{answerTo, output}
 use Rattle.program.specs.Turns.{wentSession, wentCount}
 use Rattle.program.proofs.begin.Kinds as begin-kinds
 use Rattle.program.proofs.begin.Reads as begin-reads
@@ -67,3 +71,14 @@ pub record ProgramOutput : Type 0 where
   pub some-run :
       (st : Store) (line : List ℕ) (pieces : List (List ℕ)) →
       (k : Called-begin) × (lent (k .args) ≡ st) × (said : List ℕ) × InPieces (begun k) line (k .result) pieces said
+  -- a question line of three fields asks as it stands; with a fourth, `o`, the asker has the capability
+  pub asks :
+      (t : Table) (line s o request : List ℕ) →
+      length line ≤ lineLimit →
+      fields line ≡ s ∷ o ∷ request ∷ [] →
+      answerTo (answer t) line ≡ answer t s o request false
+  pub asks-capable :
+      (t : Table) (line s o request : List ℕ) →
+      length line ≤ lineLimit →
+      fields line ≡ s ∷ o ∷ request ∷ ascii "o" ∷ [] →
+      answerTo (answer t) line ≡ answer t s o request true

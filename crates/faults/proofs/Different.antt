@@ -12,21 +12,21 @@ use Rattle.search.specs.declared.Found.the-variants.{At, Nothing}
 use Rattle.search.proofs.Laws.{no, same-equal, same-sym}
 use Rattle.store.specs.Table.{labelsEntered, enter}
 use Rattle.access.specs.Access.{isFound}
-use Rattle.faults.specs.Faults.{among, differentOnes, newOnes}
+use Rattle.faults.specs.Faults.{isOneOf, differentOnes, newOnes}
 
--- ---- whether a label is among some
+-- ---- whether a label is isOneOf some
 
-found-among : (x : List ℕ) (ls : List (List ℕ)) → isFound (first (sameBytes x) ls) ≡ among x ls
+found-among : (x : List ℕ) (ls : List (List ℕ)) → isFound (first (sameBytes x) ls) ≡ isOneOf x ls
 unfolding first
 found-among x [] = refl
 found-among x (y ∷ ys) = by-test (sameBytes x y) (first (sameBytes x) ys) (found-among x ys)
   where
-    by-test : (b : Bool) (f : Found) → isFound f ≡ among x ys → isFound (cond b (At zero) (later f)) ≡ (b || among x ys)
+    by-test : (b : Bool) (f : Found) → isFound f ≡ isOneOf x ys → isFound (cond b (At zero) (later f)) ≡ (b || isOneOf x ys)
     by-test true f e = refl
     by-test false (At k) e = e
     by-test false Nothing e = e
 
-among-last : (x : List ℕ) (ls : List (List ℕ)) (y : List ℕ) → among x (ls ++ (y ∷ [])) ≡ (among x ls || sameBytes x y)
+among-last : (x : List ℕ) (ls : List (List ℕ)) (y : List ℕ) → isOneOf x (ls ++ (y ∷ [])) ≡ (isOneOf x ls || sameBytes x y)
 among-last x [] y = by-test (sameBytes x y)
   where
     by-test : (b : Bool) → (b || false) ≡ b
@@ -34,7 +34,7 @@ among-last x [] y = by-test (sameBytes x y)
     by-test false = refl
 among-last x (z ∷ zs) y = rw (among-last x zs y) (by-test (sameBytes x z))
   where
-    by-test : (b : Bool) → (b || (among x zs || sameBytes x y)) ≡ ((b || among x zs) || sameBytes x y)
+    by-test : (b : Bool) → (b || (isOneOf x zs || sameBytes x y)) ≡ ((b || isOneOf x zs) || sameBytes x y)
     by-test true = refl
     by-test false = refl
 
@@ -52,10 +52,10 @@ those-all (x ∷ xs) = ap (λ (l : List (List ℕ)). x ∷ l) (those-all xs)
 
 module _ (ls : List (List ℕ)) (y : List ℕ) where
   abbrev beside : List ℕ → Bool
-  beside x = not (among x ls)
+  beside x = not (isOneOf x ls)
 
   abbrev besideMore : List ℕ → Bool
-  besideMore x = not (among x ls || sameBytes x y)
+  besideMore x = not (isOneOf x ls || sameBytes x y)
 
   abbrev many : List (List ℕ) → ℕ
   many xs = length (those beside xs)
@@ -65,7 +65,7 @@ module _ (ls : List (List ℕ)) (y : List ℕ) where
 
   -- one that is not y is in both or in neither
   kept : (z : List ℕ) (rest : List (List ℕ)) → sameBytes y z ≡ false → (a : ℕ) → a + manyMore rest ≡ many rest → a + manyMore (z ∷ rest) ≡ many (z ∷ rest)
-  kept z rest apart a h = rw (same-sym z y ∙ apart) (by-test (among z ls))
+  kept z rest apart a h = rw (same-sym z y ∙ apart) (by-test (isOneOf z ls))
     where
       by-test :
           (b : Bool) →
@@ -74,10 +74,10 @@ module _ (ls : List (List ℕ)) (y : List ℕ) where
       by-test true = h
       by-test false = omega arith
 
-  -- where y is not among them it makes no difference
-  absent : (xs : List (List ℕ)) → among y xs ≡ false → manyMore (differentOnes xs) ≡ many (differentOnes xs)
+  -- where y is not isOneOf them it makes no difference
+  absent : (xs : List (List ℕ)) → isOneOf y xs ≡ false → manyMore (differentOnes xs) ≡ many (differentOnes xs)
   absent [] e = refl
-  absent (z ∷ zs) e = by-test (sameBytes y z) refl (among y zs) (absent zs) e (among z zs)
+  absent (z ∷ zs) e = by-test (sameBytes y z) refl (isOneOf y zs) (absent zs) e (isOneOf z zs)
     where
       by-test :
           (c : Bool) →
@@ -92,46 +92,46 @@ module _ (ls : List (List ℕ)) (y : List ℕ) where
       by-test false ec d h q false = let k = h q in omega (arith, kept z (differentOnes zs) ec 0 (omega arith))
 
   -- where it is, it counts once
-  present : (xs : List (List ℕ)) → among y ls ≡ false → among y xs ≡ true → 1 + manyMore (differentOnes xs) ≡ many (differentOnes xs)
+  present : (xs : List (List ℕ)) → isOneOf y ls ≡ false → isOneOf y xs ≡ true → 1 + manyMore (differentOnes xs) ≡ many (differentOnes xs)
   present [] new e = absurd (no e)
-  present (z ∷ zs) new e = by-test (sameBytes y z) refl (among z zs) refl (present zs new) e
+  present (z ∷ zs) new e = by-test (sameBytes y z) refl (isOneOf z zs) refl (present zs new) e
     where
       by-test :
           (c : Bool) →
           sameBytes y z ≡ c →
           (b : Bool) →
-          among z zs ≡ b →
-          (among y zs ≡ true → 1 + manyMore (differentOnes zs) ≡ many (differentOnes zs)) →
-          (c || among y zs) ≡ true →
+          isOneOf z zs ≡ b →
+          (isOneOf y zs ≡ true → 1 + manyMore (differentOnes zs) ≡ many (differentOnes zs)) →
+          (c || isOneOf y zs) ≡ true →
           1 + manyMore (cond b (differentOnes zs) (z ∷ differentOnes zs)) ≡ many (cond b (differentOnes zs) (z ∷ differentOnes zs))
-      by-test true ec true eb h q = h (ap (λ (x : List ℕ). among x zs) (same-equal y z ec) ∙ eb)
+      by-test true ec true eb h q = h (ap (λ (x : List ℕ). isOneOf x zs) (same-equal y z ec) ∙ eb)
       by-test false ec true eb h q = h q
       by-test false ec false eb h q = kept z (differentOnes zs) ec 1 (h q)
       by-test true ec false eb h q =
-          let here : among z ls ≡ false = ap (λ (x : List ℕ). among x ls) (sym (same-equal y z ec)) ∙ new in
-          let gone : among y zs ≡ false = ap (λ (x : List ℕ). among x zs) (same-equal y z ec) ∙ eb in
+          let here : isOneOf z ls ≡ false = ap (λ (x : List ℕ). isOneOf x ls) (sym (same-equal y z ec)) ∙ new in
+          let gone : isOneOf y zs ≡ false = ap (λ (x : List ℕ). isOneOf x zs) (same-equal y z ec) ∙ eb in
           rw (here, same-sym z y ∙ ec) (omega (arith, absent zs gone))
 
   -- once y has entered, the others count
   pub entered-beside : (xs : List (List ℕ)) → length (newOnes (ls ++ (y ∷ [])) xs) ≡ manyMore (differentOnes xs)
-  entered-beside xs = ap length (those-same (λ (x : List ℕ). not (among x (ls ++ (y ∷ [])))) besideMore (λ x. ap not (among-last x ls y)) (differentOnes xs))
+  entered-beside xs = ap length (those-same (λ (x : List ℕ). not (isOneOf x (ls ++ (y ∷ [])))) besideMore (λ x. ap not (among-last x ls y)) (differentOnes xs))
 
 -- SO MANY ENTER
 pub entered-many : (xs ls : List (List ℕ)) → length (foldl enter ls xs) ≡ length ls + length (newOnes ls xs)
 entered-many [] ls = omega arith
 entered-many (y ∷ xs) ls = entered-many xs (enter ls y) ∙ by-found (first (sameBytes y) ls) (found-among y ls)
   where
-    known : among y ls ≡ true → (b : Bool) → many ls y (cond b (differentOnes xs) (y ∷ differentOnes xs)) ≡ many ls y (differentOnes xs)
+    known : isOneOf y ls ≡ true → (b : Bool) → many ls y (cond b (differentOnes xs) (y ∷ differentOnes xs)) ≡ many ls y (differentOnes xs)
     known e true = refl
     known e false = rw e
 
-    new : among y ls ≡ false → (b : Bool) → among y xs ≡ b → many ls y (cond b (differentOnes xs) (y ∷ differentOnes xs)) ≡ 1 + manyMore ls y (differentOnes xs)
+    new : isOneOf y ls ≡ false → (b : Bool) → isOneOf y xs ≡ b → many ls y (cond b (differentOnes xs) (y ∷ differentOnes xs)) ≡ 1 + manyMore ls y (differentOnes xs)
     new e true q = sym (present ls y xs e q)
     new e false q = rw e (omega (arith, absent ls y xs q))
 
     by-found :
         (f : Found) →
-        isFound f ≡ among y ls →
+        isFound f ≡ isOneOf y ls →
         length (labelsEntered f ls y) + length (newOnes (labelsEntered f ls y) xs) ≡ length ls + length (newOnes ls (y ∷ xs))
-    by-found (At k) e = ap (λ (n : ℕ). length ls + n) (sym (known (sym e) (among y xs)))
-    by-found Nothing e = rw (entered-beside ls y xs, length-append ls (y ∷ [])) (omega (arith, new (sym e) (among y xs) refl))
+    by-found (At k) e = ap (λ (n : ℕ). length ls + n) (sym (known (sym e) (isOneOf y xs)))
+    by-found Nothing e = rw (entered-beside ls y xs, length-append ls (y ∷ [])) (omega (arith, new (sym e) (isOneOf y xs) refl))

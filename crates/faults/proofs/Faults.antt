@@ -4,11 +4,12 @@ use native.Mathlib.Omega.{arith}
 use mathlib.Core.Path.{_≡_, refl, sym, ap, _∙_}
 use mathlib.Core.Bool.{Bool, true, false, cond, not, _&&_, _||_}
 use mathlib.Core.List.{List, [], _∷_, foldl}
+use mathlib.Core.Logic.{_↔_}
 use lib.Dec.{eqb, ltb, leb}
 use lib.ListN.{length, getD}
 use borrow.Author.Tests.{lt-ltb, le-ltb, ltb-true, ltb-false, le-leb, lt-leb, leb-true, leb-false, eq-eqb, ne-eqb}
 use Rattle.search.specs.Search.{all, first, entries, placeOf}
-use Rattle.search.specs.Bytes.{sameBytes}
+use Rattle.search.specs.Bytes.{ascii, sameBytes}
 use Rattle.search.specs.declared.Found.{Found}
 use Rattle.search.specs.declared.Found.the-variants.{At, Nothing}
 use Rattle.search.proofs.Laws.{no, and-both, entries-length, all-at, first-none}
@@ -48,6 +49,7 @@ use Rattle.run.specs.declared.Record.{Record}
 use Rattle.run.specs.declared.Best.{Best}
 use Rattle.run.specs.declared.Best.the-variants as best
 use Rattle.run.specs.Run as run
+use Rattle.program.specs.Program.{asked, answerTo}
 use Rattle.access.specs.Access.{isFound, effective, answer, answered, decide, byRequest, questionOf}
 use Rattle.access.specs.SevenRules.{firstOf, sevenRules}
 use Rattle.access.specs.declared.Verdict.{Verdict}
@@ -79,7 +81,7 @@ use Rattle.faults.specs.Faults.{
   badBytes,
   freePlaces,
   pairFaults,
-  ruleFaults,
+  lineFieldFaults,
   lineFaults,
   changeFaults,
   revokeFaults,
@@ -87,8 +89,8 @@ use Rattle.faults.specs.Faults.{
   differentOnes,
   newOnes,
   clears,
-  labelFaults,
-  overrideFaults,
+  onlycapLabelFaults,
+  onlycapFieldFaults,
   onlycapFaults,
   numberPasses,
   levelField,
@@ -101,7 +103,12 @@ use Rattle.faults.specs.Faults.{
   byLabelFaults,
   inRunFaults,
   byLevelFaults,
+  isTooLong,
+  field,
+  askFaults,
   questionFaults,
+  asksAQuestion,
+  questionLineFaults,
   listingFaults,
   labelByNumberFaults,
   FirstInOrder,
@@ -359,7 +366,7 @@ module _ (t : Table) (few-labels : length (t .labels) ≤ 64) (few-rules : lengt
       by-tests true true false = refl
       by-tests true true true = by-same (sameBytes s o) refl
 
-  line-fields : (fs : List (List ℕ)) → judged-by (judged t (ruleFields fs)) ≡ firstFault (cond (eqb (length fs) 0) [] (ruleFaults t fs))
+  line-fields : (fs : List (List ℕ)) → judged-by (judged t (ruleFields fs)) ≡ firstFault (cond (eqb (length fs) 0) [] (lineFieldFaults t fs))
   line-fields [] = refl
   line-fields (s ∷ []) = refl
   line-fields (s ∷ o ∷ []) = refl
@@ -374,7 +381,7 @@ module _ (t : Table) (few-labels : length (t .labels) ≤ 64) (few-rules : lengt
       by-length :
           (b : Bool) →
           judged-by (judged t (cond b (refused 1) (ruleFields (fields text))))
-          ≡ cond b (by 1) (firstFault (cond (eqb (length (fields text)) 0) [] (ruleFaults t (fields text))))
+          ≡ cond b (by 1) (firstFault (cond (eqb (length (fields text)) 0) [] (lineFieldFaults t (fields text))))
       by-length true = refl
       by-length false = line-fields (fields text)
 
@@ -445,11 +452,62 @@ write-first st write more h =
     (state-first (λ j. done-by (doneOf j)) (undamagedOf st) (write (tableOf st)) (is-refused 0) (firstFault more) refl
     (λ u. done-judged (write (tableOf st)) ∙ h u))
 
+-- an outcome that is no skip
+isSkipped : Outcome → Bool
+isSkipped v.Skipped = true
+isSkipped v.Accepted = false
+isSkipped (v.Refused n) = false
+
+not-skipped-refused : {n : ℕ} → v.Refused n ≡ v.Skipped → ⊥
+unfolding isSkipped
+not-skipped-refused e = no (ap isSkipped e)
+
+never-skipped : (t : Table) (s o access : List ℕ) → outcomeOf (judged t (ruleBy s o access)) ≡ v.Skipped → ⊥
+unfolding isSkipped ruleBy readModes
+never-skipped t s o access e = no (sym (by-tests (wellFormed s && wellFormed o) (all (allowedByte 63 true) access) (sameBytes s o)) ∙ ap isSkipped e)
+  where
+    by-room : (p q : Bool) (u : Table) → isSkipped (outcomeOf (cond p (is-refused 6) (cond q (is-refused 7) (is-accepted u)))) ≡ false
+    by-room true q u = refl
+    by-room false true u = refl
+    by-room false false u = refl
+
+    by-tests : (p q same : Bool) → isSkipped (outcomeOf (judged t (cond p (ruleWith s o (cond q (Modes (modesOf access)) Bad)) (refused 3)))) ≡ false
+    by-tests false q same = refl
+    by-tests true false same = refl
+    by-tests true true same = by-same (sameBytes s o)
+      where
+        by-same : (b : Bool) → isSkipped (outcomeOf (judged t (cond b (refused 5) (rule s o (modesOf access))))) ≡ false
+        by-same true = refl
+        by-same false = by-room (ltb 64 (length (pairLabels t s o))) (noPlace (pairRule t s o) (length (t .rules)) 256) (withPair t s o (modesOf access))
+
 line-refused : (st : Store) (text : List ℕ) → undamagedOf st ≡ true → Refuses (lineOutcome st text) v.Refused (lineFaults (tableOf st) text)
 unfolding lineOutcome
 line-refused st text u =
     of-outcome _ (lineFaults (tableOf st) text)
     (outcome-judged (judged (tableOf st) (ruleOf text)) ∙ line-first (tableOf st) (labels-few st u) (rules-few st u) text)
+
+-- a line is skipped exactly where it is not too long and has no field
+line-skipped : (st : Store) (text : List ℕ) → (lineOutcome st text ≡ v.Skipped) ↔ ((isTooLong text ≡ false) × (fields text ≡ []))
+unfolding lineOutcome ruleOf
+line-skipped st text = (λ e. by-length (isTooLong text) refl e, λ h. rw (h .0, h .1))
+  where
+    t : Table
+    t = tableOf st
+
+    by-fields : (fs : List (List ℕ)) → outcomeOf (judged t (ruleFields fs)) ≡ v.Skipped → fs ≡ []
+    by-fields [] e = refl
+    by-fields (s ∷ []) e = absurd (not-skipped-refused e)
+    by-fields (s ∷ o ∷ []) e = absurd (not-skipped-refused e)
+    by-fields (s ∷ o ∷ a ∷ []) e = absurd (never-skipped t s o a e)
+    by-fields (s ∷ o ∷ a ∷ x ∷ more) e = absurd (not-skipped-refused e)
+
+    by-length :
+        (b : Bool) →
+        isTooLong text ≡ b →
+        outcomeOf (judged t (cond b (refused 1) (ruleFields (fields text)))) ≡ v.Skipped →
+        (isTooLong text ≡ false) × (fields text ≡ [])
+    by-length true q e = absurd (not-skipped-refused e)
+    by-length false q e = (q, by-fields (fields text) e)
 
 change-refused : (st : Store) (text : List ℕ) → Refuses (changeAnswer st text) d.Refused (changeFaults st text)
 unfolding changeAnswer
@@ -483,7 +541,7 @@ different-many : (fs : List (List ℕ)) → length (different fs) ≡ length (di
 different-many fs = let k = ap length (those-all (differentOnes fs)) in omega (arith, entered-many fs [])
 
 module _ (t : Table) (few-labels : length (t .labels) ≤ 64) where
-  labels-first : (fs : List (List ℕ)) → judged-by (onlycapLabels t fs) ≡ firstFault (labelFaults t fs)
+  labels-first : (fs : List (List ℕ)) → judged-by (onlycapLabels t fs) ≡ firstFault (onlycapLabelFaults t fs)
   labels-first fs =
       by-tests (all wellFormed fs) (ltb 8 (length (different fs))) (ltb 64 (length (labelsWith t fs)))
       ∙ rw (different-many fs, entered-many fs (t .labels), over-free 64 (length (t .labels)) (length (newOnes (t .labels) fs)) few-labels)
@@ -502,29 +560,29 @@ module _ (t : Table) (few-labels : length (t .labels) ≤ 64) where
   lone-dash (x ∷ []) = refl
   lone-dash (x ∷ y ∷ more) = rw (ne-eqb (length (x ∷ y ∷ more)) 1 (λ q. omega arith))
 
-  override-first : (fs : List (List ℕ)) → judged-by (onlycapFields t fs) ≡ firstFault (overrideFaults t fs)
+  override-first : (fs : List (List ℕ)) → judged-by (onlycapFields t fs) ≡ firstFault (onlycapFieldFaults t fs)
   override-first [] = refl
   override-first (x ∷ more) = rw (ne-eqb (length (x ∷ more)) 0 (λ q. omega arith)) (by-dash (loneDash (x ∷ more)) (lone-dash (x ∷ more)))
     where
       by-dash :
           (b : Bool) →
           b ≡ clears (x ∷ more) →
-          judged-by (cond b (is-accepted (withOnlycap t [])) (onlycapLabels t (x ∷ more))) ≡ firstFault (cond (clears (x ∷ more)) [] (labelFaults t (x ∷ more)))
+          judged-by (cond b (is-accepted (withOnlycap t [])) (onlycapLabels t (x ∷ more))) ≡ firstFault (cond (clears (x ∷ more)) [] (onlycapLabelFaults t (x ∷ more)))
       by-dash true q = rw (← q)
       by-dash false q = rw (← q) (labels-first (x ∷ more))
 
-  onlycap-judged : (text : List ℕ) → judged-by (onlycapWrite text t) ≡ firstFault (writeFaults text (overrideFaults t (fields text)))
+  onlycap-judged : (text : List ℕ) → judged-by (onlycapWrite text t) ≡ firstFault (writeFaults text (onlycapFieldFaults t (fields text)))
   unfolding onlycapWrite
   onlycap-judged text = by-length (ltb 600 (length text))
     where
-      by-length : (b : Bool) → judged-by (cond b (is-refused 1) (onlycapFields t (fields text))) ≡ cond b (by 1) (firstFault (overrideFaults t (fields text)))
+      by-length : (b : Bool) → judged-by (cond b (is-refused 1) (onlycapFields t (fields text))) ≡ cond b (by 1) (firstFault (onlycapFieldFaults t (fields text)))
       by-length true = refl
       by-length false = override-first (fields text)
 
 onlycap-refused : (st : Store) (text : List ℕ) → Refuses (onlycapAnswer st text) d.Refused (onlycapFaults st text)
 unfolding onlycapAnswer
 onlycap-refused st text =
-    write-first st (onlycapWrite text) (writeFaults text (overrideFaults (tableOf st) (fields text))) (λ u. onlycap-judged (tableOf st) (labels-few st u) text)
+    write-first st (onlycapWrite text) (writeFaults text (onlycapFieldFaults (tableOf st) (fields text))) (λ u. onlycap-judged (tableOf st) (labels-few st u) text)
 
 -- ---- mapping
 
@@ -725,12 +783,11 @@ run-refused records level set =
 
 -- ---- a question
 
-question-refused : (st : Store) (s o request : List ℕ) (capable : Bool) → Refuses (questionOf st s o request capable) a.Refused (questionFaults st s o request)
-unfolding questionOf answer decide readModes
-question-refused st s o request capable =
-    of-answer _ (questionFaults st s o request)
-    (state-first answer-by (undamagedOf st) _ (a.Refused 0) _ refl
-    (λ u. by-tests (wellFormed s) (wellFormed o) (eqb (length request) 0) (all (allowedByte requestLetters false) request)))
+-- what the answer to a question is refused by, of any table
+asked-first :
+    (t : Table) (s o request : List ℕ) (capable : Bool) → answer-by (answer t s o request capable) ≡ firstFault (askFaults s o request)
+unfolding answer decide readModes
+asked-first t s o request capable = by-tests (wellFormed s) (wellFormed o) (eqb (length request) 0) (all (allowedByte requestLetters false) request)
   where
     by-verdict : (override : Bool) (x : Verdict) → answer-by (answered override x) ≡ none
     by-verdict override (verdict.Grants k b) = refl
@@ -741,14 +798,48 @@ question-refused st s o request capable =
 
     by-tests :
         (p q m n : Bool) →
-        answer-by (cond (p && q) (cond m (a.Refused 8) (byRequest (tableOf st) s o capable (cond n (Modes (modesOf request)) Bad))) (a.Refused 3))
+        answer-by (cond (p && q) (cond m (a.Refused 8) (byRequest t s o capable (cond n (Modes (modesOf request)) Bad))) (a.Refused 3))
         ≡ cond (not p || not q) (by 3) (cond (m || not n) (by 8) none)
     by-tests false q m n = refl
     by-tests true false m n = refl
     by-tests true true true n = refl
     by-tests true true false false = refl
-    by-tests true true false true =
-        by-verdict (effective (tableOf st) (labelIn (tableOf st) s) capable) (firstOf (sevenRules (tableOf st) s o (modesOf request)))
+    by-tests true true false true = by-verdict (effective t (labelIn t s) capable) (firstOf (sevenRules t s o (modesOf request)))
+
+question-refused : (st : Store) (s o request : List ℕ) (capable : Bool) → Refuses (questionOf st s o request capable) a.Refused (questionFaults st s o request)
+unfolding questionOf
+question-refused st s o request capable =
+    of-answer _ (questionFaults st s o request)
+    (state-first answer-by (undamagedOf st) _ (a.Refused 0) _ refl (λ u. asked-first (tableOf st) s o request capable))
+
+-- ---- a question line of the program
+
+question-line-refused : (t : Table) (line : List ℕ) → Refuses (answerTo (answer t) line) a.Refused (questionLineFaults line)
+unfolding answerTo
+question-line-refused t line = of-answer _ (questionLineFaults line) (by-length (ltb 600 (length line)) (asked (answer t) (fields line)) (by-fields (fields line)))
+  where
+    by-o :
+        (s o request c : List ℕ) (b : Bool) →
+        answer-by (cond b (answer t s o request true) (a.Refused 2)) ≡ cond (not b) (by 2) (firstFault (askFaults s o request))
+    by-o s o request c true = asked-first t s o request true
+    by-o s o request c false = refl
+
+    by-fields :
+        (fs : List (List ℕ)) →
+        answer-by (asked (answer t) fs) ≡ cond (not (asksAQuestion fs)) (by 2) (firstFault (askFaults (field fs 0) (field fs 1) (field fs 2)))
+    by-fields [] = refl
+    by-fields (s ∷ []) = refl
+    by-fields (s ∷ o ∷ []) = refl
+    by-fields (s ∷ o ∷ r ∷ []) = asked-first t s o r false
+    by-fields (s ∷ o ∷ r ∷ c ∷ []) = by-o s o r c (sameBytes c (ascii "o"))
+    by-fields (s ∷ o ∷ r ∷ c ∷ x ∷ more) = rw (ne-eqb (length (s ∷ o ∷ r ∷ c ∷ x ∷ more)) 3 (λ e. omega arith), ne-eqb (length (s ∷ o ∷ r ∷ c ∷ x ∷ more)) 4 (λ e. omega arith))
+
+    by-length :
+        (b : Bool) (x : Answer) {m : Refusal} →
+        answer-by x ≡ m →
+        answer-by (cond b (a.Refused 1) x) ≡ cond b (by 1) m
+    by-length true x e = refl
+    by-length false x e = e
 
 -- ---- a rule and a label by number
 
@@ -791,6 +882,7 @@ first-in-order =
       piece = piece-first;
       end-call = end-first;
       line = line-refused;
+      skipped-line = line-skipped;
       change = change-refused;
       revoke = revoke-refused;
       onlycap = onlycap-refused;
@@ -799,6 +891,7 @@ first-in-order =
       by-level-and-set = by-level-refused;
       in-a-run = run-refused;
       question = question-refused;
+      question-line = question-line-refused;
       listing = listing-refused;
       label-by-number = label-refused;
     }

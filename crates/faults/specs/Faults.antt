@@ -10,7 +10,7 @@ use lib.ListN.{length, drop, getD}
 use lib.Dec.{eqb, ltb, leb}
 use Rattle.refusals.specs.Refusals as refusal
 use Rattle.search.specs.Search.{all, those}
-use Rattle.search.specs.Bytes.{sameBytes}
+use Rattle.search.specs.Bytes.{ascii, sameBytes}
 use Rattle.search.specs.declared.Found.{Found}
 use Rattle.search.specs.declared.Found.the-variants.{At, Nothing}
 use Rattle.alphabet.specs.Alphabet.{wellFormed, fields, lineLimit, dash}
@@ -38,10 +38,11 @@ use Rattle.lookups.specs.declared.Lookup.the-variants as lookup
 use Rattle.lookups.specs.declared.Label.the-variants as label
 use Rattle.run.specs.declared.Record.{Record}
 use Rattle.run.specs.Run.{runOf}
-use Rattle.access.specs.Access.{isFound, questionOf}
+use Rattle.access.specs.Access.{isFound, answer, questionOf}
 use Rattle.access.specs.declared.Answer.the-variants as a
 use Rattle.listing.specs.Listing.{ruleText, listAnswer, labelAnswer}
 use Rattle.output.specs.declared.Output.the-variants as l
+use Rattle.program.specs.Program.{answerTo}
 use Rattle.grown.specs.Pairs.{newLabels, hasRule}
 
 -- ---- the first fault
@@ -73,8 +74,8 @@ Refuses answer refused faults = (n : ℕ) → (answer ≡ refused n) ↔ (firstF
 -- ---- the tests that several calls share
 
 -- a line or write has over 600 bytes
-abbrev pub overLong : List ℕ → Bool
-overLong text = ltb lineLimit (length text)
+abbrev pub isTooLong : List ℕ → Bool
+isTooLong text = ltb lineLimit (length text)
 
 -- of the fields of a text, field k, from 0
 abbrev pub field : List (List ℕ) → ℕ → List ℕ
@@ -84,7 +85,7 @@ field fs k = getD fs k []
 abbrev pub badLabels : List ℕ → List ℕ → Bool
 badLabels s o = not (wellFormed s) || not (wellFormed o)
 
--- an access field has a byte not allowed there: it may have these letters, and dashes or none
+-- an access field has a byte not allowed there: it may have these letters and, where `dashes` says so, dashes
 abbrev pub badBytes : ℕ → Bool → List ℕ → Bool
 badBytes letters dashes access = not (all (allowedByte letters dashes) access)
 
@@ -102,8 +103,8 @@ pairFaults t s o =
 -- ---- a line of rule text: 1 2 3 4 5 6 7
 
 -- of its fields, subject, object, access
-abbrev pub ruleFaults : Table → List (List ℕ) → List Fault
-ruleFaults t fs =
+abbrev pub lineFieldFaults : Table → List (List ℕ) → List Fault
+lineFieldFaults t fs =
     refusal.wrongFields when not (eqb (length fs) 3)
     ∷ refusal.badLabel when badLabels (field fs 0) (field fs 1)
     ∷ refusal.badAccess when badBytes ruleLetters true (field fs 2)
@@ -112,7 +113,7 @@ ruleFaults t fs =
 
 -- of the line; where it has no field it is skipped, and has no further fault
 abbrev pub lineFaults : Table → List ℕ → List Fault
-lineFaults t text = refusal.tooLong when overLong text ∷ cond (eqb (length (fields text)) 0) [] (ruleFaults t (fields text))
+lineFaults t text = refusal.tooLong when isTooLong text ∷ cond (eqb (length (fields text)) 0) [] (lineFieldFaults t (fields text))
 
 -- ---- change: the same
 
@@ -129,7 +130,7 @@ changeFieldFaults t fs =
 abbrev pub changeFaults : Store → List ℕ → List Fault
 changeFaults st text =
     refusal.damaged when not (undamagedOf st)
-    ∷ refusal.tooLong when overLong text
+    ∷ refusal.tooLong when isTooLong text
     ∷ changeFieldFaults (tableOf st) (fields text)
 
 -- ---- revoke: 1 3
@@ -138,45 +139,45 @@ changeFaults st text =
 abbrev pub revokeFaults : Store → List ℕ → List Fault
 revokeFaults st text =
     refusal.damaged when not (undamagedOf st)
-    ∷ refusal.tooLong when overLong text
+    ∷ refusal.tooLong when isTooLong text
     ∷ refusal.badLabel when not (wellFormed text)
     ∷ []
 
 -- ---- the override list: 1 2 3 11 6
 
--- whether a label is among some
-abbrev pub among : List ℕ → List (List ℕ) → Bool
-among x [] = false
-among x (y ∷ ys) = sameBytes x y || among x ys
+-- whether a label is one of some
+abbrev pub isOneOf : List ℕ → List (List ℕ) → Bool
+isOneOf x [] = false
+isOneOf x (y ∷ ys) = sameBytes x y || isOneOf x ys
 
 -- the different labels of a write: each once, where it stands last
 abbrev pub differentOnes : List (List ℕ) → List (List ℕ)
 differentOnes [] = []
-differentOnes (x ∷ xs) = cond (among x xs) (differentOnes xs) (x ∷ differentOnes xs)
+differentOnes (x ∷ xs) = cond (isOneOf x xs) (differentOnes xs) (x ∷ differentOnes xs)
 
 -- those of them that are not among the stored ones
 abbrev pub newOnes : List (List ℕ) → List (List ℕ) → List (List ℕ)
-newOnes stored xs = those (λ (x : List ℕ). not (among x stored)) (differentOnes xs)
+newOnes stored xs = those (λ (x : List ℕ). not (isOneOf x stored)) (differentOnes xs)
 
 -- a lone dash, which clears the list
 abbrev pub clears : List (List ℕ) → Bool
 clears fs = eqb (length fs) 1 && sameBytes (field fs 0) (dash ∷ [])
 
 -- of its labels, which are the fields
-abbrev pub labelFaults : Table → List (List ℕ) → List Fault
-labelFaults t fs =
+abbrev pub onlycapLabelFaults : Table → List (List ℕ) → List Fault
+onlycapLabelFaults t fs =
     refusal.badLabel when not (all wellFormed fs)
     ∷ refusal.tooManyOverrides when ltb onlycapLimit (length (differentOnes fs))
     ∷ refusal.labelsFull when ltb (freePlaces t) (length (newOnes (t .labels) fs))
     ∷ []
 
 -- of its fields; a lone dash has no further fault
-abbrev pub overrideFaults : Table → List (List ℕ) → List Fault
-overrideFaults t fs = refusal.wrongFields when eqb (length fs) 0 ∷ cond (clears fs) [] (labelFaults t fs)
+abbrev pub onlycapFieldFaults : Table → List (List ℕ) → List Fault
+onlycapFieldFaults t fs = refusal.wrongFields when eqb (length fs) 0 ∷ cond (clears fs) [] (onlycapLabelFaults t fs)
 
 -- of the write to a lent state
 abbrev pub onlycapFaults : Store → List ℕ → List Fault
-onlycapFaults st text = refusal.damaged when not (undamagedOf st) ∷ refusal.tooLong when overLong text ∷ overrideFaults (tableOf st) (fields text)
+onlycapFaults st text = refusal.damaged when not (undamagedOf st) ∷ refusal.tooLong when isTooLong text ∷ onlycapFieldFaults (tableOf st) (fields text)
 
 -- ---- mapping: 1 2 3 9 6 10
 
@@ -209,7 +210,7 @@ mappingFieldFaults t fs =
 
 -- of the write to a lent state
 abbrev pub mappingFaults : Store → List ℕ → List Fault
-mappingFaults st text = refusal.damaged when not (undamagedOf st) ∷ refusal.tooLong when overLong text ∷ mappingFieldFaults (tableOf st) (fields text)
+mappingFaults st text = refusal.damaged when not (undamagedOf st) ∷ refusal.tooLong when isTooLong text ∷ mappingFieldFaults (tableOf st) (fields text)
 
 -- ---- look-ups: by label 3; by level and set, in the table or a run, 9
 
@@ -217,7 +218,7 @@ mappingFaults st text = refusal.damaged when not (undamagedOf st) ∷ refusal.to
 abbrev pub byLabelFaults : Store → List ℕ → List Fault
 byLabelFaults st x = refusal.damaged when not (undamagedOf st) ∷ refusal.badLabel when not (wellFormed x) ∷ []
 
--- in a run: the level is not as above, or the set has a bit that is no category. A run is no part of the state, and never gets 0
+-- in a run: the level is over 255, or the set has a bit that is no category. A run is no part of the state, and never gets 0
 abbrev pub inRunFaults : ℕ → ℕ → List Fault
 inRunFaults level set = refusal.badLevelOrCategory when (not (isLevel level) || not (knownSet set)) ∷ []
 
@@ -228,12 +229,25 @@ byLevelFaults st level set = refusal.damaged when not (undamagedOf st) ∷ inRun
 -- ---- question: 3 8
 
 -- the request is empty or has another byte than r w x a, either case
-abbrev pub questionFaults : Store → List ℕ → List ℕ → List ℕ → List Fault
-questionFaults st s o request =
-    refusal.damaged when not (undamagedOf st)
-    ∷ refusal.badLabel when badLabels s o
+abbrev pub askFaults : List ℕ → List ℕ → List ℕ → List Fault
+askFaults s o request =
+    refusal.badLabel when badLabels s o
     ∷ refusal.badRequest when (eqb (length request) 0 || badBytes requestLetters false request)
     ∷ []
+
+-- of a lent state
+abbrev pub questionFaults : Store → List ℕ → List ℕ → List ℕ → List Fault
+questionFaults st s o request = refusal.damaged when not (undamagedOf st) ∷ askFaults s o request
+
+-- a question line of the program: 1 2 3 8. It has three fields, or a fourth which is `o`
+abbrev pub asksAQuestion : List (List ℕ) → Bool
+asksAQuestion fs = eqb (length fs) 3 || (eqb (length fs) 4 && sameBytes (field fs 3) (ascii "o"))
+
+abbrev pub questionLineFaults : List ℕ → List Fault
+questionLineFaults line =
+    refusal.tooLong when isTooLong line
+    ∷ refusal.wrongFields when not (asksAQuestion (fields line))
+    ∷ askFaults (field (fields line) 0) (field (fields line) 1) (field (fields line) 2)
 
 -- ---- listing: 13 12; label by number: 13
 
@@ -266,6 +280,8 @@ pub record FirstInOrder : Type 0 where
   pub piece : (s : Load) (text : List ℕ) → Refuses (pieceAnswer s text) f.Refused (loaderFaults s)
   pub end-call : (s : Load) → Refuses (endAnswer s) e.Refused (loaderFaults s)
   pub line : (st : Store) (text : List ℕ) → undamagedOf st ≡ true → Refuses (lineOutcome st text) v.Refused (lineFaults (tableOf st) text)
+  -- (a line is skipped exactly where it is not too long and has no field)
+  pub skipped-line : (st : Store) (text : List ℕ) → (lineOutcome st text ≡ v.Skipped) ↔ ((isTooLong text ≡ false) × (fields text ≡ []))
   pub change : (st : Store) (text : List ℕ) → Refuses (changeAnswer st text) d.Refused (changeFaults st text)
   pub revoke : (st : Store) (text : List ℕ) → Refuses (revokeAnswer st text) r.Refused (revokeFaults st text)
   pub onlycap : (st : Store) (text : List ℕ) → Refuses (onlycapAnswer st text) d.Refused (onlycapFaults st text)
@@ -276,5 +292,6 @@ pub record FirstInOrder : Type 0 where
   pub question :
       (st : Store) (s o request : List ℕ) (capable : Bool) →
       Refuses (questionOf st s o request capable) a.Refused (questionFaults st s o request)
+  pub question-line : (t : Table) (line : List ℕ) → Refuses (answerTo (answer t) line) a.Refused (questionLineFaults line)
   pub listing : (st : Store) (k : ℕ) (out : List ℕ) → Refuses (listAnswer st k out) l.Refused (listingFaults st k out)
   pub label-by-number : (st : Store) (k : ℕ) → Refuses (labelAnswer st k) d.Refused (labelByNumberFaults st k)

@@ -20,14 +20,10 @@ use Rattle.reports.specs.declared.Loader.{Loader}
 use Rattle.reports.specs.Report.{count, withKept}
 use Rattle.text_lines.specs.Within.{beforeNewline, NoNewline}
 use Rattle.text_lines.proofs.Laws.{run-first, run-rest, run-take, run-drop, line-left}
-use Rattle.load.specs.Loader.{Load, load, ready, endKept, keepByte, stepByte, stepPiece}
+pub use Rattle.load.specs.Loader.{Ready}
+use Rattle.load.specs.Loader.{WhatReadyIs, Load, load, ready, endKept, keepByte, stepByte, stepPiece}
 
 -- ---- a state that is ready
-
-pub record Ready (s : Load) : Type 0 where
-  pub undamaged : undamagedOf (s .store) ≡ true
-  pub line : length (s .line) ≡ 600
-  pub kept : s .loader .kept ≤ 601
 
 pub ready-is : (s : Load) → ready s ≡ true → Ready s
 unfolding ready
@@ -39,6 +35,9 @@ ready-is s e =
 pub is-ready : (s : Load) → Ready s → ready s ≡ true
 unfolding ready
 is-ready s r = rw (r .undamaged, eq-eqb _ _ (r .line), le-leb _ _ (r .kept))
+
+pub what-ready-is : WhatReadyIs
+what-ready-is s = (ready-is s, is-ready s)
 
 pub count-kept : (l : Loader) (q : Outcome) → count l q .kept ≡ 0
 count-kept l v.Skipped = refl

@@ -1,7 +1,9 @@
 -- The loader in lent memory: its exact step, byte by byte, and when it is damaged. A line of over 600 bytes is kept as its first 600 and the
 -- length 601; a count stops at its limit. Assumes nothing.
-use Prim.Native.Nat.{ℕ, _+_}
-use mathlib.Core.Bool.{Bool, cond, _&&_}
+use Prim.Native.Nat.{ℕ, _+_, _≤_}
+use mathlib.Core.Path.{_≡_}
+use mathlib.Core.Logic.{_↔_}
+use mathlib.Core.Bool.{Bool, true, cond, _&&_}
 use mathlib.Core.List.{List, foldl}
 use lib.ListN.{length, take, set}
 use lib.Dec.{ltb, leb, eqb}
@@ -50,6 +52,16 @@ stepByte s b = cond (isNewline b) (endKept s) (keepByte s b)
 -- whether the lent state is undamaged, loader and all: refusal 0 otherwise
 unfoldable pub ready : Load → Bool
 ready s = undamagedOf (s .store) && (eqb (length (s .line)) lineLimit && leb (s .loader .kept) overlong)
+
+-- What refusal 0 says of the loader, without the test above: the tables are undamaged; the line has its full size; the kept length is at most 600,
+-- or 601, which marks a line of more bytes.
+pub record Ready (s : Load) : Type 0 where
+  pub undamaged : undamagedOf (s .store) ≡ true
+  pub line : length (s .line) ≡ 600
+  pub kept : s .loader .kept ≤ 601
+
+abbrev pub WhatReadyIs : Type 0
+WhatReadyIs = (s : Load) → (ready s ≡ true) ↔ Ready s
 
 -- a kept line that has a byte ends
 unfoldable pub stepEnd : Load → Load

@@ -9,7 +9,7 @@ ghost use lib.ListN.{length};
 ghost use Rattle.alphabet.specs.Alphabet.{lineLimit};
 ghost use Rattle.store.specs.Layout.{Store, store, lent, left};
 ghost use Rattle.text_lines.specs.Within.{NoNewline};
-ghost use Rattle.load.specs.Loader.{endKept, stepPiece, ready, load, pieceAfter, pieceAnswer, endAfter, endAnswer};
+ghost use Rattle.load.specs.Loader.{endKept, stepPiece, ready, WhatReadyIs, load, pieceAfter, pieceAnswer, endAfter, endAnswer};
 ghost use Rattle.load.specs.Within.{fedLoader, endedLoader};
 
 // The kept length that marks a line of more bytes than a line may have.
@@ -68,6 +68,11 @@ pub fn take_run(line: &mut [u8], l: Loader, run: &[u8]) -> Loader
     search::copy_at(line, kept, &run[..room]);
     reports::keep(l, OVER_LONG)
 }
+
+// What the test below stands for, as a claim: it does nothing, and what it ensures is a theorem on the definition.
+pub fn what_ready_is()
+    ensures { λ _. ⌜ WhatReadyIs ⌝ }
+{}
 
 // Whether the lent state is undamaged, the loader too: refusal 0 otherwise.
 pub fn is_ready(labels: &[u8], entries: &[u8], words: &[u64], line: &[u8], l: Loader) -> bool
