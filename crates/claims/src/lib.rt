@@ -1,6 +1,5 @@
-// What the users asked for, each claim under its name; demand 2 stands in the crate grown, and in the crate faults by which number a call is refused.
-// These functions do nothing: what each ensures is the claim, so the check names it as proved, and a program that depends on this crate depends on the
-// claims.
+// What the users asked for, each claim under its name; demand 2 stands in the crate grown, what accepted writes do in effects, and by which number a call
+// is refused in faults. These functions do nothing: what each ensures is the claim, so the check names it as proved.
 ghost use mathlib.Core.Path.{_≡_};
 ghost use mathlib.Core.Bool.{true, false};
 ghost use mathlib.Core.List.{List, map};
