@@ -5,4 +5,5 @@ pub mod Mapped
 pub mod MappingText
 pub mod Places
 pub mod Overrides
+pub mod LabelsMapping
 pub mod Lowest

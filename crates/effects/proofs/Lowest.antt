@@ -21,7 +21,7 @@ use Rattle.lookups.specs.declared.Label.the-variants as label
 use Rattle.lookups.specs.Lookups.{sought, mappedAs, lookedUp, labelLookup, bothEqual, mappedTo, foundAt, hasBoth, numbered, levelLookup}
 use Rattle.access.specs.Access.{isFound}
 use Rattle.grown.specs.Sane.{Sane}
-use Rattle.effects.specs.Answers.{HasBoth, LowestLabel}
+use Rattle.effects.specs.OverrideAndLookUp.{HasBoth, LowestLabel}
 use Rattle.effects.proofs.Entering.{found-some}
 
 -- a mapping has both exactly where its look-up says so

@@ -1,4 +1,4 @@
--- An accepted mapping is what its label's look-up finds from then on, and nobody else's look-up, modes or override change. Assumes nothing.
+-- An accepted mapping is what its label's look-up finds from then on, and nobody else's look-up and no answer change. Assumes nothing.
 use mathlib.Core.Path.{_≡_, refl, sym, ap, _∙_, subst}
 use mathlib.Core.Bool.{Bool, true, false, cond}
 use mathlib.Core.Logic.{_≢_}
@@ -19,7 +19,7 @@ use Rattle.search.proofs.Laws.{first-put, first-put-other, found-put-other, put
 use Rattle.alphabet.specs.Alphabet.{wellFormed}
 use Rattle.numbers.specs.Categories.{categories}
 use Rattle.store.specs.declared.Mapping.{Mapping}
-use Rattle.store.specs.Table.{Table, labelIn, labelNumbered, enter, names, mappingIn, mappingNumbered, soundMapping, noPlace}
+use Rattle.store.specs.Table.{Table, labelIn, enter, names, mappingIn, soundMapping, noPlace}
 use Rattle.store.specs.Judged.{is-refused, is-accepted}
 use Rattle.store.proofs.Pairs.{enter-front, enter-number, enter-other}
 use Rattle.cipso.specs.Cipso.{mapping, mappingOf, numberFor, mappingFor, withMapping, saidJudged, mappingWrite}
@@ -29,8 +29,8 @@ use Rattle.lookups.specs.declared.Lookup.the-variants.{Mapped, Unmapped, Refuse
 use Rattle.lookups.specs.Lookups.{mappedAs, lookedUp, lookupBy, labelLookup}
 use Rattle.grown.specs.Pairs.{SoundTable}
 use Rattle.grown.proofs.Sane.{one-label, sound-parts}
-use Rattle.grown.proofs.Pairs.{modes-kept, override-kept}
-use Rattle.effects.specs.Effects.{Maps}
+use Rattle.grown.proofs.Pairs.{answer-same, modes-kept, override-kept}
+use Rattle.effects.specs.Effects.{HasMapping, Maps}
 use Rattle.effects.proofs.Entering.{entering}
 
 abbrev none : Mapping
@@ -147,27 +147,19 @@ module _ (t : Table) (sound : SoundTable t) (l : List ℕ) (level s : ℕ) (form
       by-found (At i) = refl
       by-found Nothing = sym (ap (lookedUp (t .mappings)) (unmapped-beyond t sound (length (t .labels)) (omega arith)))
 
-  -- the mapping in the label's place is the label's
-  place-own : (k : ℕ) → k < length (t .mappings) → k ≡ placeOf (mappingFor t l) (length (t .mappings)) → labelNumbered t (mappingNumbered t k .label) ≡ l
-  unfolding names
-  place-own k h z =
-      by-found (labelIn t l) (first-is (sameBytes l) [] (t .labels)) (by-place (mappingFor t l) (first-is (names (numberFor t l)) none (t .mappings)) z)
+  -- the place that is written is that of the label's mapping
+  place-own : (k : ℕ) → k < length (t .mappings) → k ≡ placeOf (mappingFor t l) (length (t .mappings)) → HasMapping t l k
+  place-own k h z = by-found (labelIn t l) refl z
     where
-      by-place :
-          (f : Found) →
-          ((i : ℕ) → f ≡ At i → (i < length (t .mappings)) × (names (numberFor t l) (getD (t .mappings) i none) ≡ true)) →
-          k ≡ placeOf f (length (t .mappings)) →
-          mappingNumbered t k .label ≡ numberFor t l
-      by-place (At i) q z = eqb-true _ _ (ap (λ (j : ℕ). names (numberFor t l) (getD (t .mappings) j none)) z ∙ q i refl .1)
-      by-place Nothing q z = absurd (omega arith)
+      by-place : (n : ℕ) → labelIn t l ≡ At n → (g : Found) → mappingIn t n ≡ g → k ≡ placeOf g (length (t .mappings)) → HasMapping t l k
+      by-place n e (At i) q z = (n, e, q ∙ ap At (sym z))
+      by-place n e Nothing q z = absurd (omega arith)
 
-      by-found :
-          (f : Found) →
-          ((i : ℕ) → f ≡ At i → (i < length (t .labels)) × (sameBytes l (getD (t .labels) i []) ≡ true)) →
-          mappingNumbered t k .label ≡ placeOf f (length (t .labels)) →
-          labelNumbered t (mappingNumbered t k .label) ≡ l
-      by-found (At i) q e = ap (labelNumbered t) e ∙ sym (same-equal l _ (q i refl .1))
-      by-found Nothing q e = absurd (omega (arith, mapping-below t sound k h))
+      by-found : (f : Found) → labelIn t l ≡ f → k ≡ placeOf (mappingIn t (placeOf f (length (t .labels)))) (length (t .mappings)) → HasMapping t l k
+      by-found (At n) e z = by-place n e (mappingIn t n) refl z
+      by-found Nothing e z =
+          let q = ap (λ (g : Found). placeOf g (length (t .mappings))) (unmapped-beyond t sound (length (t .labels)) (omega arith)) in
+          absurd (omega (arith, z ∙ q))
 
   maps : Maps t t′ l level s
   unfolding labelLookup
@@ -181,9 +173,11 @@ module _ (t : Table) (sound : SoundTable t) (l : List ℕ) (level s : ℕ) (form
         last = λ h. length-put (mappingFor t l) (t .mappings) _ ∙ more (mappingFor t l) (sym looked-up ∙ h);
         labels = entering t t′ (l ∷ []) refl;
         rules = refl;
-        modes = λ x y. modes-kept t t′ sound (enter-front (t .labels) l) x y (λ i j a b. refl);
         onlycap = refl;
-        override = override-kept t t′ sound (enter-front (t .labels) l) refl;
+        answers = λ x y.
+            answer-same t t′ x y
+            (modes-kept t t′ sound (enter-front (t .labels) l) x y (λ i j a b. refl))
+            (override-kept t t′ sound (enter-front (t .labels) l) refl x);
       }
     where
       counted : (f : Found) → (f ≢ Nothing) → countAfter f (length (t .mappings)) ≡ length (t .mappings)

@@ -20,13 +20,13 @@ use Rattle.numbers.proofs.Laws.{category-lt, with-is, category-sets}
 use Rattle.cipso.specs.declared.Categories.{Categories}
 use Rattle.cipso.specs.declared.Categories.the-variants as read
 use Rattle.cipso.specs.Cipso.{refused, mapping, withNumber, withField, categoriesOf, withSet, withLevel, saidBy, saidFields, mappingOf}
-use Rattle.effects.specs.MappingText.{Written, MappingText}
+use Rattle.effects.specs.MappingText.{OneIs, MappingText}
 
 -- ---- the set that fields make of another
 
 record Made (s₀ : ℕ) (fs : List (List ℕ)) (s : ℕ) : Type 0 where
   categories : (j : ℕ) → j < length fs → (k : ℕ) × (numberOf (getD fs j []) ≡ number.Value k) × (isCategory k ≡ true)
-  has : (k : ℕ) → isCategory k ≡ true → (hasCategory s k ≡ true) ↔ ((hasCategory s₀ k ≡ true) ⊎ Written fs k)
+  has : (k : ℕ) → isCategory k ≡ true → (hasCategory s k ≡ true) ↔ ((hasCategory s₀ k ≡ true) ⊎ OneIs fs k)
   known : knownSet s ≡ knownSet s₀
   small : s₀ < 2 ^ 64 → s < 2 ^ 64
 
@@ -34,7 +34,7 @@ made-none : (s : ℕ) → Made s [] s
 made-none s =
     record {
       categories = λ j h. absurd (omega arith);
-      has = λ k c. (inl, ⊎-elim (λ x. x) (λ (w : Written [] k). absurd (omega (arith, w .1))));
+      has = λ k c. (inl, ⊎-elim (λ x. x) (λ (w : OneIs [] k). absurd (omega (arith, w .1))));
       known = refl;
       small = λ h. h;
     }
@@ -49,7 +49,7 @@ module _ (f : List ℕ) (fs : List (List ℕ)) (n s₀ s : ℕ) (q : numberOf f 
       subst (λ (x : ℕ). x < 2 ^ 64) (with-is s₀ n) (or-lt 64 s₀ (categoryBit n) h (category-lt n (leb-true 1 n (r .0), leb-true n 63 (r .1))))
 
   module _ (m : Made (withCategory s₀ n) fs s) where
-    more-has : (k : ℕ) → isCategory k ≡ true → (hasCategory s k ≡ true) ↔ ((hasCategory s₀ k ≡ true) ⊎ Written (f ∷ fs) k)
+    more-has : (k : ℕ) → isCategory k ≡ true → (hasCategory s k ≡ true) ↔ ((hasCategory s₀ k ≡ true) ⊎ OneIs (f ∷ fs) k)
     more-has k d = (
       λ e. ⊎-elim (λ z. with-to (one .0 (sym (category-sets .one-more s₀ n k c d) ∙ z))) (λ w. inr (suc (w .0), suc-le-suc (w .1), w .2)) (m .has k d .0 e),
       ⊎-elim (λ z. m .has k d .1 (inl (category-sets .one-more s₀ n k c d ∙ one .1 (inl z)))) (λ w. back (w .0) (w .1) (w .2)),
@@ -58,7 +58,7 @@ module _ (f : List ℕ) (fs : List (List ℕ)) (n s₀ s : ℕ) (q : numberOf f 
         one : ((hasCategory s₀ k || eqb k n) ≡ true) ↔ ((hasCategory s₀ k ≡ true) ⊎ (k ≡ n))
         one = or-is (hasCategory s₀ k) (eqb k n) (λ x. x, λ x. x) (eqb-is k n)
 
-        with-to : (hasCategory s₀ k ≡ true) ⊎ (k ≡ n) → (hasCategory s₀ k ≡ true) ⊎ Written (f ∷ fs) k
+        with-to : (hasCategory s₀ k ≡ true) ⊎ (k ≡ n) → (hasCategory s₀ k ≡ true) ⊎ OneIs (f ∷ fs) k
         with-to (inl z) = inl z
         with-to (inr z) = inr (zero, omega arith, q ∙ ap number.Value (sym z))
 
@@ -128,7 +128,7 @@ makes (f ∷ fs) s₀ h =
 -- ---- a write that says a mapping
 
 -- from the set of no category: it has the written ones
-begun : (fs : List (List ℕ)) (s : ℕ) → Made 0 fs s → (k : ℕ) → isCategory k ≡ true → (hasCategory s k ≡ true) ↔ Written fs k
+begun : (fs : List (List ℕ)) (s : ℕ) → Made 0 fs s → (k : ℕ) → isCategory k ≡ true → (hasCategory s k ≡ true) ↔ OneIs fs k
 begun fs s m k c = (
   λ e. ⊎-elim (λ z. absurd (no (sym (category-sets .none k c) ∙ z))) (λ w. w) (m .has k c .0 e),
   λ w. m .has k c .1 (inr w),

@@ -21,7 +21,7 @@ use Rattle.access.specs.declared.Verdict.{Verdict}
 use Rattle.access.specs.declared.Verdict.the-variants.{Grants, Denies, Undecided}
 use Rattle.access.specs.declared.Answer.the-variants.{Override, Refused}
 use Rattle.access.specs.Access.{isFound, effective, answered, decide, byRequest, answer}
-use Rattle.effects.specs.Answers.{overridden, OverrideCounts}
+use Rattle.effects.specs.OverrideAndLookUp.{overridden, OverrideCounts}
 use Rattle.effects.proofs.Entering.{or-false, found-cons}
 
 -- ---- the answers

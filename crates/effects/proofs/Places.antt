@@ -1,6 +1,7 @@
 -- A line of rule text and a change let labels and rules keep their places; what is new goes last. Assumes nothing.
 use mathlib.Core.Path.{_≡_, refl, sym, ap, _∙_, subst}
 use mathlib.Core.Bool.{Bool, true, false, cond, or-true}
+use mathlib.Core.Logic.{_≢_}
 use mathlib.Core.List.{List, [], _∷_}
 use Prim.Native.Nat.{ℕ, suc, _<_}
 use native.Mathlib.Numerals.{add-one}
@@ -52,6 +53,14 @@ module _ (rules : List Rule) (f : Found) (v : Rule) where
           let q = inside f refl z in
           ap (λ (j : ℕ). part (getD (put f rules v) j none)) z ∙ ap part (put-at none f rules v (q .0)) ∙ sym (q .1)
       by-place false e = ap part (put-other none f rules v k h (eqb-false _ _ e))
+
+  -- every other place is as it was
+  place-kept : (k : ℕ) → k < length rules → f ≢ At k → getD (put f rules v) k none ≡ getD rules k none
+  place-kept k h apart = put-other none f rules v k h (by-case f apart)
+    where
+      by-case : (g : Found) → g ≢ At k → k ≡ placeOf g (length rules) → ⊥
+      by-case (At p) q z = q (ap At (sym z))
+      by-case Nothing q z = omega arith
 
   count-kept : hasRule (modesFound rules f) ≡ true → length (put f rules v) ≡ length rules
   count-kept h = length-put f rules v ∙ by-case f h
@@ -124,6 +133,7 @@ module _ (t : Table) (s o : List ℕ) where
         record {
           subjects = part-kept (t .rules) (pairRule t s o) new (λ r. r .subject) (λ p e. let h = pair-at p e in (h .0, h .1));
           objects = part-kept (t .rules) (pairRule t s o) new (λ r. r .object) (λ p e. let h = pair-at p e in (h .0, h .2));
+          other-rules = place-kept (t .rules) (pairRule t s o) new;
           as-many = count-kept (t .rules) (pairRule t s o) new;
           one-more = count-more (t .rules) (pairRule t s o) new;
           last-subject = λ h. ap (λ (r : Rule). getD ls (r .subject) []) (last-is (t .rules) (pairRule t s o) new h) ∙ number-back ls s subject-there;

@@ -17,13 +17,15 @@ use Rattle.alphabet.specs.Alphabet.{wellFormed}
 use Rattle.store.specs.declared.Rule.{Rule}
 use Rattle.store.specs.Table.{Table, labelIn, labelNumbered, isPair, soundRule}
 use Rattle.store.specs.Pairs.{has-modes, ruleBetween, modesFound, modesBetween}
-use Rattle.store.specs.Judged.{is-refused, is-accepted}
-use Rattle.revoke.specs.Revoke.{hasSubject, howMany, revokedRule, withoutModes, subjectCount, revokeWrite, revokeCount}
+use Rattle.store.specs.Layout.{Store, tableOf}
+use Rattle.store.specs.Judged.{Judged, is-skipped, is-refused, is-accepted, onState}
+use Rattle.revoke.specs.declared.Revoked.the-variants.{Count}
+use Rattle.revoke.specs.Revoke.{hasSubject, howMany, revokedRule, withoutModes, subjectCount, revokeWrite, countOf, revokeCount, revokeAnswer}
 use Rattle.access.specs.Access.{effective, answer}
 use Rattle.grown.specs.Sane.{Sane}
 use Rattle.grown.proofs.Sane.{one-label, sound-parts, rule-known}
 use Rattle.grown.proofs.Pairs.{answer-same}
-use Rattle.effects.specs.Effects.{cleared, Revokes, rulesOf}
+use Rattle.effects.specs.Effects.{cleared, Revokes, CountsRules, rulesOf}
 
 abbrev none : Rule
 none = record { subject = 0; object = 0; modes = 0 }
@@ -200,8 +202,7 @@ many-those p q c (r ∷ rs) e h =
     by-test true = refl
     by-test false = refl
 
--- THE ANSWER OF A REVOKE
-pub revoke-counts : (t : Table) (l : List ℕ) → Sane t → revokeCount l t ≡ length (rulesOf t l)
+revoke-counts : (t : Table) (l : List ℕ) → Sane t → revokeCount l t ≡ length (rulesOf t l)
 unfolding all
 revoke-counts t l h = by-found (labelIn t l) refl
   where
@@ -233,3 +234,32 @@ revoke-counts t l h = by-found (labelIn t l) refl
     by-found (At n) e =
         many-those (hasSubject n) (λ (r : Rule). sameBytes (labelNumbered t (r .subject)) l) (soundRule (length (t .labels))) (t .rules) sound (same-at n e)
     by-found Nothing e = no-pass (t .rules) sound e
+
+every : (rules : List Rule) → all (λ (r : Rule). true) rules ≡ true
+unfolding all
+every [] = refl
+every (r ∷ rs) = every rs
+
+-- the count that is answered is the table's
+answered-count : (k count : ℕ) (j : Judged) → countOf k j ≡ Count count → count ≡ k
+answered-count k count is-skipped e = cc
+answered-count k count (is-refused n) e = let z : _≡_ {A = ℕ} 0 1 = cc in absurd (omega arith)
+answered-count k count (is-accepted t) e = cc
+
+-- THE ANSWER OF A REVOKE, by numbers and by bytes
+pub answer-counts : (st : Store) (l : List ℕ) (count : ℕ) → revokeAnswer st l ≡ Count count → CountsRules (tableOf st) l count
+unfolding revokeAnswer
+answer-counts st l count e =
+    let q = answered-count _ count (onState st (revokeWrite l)) e in
+    record {
+      known = λ n at.
+          q
+          ∙ ap (subjectCount (tableOf st)) at
+          ∙ many-those (hasSubject n) (hasSubject n) (λ (r : Rule). true) (tableOf st .rules) (every (tableOf st .rules)) (λ r s. refl);
+      unknown = λ at. q ∙ ap (subjectCount (tableOf st)) at;
+    }
+
+pub answer-counts-sane :
+    (st : Store) (l : List ℕ) (count : ℕ) → Sane (tableOf st) → revokeAnswer st l ≡ Count count → count ≡ length (rulesOf (tableOf st) l)
+unfolding revokeAnswer
+answer-counts-sane st l count h e = answered-count _ count (onState st (revokeWrite l)) e ∙ revoke-counts (tableOf st) l h

@@ -9,12 +9,12 @@ use lib.ListN.{length}
 use lib.Dec.{eqb}
 use Rattle.search.specs.Search.{those}
 use Rattle.search.specs.Bytes.{sameBytes}
-use Rattle.search.specs.declared.Found.the-variants.{At}
+use Rattle.search.specs.declared.Found.the-variants.{At, Nothing}
 use Rattle.alphabet.specs.Alphabet.{dash}
 use Rattle.numbers.specs.Categories.{categories}
 use Rattle.store.specs.declared.Rule.{Rule}
-use Rattle.store.specs.Table.{Table, labelIn, labelNumbered, ruleNumbered, mappingNumbered}
-use Rattle.store.specs.Pairs.{PairModes, has-modes, no-rule, modesBetween}
+use Rattle.store.specs.Table.{Table, labelIn, labelNumbered, ruleNumbered, mappingIn, mappingNumbered}
+use Rattle.store.specs.Pairs.{PairModes, has-modes, no-rule, ruleBetween, modesBetween}
 use Rattle.lookups.specs.declared.Lookup.the-variants.{Mapped, Unmapped}
 use Rattle.lookups.specs.Lookups.{labelLookup}
 use Rattle.access.specs.Access.{effective, answer}
@@ -45,6 +45,11 @@ pub record Revokes (t t′ : Table) (l : List ℕ) : Type 0 where
   pub mappings : t′ .mappings ≡ t .mappings
   pub onlycap : t′ .onlycap ≡ t .onlycap
 
+-- how many rules have that subject: those of the label's number; an unknown label gives 0
+pub record CountsRules (t : Table) (l : List ℕ) (count : ℕ) : Type 0 where
+  pub known : (n : ℕ) → labelIn t l ≡ At n → count ≡ length (those (λ (r : Rule). eqb (r .subject) n) (t .rules))
+  pub unknown : labelIn t l ≡ Nothing → count ≡ 0
+
 -- the rules whose subject is that label, by its bytes
 abbrev pub rulesOf : Table → List ℕ → List Rule
 rulesOf t l = those (λ (r : Rule). sameBytes (labelNumbered t (r .subject)) l) (t .rules)
@@ -71,24 +76,26 @@ pub record SetsFields (t t′ : Table) (fs : List (List ℕ)) : Type 0 where
 
 -- ---- Mapping
 
+-- mapping k is the label's: the first that names the label's number
+abbrev pub HasMapping : Table → List ℕ → ℕ → Type 0
+HasMapping t l k = (n : ℕ) × (labelIn t l ≡ At n) × (mappingIn t n ≡ At k)
+
 -- 01: the label is mapped to the level and the set, in its former mapping's place; a new mapping goes last
 pub record Maps (t t′ : Table) (l : List ℕ) (level set : ℕ) : Type 0 where
   -- looked up by its label it gives the level, the set and how many categories are in the set; no other label's look-up changes
   pub found : labelLookup t′ l ≡ Mapped level set (length (categories set))
   pub others : (x : List ℕ) → x ≢ l → labelLookup t′ x ≡ labelLookup t x
-  -- every mapping keeps its place and its label, and those of other labels stay whole; there is one more where the label had none
+  -- every mapping keeps its place and its label, and each but the label's stays whole; there is one more where the label had none
   pub places : (k : ℕ) → k < length (t .mappings) → mappingNumbered t′ k .label ≡ mappingNumbered t k .label
-  pub other-mappings :
-      (k : ℕ) → k < length (t .mappings) → labelNumbered t (mappingNumbered t k .label) ≢ l → mappingNumbered t′ k ≡ mappingNumbered t k
+  pub other-mappings : (k : ℕ) → k < length (t .mappings) → (HasMapping t l k → ⊥) → mappingNumbered t′ k ≡ mappingNumbered t k
   pub replaced : labelLookup t l ≢ Unmapped → length (t′ .mappings) ≡ length (t .mappings)
   pub last : labelLookup t l ≡ Unmapped → length (t′ .mappings) ≡ suc (length (t .mappings))
   -- its label enters
   pub labels : Enter t t′ (l ∷ [])
-  -- nothing else changes: no rule, no pair's modes, and nobody's override
+  -- nothing else changes: no rule, nothing of the override list, and no answer
   pub rules : t′ .rules ≡ t .rules
-  pub modes : (x y : List ℕ) → modesBetween t′ x y ≡ modesBetween t x y
   pub onlycap : t′ .onlycap ≡ t .onlycap
-  pub override : (x : List ℕ) (capable : Bool) → effective t′ (labelIn t′ x) capable ≡ effective t (labelIn t x) capable
+  pub answers : (s o request : List ℕ) (capable : Bool) → answer t′ s o request capable ≡ answer t s o request capable
 
 -- ---- a line of rule text, and Change
 
@@ -97,6 +104,8 @@ pub record KeepsPlaces (t t′ : Table) (s o : List ℕ) : Type 0 where
   -- every rule keeps its place, its subject and its object
   pub subjects : (k : ℕ) → k < length (t .rules) → ruleNumbered t′ k .subject ≡ ruleNumbered t k .subject
   pub objects : (k : ℕ) → k < length (t .rules) → ruleNumbered t′ k .object ≡ ruleNumbered t k .object
+  -- each but the pair's stays whole
+  pub other-rules : (k : ℕ) → k < length (t .rules) → ruleBetween t (labelIn t s) (labelIn t o) ≢ At k → ruleNumbered t′ k ≡ ruleNumbered t k
   -- a pair that has a rule gets no other; the rule of one that has none goes last, and is of its two labels
   pub as-many : hasRule (modesBetween t s o) ≡ true → length (t′ .rules) ≡ length (t .rules)
   pub one-more : hasRule (modesBetween t s o) ≡ false → length (t′ .rules) ≡ suc (length (t .rules))

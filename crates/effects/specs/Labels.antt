@@ -14,7 +14,7 @@ use Rattle.access.specs.Access.{isFound}
 abbrev pub among : List ℕ → List (List ℕ) → Bool
 among x ls = isFound (first (sameBytes x) ls)
 
--- where a label appears first among some
+-- where a label appears first among some (0 where it does not)
 abbrev pub firstPlace : List (List ℕ) → List ℕ → ℕ
 firstPlace written x = placeOf (first (sameBytes x) written) 0
 

@@ -1,4 +1,4 @@
 pub mod Labels
 pub mod Effects
 pub mod MappingText
-pub mod Answers
+pub mod OverrideAndLookUp

@@ -1,4 +1,4 @@
--- 01, Single writes, Mapping: what a mapping write says, by its fields and without the definitions that read them. Assumes nothing.
+-- 01, Single writes, Mapping: what a mapping write says, by its fields and without `categoriesOf` and `saidBy`. Assumes nothing.
 use Prim.Native.Nat.{ℕ, _^_, _<_, _≤_}
 use mathlib.Core.Bool.{true}
 use mathlib.Core.Path.{_≡_}
@@ -10,9 +10,9 @@ use Rattle.numbers.specs.Numbers.{numberOf}
 use Rattle.numbers.specs.Categories.{isLevel, isCategory, hasCategory, knownSet}
 use Rattle.numbers.specs.declared.Number.the-variants.{Value}
 
--- a field of some has the value k
-abbrev pub Written : List (List ℕ) → ℕ → Type 0
-Written fs k = (j : ℕ) × (j < length fs) × (numberOf (getD fs j []) ≡ Value k)
+-- one of these fields is the number k
+abbrev pub OneIs : List (List ℕ) → ℕ → Type 0
+OneIs fs k = (j : ℕ) × (j < length fs) × (numberOf (getD fs j []) ≡ Value k)
 
 -- 01: label, level, then no or more categories. The set has those categories that are written, repeats or not, and no other bit
 pub record MappingText (text l : List ℕ) (level set : ℕ) : Type 0 where
@@ -24,6 +24,6 @@ pub record MappingText (text l : List ℕ) (level set : ℕ) : Type 0 where
   pub number : numberOf level-field ≡ Value level
   pub is-level : isLevel level ≡ true
   pub categories : (j : ℕ) → j < length category-fields → (k : ℕ) × (numberOf (getD category-fields j []) ≡ Value k) × (isCategory k ≡ true)
-  pub has : (k : ℕ) → isCategory k ≡ true → (hasCategory set k ≡ true) ↔ Written category-fields k
+  pub has : (k : ℕ) → isCategory k ≡ true → (hasCategory set k ≡ true) ↔ OneIs category-fields k
   pub known : knownSet set ≡ true
   pub small : set < 2 ^ 64

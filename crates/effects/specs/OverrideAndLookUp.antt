@@ -1,4 +1,4 @@
--- 01, Questions, the last sentence: override; and Single writes, the paragraph after them: the look-up by level and set. Assumes nothing.
+-- 01, Questions, the last sentence: override; and Single writes, the paragraph after them: the look-ups. Assumes nothing.
 use Prim.Native.Nat.{ℕ, _<_}
 use mathlib.Core.Bool.{Bool, true, false, cond}
 use mathlib.Core.Path.{_≡_}
@@ -6,15 +6,17 @@ use mathlib.Core.Logic.{_↔_, _⊎_}
 use mathlib.Core.List.{List, [], List·Memᴰ}
 use lib.ListN.{length}
 use Rattle.search.specs.declared.Found.the-variants.{At, Nothing}
+use Rattle.alphabet.specs.Alphabet.{wellFormed}
 use Rattle.numbers.specs.Categories.{categories}
-use Rattle.store.specs.Table.{Table, labelIn, labelNumbered}
-use Rattle.lookups.specs.declared.Lookup.the-variants.{Mapped}
+use Rattle.store.specs.Table.{Table, labelIn, labelNumbered, mappingNumbered}
+use Rattle.lookups.specs.declared.Lookup.the-variants.{Mapped, Unmapped}
 use Rattle.lookups.specs.declared.Label.the-variants as label
 use Rattle.lookups.specs.Lookups.{labelLookup, levelLookup}
 use Rattle.access.specs.declared.Denial.{Denial}
 use Rattle.access.specs.declared.Answer.{Answer}
 use Rattle.access.specs.declared.Answer.the-variants.{Granted, Denied, Override, Refused}
 use Rattle.access.specs.Access.{effective, answer}
+use Rattle.effects.specs.Effects.{HasMapping}
 
 -- ---- override
 
@@ -36,6 +38,21 @@ pub record OverrideCounts (t : Table) : Type 0 where
   -- it counts exactly for an asker who has it, where the list is empty or holds the subject; a label that is not in the table is on no list
   pub holder : (i : ℕ) (capable : Bool) → (effective t (At i) capable ≡ true) ↔ ((capable ≡ true) × ((t .onlycap ≡ []) ⊎ List·Memᴰ i (t .onlycap)))
   pub unknown : (capable : Bool) → (effective t Nothing capable ≡ true) ↔ ((capable ≡ true) × (t .onlycap ≡ []))
+
+-- ---- looked up by label
+
+-- 01: level, set and how many categories are in the set; an unmapped label gives none
+pub record LabelsMapping (t : Table) (l : List ℕ) : Type 0 where
+  pub mapped :
+      (level set count : ℕ) →
+      (labelLookup t l ≡ Mapped level set count)
+      ↔ ((wellFormed l ≡ true)
+      × (k : ℕ)
+      × HasMapping t l k
+      × (mappingNumbered t k .level ≡ level)
+      × (mappingNumbered t k .set ≡ set)
+      × (count ≡ length (categories set)))
+  pub unmapped : (labelLookup t l ≡ Unmapped) ↔ ((wellFormed l ≡ true) × ((k : ℕ) → HasMapping t l k → ⊥))
 
 -- ---- looked up by level and set
 
