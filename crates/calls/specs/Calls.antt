@@ -80,7 +80,7 @@ part-reply a labels = cond (a .refused) (r.refusal (a .number)) (r.label-is (tak
 pub data Answers : Store → Ask → Reply → Type 0 where
   a-question : (k : Called question-kinds.ps question-kinds.r question-reads.Asked question-reads.Learnt) →
       Answers (lent (k .args)) (r.question (now (fourth (k .args))) (now (fifth (k .args))) (now (sixth (k .args))) (seventh (k .args)))
-          (r.answered (k .result))
+      (r.answered (k .result))
   a-look-up : (k : Called by-label-kinds.ps by-label-kinds.r by-label-reads.Asked by-label-reads.Learnt) →
       Answers (lent (k .args)) (r.by-label (now (fourth (k .args)))) (r.mapped (k .result))
   a-search : (k : Called by-level-kinds.ps by-level-kinds.r by-level-reads.Asked by-level-reads.Learnt) →
@@ -98,7 +98,7 @@ pub data Writes : Store → Write → Reply → Store → Type 0 where
       Writes (lent (k .args)) (r.change (now (fourth (k .args)))) (written-reply (k .result)) (left (k .last))
   a-revoke : (k : Called revoke-kinds.ps revoke-kinds.r revoke-reads.Asked revoke-reads.Learnt) →
       Writes (lent (k .args)) (r.revoke (now (fourth (k .args)))) (counted-reply (k .result))
-          (store (now (first (k .args))) (second (k .last)) (now (third (k .args))))
+      (store (now (first (k .args))) (second (k .last)) (now (third (k .args))))
   an-onlycap : (k : Called onlycap-kinds.ps onlycap-kinds.r onlycap-reads.Asked onlycap-reads.Learnt) →
       Writes (lent (k .args)) (r.onlycap (now (fourth (k .args)))) (written-reply (k .result)) (left (k .last))
   a-mapping : (k : Called mapping-kinds.ps mapping-kinds.r mapping-reads.Asked mapping-reads.Learnt) →

@@ -50,7 +50,7 @@ pub data InPieces : Store → List ℕ → Session → List (List ℕ) → List 
       lineRoom * length (now (seventh (k .args))) ≤ length (now (fifth (k .args))) →
       InPieces (left (k .last)) (fourth (k .last)) (wentSession (sixth (k .args)) (k .result)) pieces said →
       InPieces (lent (k .args)) (now (fourth (k .args))) (sixth (k .args)) (now (seventh (k .args)) ∷ pieces)
-          (take (wentCount (k .result)) (fifth (k .last)) ++ said)
+      (take (wentCount (k .result)) (fifth (k .last)) ++ said)
 
 -- the pieces as one input
 abbrev pub joined : List (List ℕ) → List ℕ

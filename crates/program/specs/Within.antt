@@ -29,7 +29,7 @@ TextEnds s out r s′ = Turns lineRoom s (textAfter (s .load)) (textSays (s .loa
 abbrev pub TurnsOver : State → List ℕ → Both (RefT (List ℕ)) (RefT (List ℕ)) → Turn → State → Type 0
 TurnsOver s input out r s′ =
     Turns (lineRoom * suc (length input)) s (takeInput (textAfter (s .load)) input) (textSays (s .load) ++ sayInput (textAfter (s .load)) input)
-        (now (out .entry)) r s′ (now (out .exit))
+    (now (out .entry)) r s′ (now (out .exit))
 
 abbrev pub Answers : Store → List ℕ → ℕ → List ℕ → ℕ → List ℕ → ℕ → Type 0
 Answers st line kept out at out′ end = Put lineRoom out at (answerLine (answerOf st line kept)) out′ end
