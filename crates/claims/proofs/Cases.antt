@@ -17,7 +17,7 @@ use Rattle.store.specs.Pairs.{modesBetween}
 use Rattle.access.specs.Access.{effective, decide, answer}
 use Rattle.cipso.specs.Cipso.{SaidMapping, mapping, categoriesOf, saidBy, mappingOf, withMapping, mappingWrite, saidJudged}
 use Rattle.lookups.specs.Lookups.{labelLookup}
-use Rattle.claims.specs.Cases.{maps, right, sameLookup, cases}
+use Rattle.claims.specs.Cases.{maps, right, sameLookup, cases, furtherCases}
 
 abbrev write : List ℕ
 write = ascii "Vault7 9 1 63"
@@ -47,3 +47,7 @@ mapped = ap (λ (s : SaidMapping). sameLookup (labelLookup (tableAfter fresh (sa
 pub cases-right : all right cases ≡ true
 unfolding all right first put sameBytes isBlank labelByte wellFormed fields bitOf allowedByte modesOf readModes modesText ruleBy ruleOf changeBy changeOf isPair withPair modesBetween effective decide answer
 cases-right = and-true (right (maps write Vault7 9 (1 ∷ 63 ∷ []) 2)) ∙ mapped
+
+pub further-right : all right furtherCases ≡ true
+unfolding all right first put sameBytes isBlank labelByte wellFormed fields bitOf allowedByte modesOf readModes modesText ruleBy ruleOf changeBy changeOf isPair withPair modesBetween effective decide answer
+further-right = refl

@@ -1,3 +1,5 @@
 pub mod Cases
 pub mod Refusals
 pub mod Program
+pub mod Numbers
+pub mod Examples

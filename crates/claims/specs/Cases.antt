@@ -5,7 +5,7 @@ use mathlib.Core.List.{List, [], _∷_, foldl}
 use lib.Dec.{eqb}
 use Rattle.search.specs.Bytes.{ascii, sameBytes}
 use Rattle.modes.specs.Modes.{modesText}
-use Rattle.store.specs.Table.{Table, fresh, floor, hat, star}
+use Rattle.store.specs.Table.{Table, fresh}
 use Rattle.lines.specs.Lines.{ruleOf}
 use Rattle.writes.specs.Writes.{judged, changeWrite}
 use Rattle.store.specs.Judged.{tableAfter}
@@ -59,16 +59,19 @@ granted-b = record { kind = 0; number = 6; bringup = true }
 abbrev pub denied : ℕ → Shown
 denied n = record { kind = 1; number = n; bringup = false }
 
+abbrev pub refusedWith : ℕ → Shown
+refusedWith n = record { kind = 3; number = n; bringup = false }
+
 -- ---- the table of cases
 
 abbrev pub cases : List Case
 cases =
     -- P1 to P6, of a fresh table
-    asks [] star floor (ascii "r") (denied 1)
-    ∷ asks [] hat (ascii "Door") (ascii "rx") (granted 2)
-    ∷ asks [] (ascii "Door") floor (ascii "rw") (denied 7)
-    ∷ asks [] hat star (ascii "rw") (granted 4)
-    ∷ asks [] star star (ascii "r") (denied 1)
+    asks [] (ascii "*") (ascii "_") (ascii "r") (denied 1)
+    ∷ asks [] (ascii "^") (ascii "Door") (ascii "rx") (granted 2)
+    ∷ asks [] (ascii "Door") (ascii "_") (ascii "rw") (denied 7)
+    ∷ asks [] (ascii "^") (ascii "*") (ascii "rw") (granted 4)
+    ∷ asks [] (ascii "*") (ascii "*") (ascii "r") (denied 1)
     ∷ asks [] (ascii "Door") (ascii "Door") (ascii "rwxa") (granted 5)
     -- P7 to P9, after `Probe3 Air w`
     ∷ asks (ascii "Probe3 Air w" ∷ []) (ascii "Probe3") (ascii "Air") (ascii "w") (granted 6)
@@ -80,4 +83,28 @@ cases =
     ∷ changes (ascii "Probe3 Air r") (ascii "Probe3 Air wa w") (ascii "Probe3") (ascii "Air") (ascii "ra")
     -- P12, `Vault7 9 1 63`
     ∷ maps (ascii "Vault7 9 1 63") (ascii "Vault7") 9 (1 ∷ 63 ∷ []) 2
+    ∷ []
+
+-- further ones, of each rule and of what P1 to P12 leave out: rule 3; the other letters of rules 2 and 3; write that does not stand for append; ? and @ are ordinary;
+-- a rule without b; a change of a new pair, and of one with b; each refusal of a question
+abbrev pub furtherCases : List Case
+furtherCases =
+    asks [] (ascii "Door") (ascii "_") (ascii "rx") (granted 3)
+    ∷ asks [] (ascii "Door") (ascii "_") (ascii "a") (denied 7)
+    ∷ asks [] (ascii "^") (ascii "Door") (ascii "r") (granted 2)
+    ∷ asks [] (ascii "^") (ascii "Door") (ascii "a") (denied 7)
+    ∷ asks [] (ascii "^") (ascii "Door") (ascii "w") (denied 7)
+    ∷ asks [] (ascii "Door") (ascii "^") (ascii "r") (denied 7)
+    ∷ asks [] (ascii "@") (ascii "Door") (ascii "r") (denied 7)
+    ∷ asks [] (ascii "Door") (ascii "@") (ascii "r") (denied 7)
+    ∷ asks [] (ascii "?") (ascii "Door") (ascii "r") (denied 7)
+    ∷ asks [] (ascii "Door") (ascii "*") (ascii "rwxa") (granted 4)
+    ∷ asks (ascii "Probe3 Air w" ∷ []) (ascii "Probe3") (ascii "Air") (ascii "a") (denied 7)
+    ∷ asks (ascii "Probe3 Air a-R" ∷ []) (ascii "Probe3") (ascii "Air") (ascii "ra") (granted 6)
+    ∷ asks (ascii "Probe3 Air rwxat" ∷ ascii "Probe3 Air -" ∷ []) (ascii "Probe3") (ascii "Air") (ascii "r") (denied 7)
+    ∷ asks [] (ascii "-Door") (ascii "Air") (ascii "q") (refusedWith 3)
+    ∷ asks [] (ascii "Door") (ascii "Air") (ascii "rt") (refusedWith 8)
+    ∷ asks [] (ascii "Door") (ascii "Air") [] (refusedWith 8)
+    ∷ changes (ascii "Air Door r") (ascii "Probe3 Air xt -") (ascii "Probe3") (ascii "Air") (ascii "xt")
+    ∷ changes (ascii "Probe3 Air rb") (ascii "Probe3 Air a r") (ascii "Probe3") (ascii "Air") (ascii "ab")
     ∷ []

@@ -3,3 +3,5 @@ pub mod Exported
 pub mod Program
 pub mod Unchanged
 pub mod RunSearch
+pub mod Numbers
+pub mod Examples

@@ -12,8 +12,10 @@ ghost use Rattle.lists.specs.Reader.{Call, Reply, events, reports};
 ghost use Rattle.calls.specs.Calls.{Fresh, Runs};
 ghost use Rattle.calls.specs.PlainReaders.{PlainReaders, refusal-of};
 ghost use Rattle.lists.specs.Tables.{TablesFollow};
-ghost use Rattle.claims.specs.Cases.{right, cases};
+ghost use Rattle.claims.specs.Cases.{right, cases, furtherCases};
+ghost use Rattle.claims.specs.Examples.{ExamplesOf01};
 ghost use Rattle.claims.specs.Exported.{ExportedCalls};
+ghost use Rattle.claims.specs.Numbers.{NumbersOf01};
 ghost use Rattle.claims.specs.Program.{ProgramOutput};
 ghost use Rattle.claims.specs.Unchanged.{NothingChanges};
 ghost use Rattle.claims.specs.RunSearch.{SearchesTheRun};
@@ -68,7 +70,18 @@ pub fn bytes_and_letters()
     ensures { λ _. ⌜ SixLetters ⌝ }
 {}
 
-// The cases P1 to P12.
+// The cases P1 to P12, and further ones.
 pub fn either_side_of_a_limit()
     ensures { λ _. ⌜ all right cases ≡ true ⌝ }
+    ensures { λ _. ⌜ all right furtherCases ≡ true ⌝ }
+{}
+
+// 01's numbers, as they stand there: the refusals, the limits, and what a host gets for each case of an answer.
+pub fn numbers_of_01()
+    ensures { λ _. ⌜ NumbersOf01 ⌝ }
+{}
+
+// 01's examples, byte for byte, and further ones.
+pub fn examples_of_01()
+    ensures { λ _. ⌜ ExamplesOf01 ⌝ }
 {}

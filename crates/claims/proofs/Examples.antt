@@ -1,0 +1,42 @@
+-- 01's examples are computed on the definitions. Assumes nothing.
+use Prim.Native.Nat.{ℕ}
+use mathlib.Core.Path.{_≡_, refl}
+use mathlib.Core.Bool.{true}
+use mathlib.Core.Logic.{_↔_}
+use lib.Dec.{eqb}
+use borrow.Author.Tests.{eqb-true, eq-eqb}
+use Rattle.search.specs.Search.{first, all, put}
+use Rattle.search.specs.Bytes.{ascii, sameBytes}
+use Rattle.search.proofs.Laws.{and-both}
+use Rattle.alphabet.specs.Alphabet.{isBlank, labelByte, wellFormed, fields}
+use Rattle.modes.specs.Modes.{bitOf, allowedByte, modesOf, readModes}
+use Rattle.store.specs.Table.{isPair}
+use Rattle.store.specs.Pairs.{modesBetween}
+use Rattle.lines.specs.Lines.{ruleBy, ruleOf}
+use Rattle.rules.specs.Rules.{withPair}
+use Rattle.access.specs.Access.{effective, decide, answer}
+use Rattle.lists.specs.Reader.{endLine, takeByte, finish, limited}
+use Rattle.replies.specs.Replies.{decimal, answerLine}
+use Rattle.rule_text.specs.RuleText.{textOf}
+use Rattle.run.specs.declared.Record.{Record}
+use Rattle.run.specs.Run.{matches}
+use Rattle.program.specs.Program.{answerTo, reportLine, output}
+use Rattle.claims.specs.Examples.{ExamplesOf01}
+
+matching : (level set : ℕ) (r : Record) → (matches level set r ≡ true) ↔ ((r .level ≡ level) × (r .set ≡ set))
+matching level set r = (
+  λ e. let h = and-both (eqb (r .level) level) (eqb (r .set) set) e in (eqb-true _ _ (h .0), eqb-true _ _ (h .1)),
+  λ h. rw (eq-eqb (r .level) level (h .0), eq-eqb (r .set) set (h .1)),
+)
+
+pub examples-of-01 : ExamplesOf01
+unfolding all first put sameBytes isBlank labelByte wellFormed fields bitOf allowedByte modesOf readModes ruleBy ruleOf isPair withPair modesBetween effective decide answer endLine takeByte finish limited decimal answerLine textOf answerTo reportLine output
+examples-of-01 =
+    record {
+      program = refl;
+      report = refl;
+      questions = refl;
+      answers = (refl, refl, refl, refl, refl);
+      listed = refl;
+      matching = matching;
+    }

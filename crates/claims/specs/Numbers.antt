@@ -1,0 +1,57 @@
+-- 01's numbers, each as it stands there: the refusals, the limits, and what a host gets for each case of an answer. Elsewhere they are spoken of by name; here
+-- a name that has another number is refused. Assumes nothing.
+use Prim.Native.Nat.{ℕ}
+use mathlib.Core.Path.{_≡_}
+use mathlib.Core.Bool.{Bool, true, false}
+use mathlib.Core.List.{List, [], _∷_}
+use Rattle.search.specs.Bytes.{ascii}
+use Rattle.refusals.specs.Refusals as refusal
+use Rattle.alphabet.specs.Alphabet.{labelLongest, lineLimit}
+use Rattle.numbers.specs.Categories.{levelLimit, categoryLimit}
+use Rattle.store.specs.Table.{Table, fresh, labelLimit, ruleLimit, mappingLimit, onlycapLimit}
+use Rattle.reports.specs.Report.{countLimit, freshLoader}
+use Rattle.rule_text.specs.RuleText.{longestRule}
+use Rattle.access.specs.declared.Denial.the-variants.{StarSubject, AnyOther}
+use Rattle.access.specs.declared.Answer.the-variants as answer
+use Rattle.lookups.specs.declared.Lookup.the-variants as lookup
+use Rattle.lookups.specs.declared.Label.the-variants as label
+use Rattle.output.specs.declared.Output.the-variants as output
+use Rattle.answers.specs.declared.Shown.{Shown}
+use Rattle.answers.specs.Answers.{shown, lookupShown, searchShown, listShown}
+use Rattle.store.specs.Pairs.{no-rule, modesSoFar}
+
+-- the refusals and the limits, in 01's order
+abbrev pub refusalNumbers : List ℕ
+refusalNumbers =
+    refusal.damaged ∷ refusal.tooLong ∷ refusal.wrongFields ∷ refusal.badLabel ∷ refusal.badAccess ∷ refusal.sameLabels ∷ refusal.labelsFull
+    ∷ refusal.rulesFull ∷ refusal.badRequest ∷ refusal.badLevelOrCategory ∷ refusal.mappingsFull ∷ refusal.tooManyOverrides ∷ refusal.outputTooShort
+    ∷ refusal.noSuchNumber ∷ []
+
+abbrev pub limits : List ℕ
+limits = labelLongest ∷ labelLimit ∷ ruleLimit ∷ mappingLimit ∷ onlycapLimit ∷ lineLimit ∷ levelLimit ∷ categoryLimit ∷ countLimit ∷ longestRule ∷ []
+
+pub record NumbersOf01 : Type 0 where
+  pub refusals : refusalNumbers ≡ 0 ∷ 1 ∷ 2 ∷ 3 ∷ 4 ∷ 5 ∷ 6 ∷ 7 ∷ 8 ∷ 9 ∷ 10 ∷ 11 ∷ 12 ∷ 13 ∷ []
+  pub sizes : limits ≡ 255 ∷ 64 ∷ 256 ∷ 32 ∷ 8 ∷ 600 ∷ 255 ∷ 63 ∷ 4294967295 ∷ 519 ∷ []
+  -- a fresh table has the five labels and nothing else; a change of a pair that has no rule starts from no letter
+  pub fresh-table :
+      fresh
+      ≡ record { labels = ascii "_" ∷ ascii "^" ∷ ascii "*" ∷ ascii "?" ∷ ascii "@" ∷ []; rules = []; mappings = []; onlycap = [] }
+  pub from-none : modesSoFar no-rule ≡ 0
+  -- a question: 0 granted, 1 denied, 2 granted by override, 3 refused, with the number that applies
+  pub granted : (n : ℕ) (b : Bool) → shown (answer.Granted n b) ≡ record { kind = 0; number = n; bringup = b }
+  pub denied-1 : shown (answer.Denied StarSubject) ≡ record { kind = 1; number = 1; bringup = false }
+  pub denied-7 : shown (answer.Denied AnyOther) ≡ record { kind = 1; number = 7; bringup = false }
+  pub override-1 : shown (answer.Override StarSubject) ≡ record { kind = 2; number = 1; bringup = false }
+  pub override-7 : shown (answer.Override AnyOther) ≡ record { kind = 2; number = 7; bringup = false }
+  pub refused : (n : ℕ) → shown (answer.Refused n) ≡ record { kind = 3; number = n; bringup = false }
+  -- a look-up: 0 found, 1 none, 2 refused
+  pub mapped : (level set count : ℕ) → lookupShown (lookup.Mapped level set count) ≡ record { kind = 0; number = 0; level = level; count = count; set = set }
+  pub unmapped : lookupShown lookup.Unmapped ≡ record { kind = 1; number = 0; level = 0; count = 0; set = 0 }
+  pub look-up-refused : (n : ℕ) → lookupShown (lookup.Refused n) ≡ record { kind = 2; number = n; level = 0; count = 0; set = 0 }
+  pub found : (k : ℕ) → searchShown (label.Number k) ≡ record { kind = 0; number = 0; label = k }
+  pub none : searchShown label.Nothing ≡ record { kind = 1; number = 0; label = 0 }
+  pub search-refused : (n : ℕ) → searchShown (label.Refused n) ≡ record { kind = 2; number = n; label = 0 }
+  -- a listed rule: its length, or refused
+  pub listed : (k : ℕ) → listShown (output.Length k) ≡ record { refused = false; number = 0; length = k }
+  pub not-listed : (n : ℕ) → listShown (output.Refused n) ≡ record { refused = true; number = n; length = 0 }
