@@ -32,11 +32,12 @@ use Rattle.lists.proofs.Steps.{on}
 use Rattle.lists.proofs.Others.{storeLeft, write-holds}
 use Rattle.grown.specs.Grown.{Grown, by-line, by-write}
 use Rattle.grown.specs.Pairs.{SoundTable, isAccepted}
-use Rattle.grown.proofs.Pairs.{undamaged-sound, line-sets, change-sets, rule-triple, rule-accepted}
+use Rattle.grown.proofs.Pairs.{undamaged-sound, line-sets, change-sets, rule-triple, change-text, rule-accepted}
 use Rattle.effects.proofs.Places.{rule-keeps, change-keeps}
 use Rattle.effects.proofs.Revoked.{revoke-clears}
 use Rattle.effects.proofs.Listed.{list-sets}
 use Rattle.effects.proofs.Mapped.{mapping-maps}
+use Rattle.effects.proofs.MappingText.{mapping-says}
 use Rattle.calls.specs.PlainReaders as m
 use Rattle.calls.specs.PlainReaders.{Act, actsFrom, Made}
 
@@ -191,11 +192,37 @@ not-skipped t (r.mapping text) = by-said (cipso.mappingOf text)
     by-said (cipso.refused n) = tt
     by-said (cipso.mapping l level s) = by-tests (noPlace (labelIn t l) (length (t .labels)) 64) (noPlace (cipso.mappingFor t l) (length (t .mappings)) 32) (cipso.withMapping t l level s)
 
+-- an accepted change says a change, and an accepted mapping a mapping
+change-done : (t t₁ : Table) (text : List ℕ) → SoundTable t → judged t (changeOf text) ≡ is-accepted t₁ → m.Sets t t₁ (r.change text)
+change-done t t₁ text whole e = by-said (changeOf text) refl (only-change text)
+  where
+    by-said : (said : Said) → changeOf text ≡ said → OnlyChange said → m.Sets t t₁ (r.change text)
+    by-said skipped q n = absurd n
+    by-said (refused k) q n = let f = ap (judged t) (sym q) ∙ e in let z : _≡_ {A = ℕ} 0 1 = cc in absurd (omega arith)
+    by-said (rule s o k) q n = absurd n
+    by-said (change s o a d) q n = (
+      s,
+      o,
+      a,
+      d,
+      change-text text s o a d q,
+      change-sets t t₁ text s o a d whole q e,
+      change-keeps t t₁ s o a d (ap (judged t) (sym q) ∙ e),
+    )
+
+mapping-done : (t t₁ : Table) (text : List ℕ) → SoundTable t → mappingWrite text t ≡ is-accepted t₁ → m.Sets t t₁ (r.mapping text)
+unfolding mappingWrite
+mapping-done t t₁ text whole e = by-said (cipso.mappingOf text) refl
+  where
+    by-said : (said : cipso.SaidMapping) → cipso.mappingOf text ≡ said → m.Sets t t₁ (r.mapping text)
+    by-said (cipso.refused k) q = let f = ap (cipso.saidJudged t) (sym q) ∙ e in let z : _≡_ {A = ℕ} 0 1 = cc in absurd (omega arith)
+    by-said (cipso.mapping l level s) q = (l, level, s, mapping-says text l level s .0 q, mapping-maps t t₁ text l level s whole q e)
+
 sets : (t t₁ : Table) (w : Write) → SoundTable t → judgeWrite w t ≡ is-accepted t₁ → m.Sets t t₁ w
-sets t t₁ (r.change text) whole e = λ s o a d q. (change-sets t t₁ text s o a d whole q e, change-keeps t t₁ s o a d (ap (judged t) (sym q) ∙ e))
+sets t t₁ (r.change text) whole e = change-done t t₁ text whole e
 sets t t₁ (r.revoke l) whole e = revoke-clears t t₁ l e
 sets t t₁ (r.onlycap text) whole e = list-sets t t₁ text whole e
-sets t t₁ (r.mapping text) whole e = λ l level set q. mapping-maps t t₁ text l level set whole q e
+sets t t₁ (r.mapping text) whole e = mapping-done t t₁ text whole e
 
 write-made : (t : Table) (w : Write) {t′ : Table} {rest : List Act} → SoundTable t → Made (afterWrite t w) rest t′ → Made t (m.single w ∷ rest) t′
 write-made t w {t′} {rest} whole more = by-judged (judgeWrite w t) refl (not-skipped t w) more

@@ -7,7 +7,7 @@ use Rattle.refusals.specs.Refusals.{damaged}
 use Rattle.alphabet.specs.Alphabet.{isNewline, fields}
 use Rattle.store.specs.Table.{Table}
 use Rattle.store.specs.Layout.{tableOf}
-use Rattle.lines.specs.Lines.{change, ruleOf, changeOf}
+use Rattle.lines.specs.Lines.{ruleOf}
 use Rattle.writes.specs.Writes.{judged, changed}
 use Rattle.store.specs.Judged.{is-skipped, is-refused, is-accepted}
 use Rattle.answers.specs.Answers.{shown, lookupShown, searchShown, listShown}
@@ -20,9 +20,9 @@ use Rattle.lists.specs.Reader as r
 use Rattle.lists.specs.Reader.{startOn, Write, Call, Reply, judgeWrite, afterAll, saysAll, Event, byte, stop, wrote, events}
 use Rattle.grown.specs.Grown.{Grown}
 use Rattle.store.specs.Pairs.{modesBetween, modesSoFar}
-use Rattle.grown.specs.Pairs.{Triple, hasRoom, SetsPair}
-use Rattle.cipso.specs.Cipso.{mapping, mappingOf}
+use Rattle.grown.specs.Pairs.{Triple, ChangeText, hasRoom, SetsPair}
 use Rattle.effects.specs.Effects.{KeepsPlaces, Revokes, SetsFields, Maps}
+use Rattle.effects.specs.MappingText.{MappingText}
 
 -- ---- what acts on the tables: each line that a newline or an end call ends, whole, and each single write, in order. The bytes after the last
 -- newline or end call are no line
@@ -44,16 +44,18 @@ actsFrom kept (wrote w ∷ es) = single w ∷ actsFrom kept es
 abbrev pub acts : List Call → List Act
 acts cs = actsFrom [] (events cs)
 
--- what an accepted single write does: a change leaves its pair with (old modes or allow) without deny, and changes no other pair's answer, as demand 2
--- says of a line; revoke clears the rules of its subject; the override list is who overrides; a mapping is what its label's look-up finds
+-- what an accepted single write says and does: a change is a well-formed one, leaves its pair with (old modes or allow) without deny, and changes no other
+-- pair's answer, as demand 2 says of a line; revoke clears the rules of its subject; the override list is who overrides; a mapping is a well-formed one,
+-- and is what its label's look-up finds
 abbrev pub Sets : Table → Table → Write → Type 0
 Sets t t₁ (r.change text) =
-    (s o : List ℕ) (allow deny : ℕ) →
-    changeOf text ≡ change s o allow deny →
-    SetsPair t t₁ s o (changed (modesSoFar (modesBetween t s o)) allow deny) × KeepsPlaces t t₁ s o
+    (s : List ℕ) × (o : List ℕ) × (allow : ℕ) × (deny : ℕ)
+    × ChangeText text s o allow deny
+    × SetsPair t t₁ s o (changed (modesSoFar (modesBetween t s o)) allow deny)
+    × KeepsPlaces t t₁ s o
 Sets t t₁ (r.revoke l) = Revokes t t₁ l
 Sets t t₁ (r.onlycap text) = SetsFields t t₁ (fields text)
-Sets t t₁ (r.mapping text) = (l : List ℕ) (level set : ℕ) → mappingOf text ≡ mapping l level set → Maps t t₁ l level set
+Sets t t₁ (r.mapping text) = (l : List ℕ) × (level : ℕ) × (set : ℕ) × MappingText text l level set × Maps t t₁ l level set
 
 -- From table t to table t′ by these acts, one after the other. A line is judged whole, by its bytes and the table that the acts before it
 -- left: skipped or refused it changes nothing; accepted it is a well-formed triple with room for it, sets its pair's modes and changes no other

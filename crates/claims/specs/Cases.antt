@@ -85,8 +85,8 @@ cases =
     ∷ maps (ascii "Vault7 9 1 63") (ascii "Vault7") 9 (1 ∷ 63 ∷ []) 2
     ∷ []
 
--- further ones, of each rule and of what P1 to P12 leave out: rule 3; the other letters of rules 2 and 3; write that does not stand for append; ? and @ are ordinary;
--- a rule without b; a change of a new pair, and of one with b; each refusal of a question
+-- further ones, of each rule and of what P1 to P12 leave out: rule 3; the other letters of rules 2 and 3; ? and @ are ordinary; two labels that are alike in their
+-- first 23 bytes; write does not stand for append; dashes between letters; a rule without b; each refusal of a question; a change of a new pair, and of one with b
 abbrev pub furtherCases : List Case
 furtherCases =
     asks [] (ascii "Door") (ascii "_") (ascii "rx") (granted 3)
@@ -99,6 +99,7 @@ furtherCases =
     ∷ asks [] (ascii "Door") (ascii "@") (ascii "r") (denied 7)
     ∷ asks [] (ascii "?") (ascii "Door") (ascii "r") (denied 7)
     ∷ asks [] (ascii "Door") (ascii "*") (ascii "rwxa") (granted 4)
+    ∷ asks [] (ascii "Probe-of-the-cold-store-1") (ascii "Probe-of-the-cold-store-2") (ascii "r") (denied 7)
     ∷ asks (ascii "Probe3 Air w" ∷ []) (ascii "Probe3") (ascii "Air") (ascii "a") (denied 7)
     ∷ asks (ascii "Probe3 Air a-R" ∷ []) (ascii "Probe3") (ascii "Air") (ascii "ra") (granted 6)
     ∷ asks (ascii "Probe3 Air rwxat" ∷ ascii "Probe3 Air -" ∷ []) (ascii "Probe3") (ascii "Air") (ascii "r") (denied 7)

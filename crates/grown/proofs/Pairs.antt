@@ -15,7 +15,7 @@ use Rattle.search.specs.declared.Found.{Found}
 use Rattle.search.specs.declared.Found.the-variants.{At, Nothing}
 use Rattle.search.proofs.Laws.{no, and-both, same-refl, same-equal, first-place, first-put, entries-length, first-put-other, found-put-other, put-at, not-so, Front, front-first, front-beyond}
 use Rattle.alphabet.specs.Alphabet.{wellFormed, fields}
-use Rattle.modes.specs.Modes.{readModes, ruleLetters, requestLetters}
+use Rattle.modes.specs.Modes.{readModes, ruleLetters, changeLetters, requestLetters}
 use Rattle.modes.specs.declared.Access.{Access}
 use Rattle.modes.specs.declared.Access.the-variants.{Modes, Bad}
 use Rattle.store.specs.declared.Rule.{Rule}
@@ -25,7 +25,7 @@ use Rattle.store.proofs.Laws.{sound-more, undamaged-is}
 use Rattle.rules.specs.Rules.{pairLabels, withPair}
 use Rattle.rules.proofs.Pairs.{pair-length}
 use Rattle.rules.specs.Within.{modesOfRule}
-use Rattle.lines.specs.Lines.{Said, refused, rule, change, ruleOf, changeOf, ruleWith, ruleBy, ruleFields}
+use Rattle.lines.specs.Lines.{Said, refused, rule, change, ruleOf, changeOf, ruleWith, ruleBy, ruleFields, changeWith, changeBy, changeFields}
 use Rattle.lines.proofs.Laws.{Taken, Sound, rule-sound, change-sound}
 use Rattle.writes.specs.Writes.{judged, changed}
 use Rattle.store.specs.Judged.{Judged, is-skipped, is-refused, is-accepted, tableAfter}
@@ -33,7 +33,7 @@ use Rattle.access.specs.SevenRules.{rulesFor, firstOf, sevenRules}
 use Rattle.store.specs.Pairs.{ruleBetween, PairModes, has-modes, modesFound, modesBetween, modesSoFar}
 use Rattle.access.specs.Access.{effective, answered, decide, byRequest, answer}
 use Rattle.store.proofs.Pairs.{not-listed, not-subject, not-object}
-use Rattle.grown.specs.Pairs.{SoundTable, Triple, newLabels, hasRule, hasRoom, isAccepted, SetsPair}
+use Rattle.grown.specs.Pairs.{SoundTable, Triple, ChangeText, newLabels, hasRule, hasRoom, isAccepted, SetsPair}
 use Rattle.grown.proofs.Sane.{subjectAt, objectAt, paired, subject-number, object-number, pair-front, one-label, Paired, rule-paired, change-paired}
 
 -- the table of an undamaged state is sound
@@ -318,6 +318,99 @@ rule-triple text s o m e = by-length (ltb 600 (length text)) refl e
     by-fields (x ∷ y ∷ a ∷ v ∷ more) three short e = let z : _≡_ {A = ℕ} 0 1 = cc in absurd (omega arith)
 
     by-length : (b : Bool) → ltb 600 (length text) ≡ b → cond b (refused 1) (ruleFields (fields text)) ≡ rule s o m → Triple text s o m
+    by-length true q e = let z : _≡_ {A = ℕ} 0 1 = cc in absurd (omega arith)
+    by-length false q e = by-fields (fields text) refl (ltb-false _ _ q) e
+
+-- a well-formed change is one
+pub text-change : {text s o : List ℕ} {a d : ℕ} → ChangeText text s o a d → changeOf text ≡ change s o a d
+unfolding changeOf changeBy
+text-change {text} {s} {o} w =
+    rw (
+      le-ltb 600 (length text) (w .short),
+      w .four,
+      w .subject,
+      w .object,
+      w .allows,
+      w .denies,
+      not-so (sameBytes s o) (λ e. w .different (same-equal s o e)),
+    )
+
+-- and a write that says a change is such a text
+pub change-text : (text s o : List ℕ) (a d : ℕ) → changeOf text ≡ change s o a d → ChangeText text s o a d
+unfolding changeOf changeBy
+change-text text s o a d e = by-length (ltb 600 (length text)) refl e
+  where
+    by-same :
+        (x y f g : List ℕ) (n k : ℕ) →
+        length text ≤ 600 →
+        fields text ≡ x ∷ y ∷ f ∷ g ∷ [] →
+        wellFormed x ≡ true →
+        wellFormed y ≡ true →
+        readModes changeLetters true f ≡ Modes n →
+        readModes changeLetters true g ≡ Modes k →
+        (b : Bool) →
+        sameBytes x y ≡ b →
+        cond b (refused 5) (change x y n k) ≡ change s o a d →
+        ChangeText text s o a d
+    by-same x y f g n k short four fx fy r w true q e = let z : _≡_ {A = ℕ} 0 1 = cc in absurd (omega arith)
+    by-same x y f g n k short four fx fy r w false q e =
+        let i : x ≡ s = cc in
+        let j : y ≡ o = cc in
+        let u : n ≡ a = cc in
+        let v : k ≡ d = cc in
+        rw (← i, ← j, ← u, ← v)
+        (record {
+          short = short;
+          allow-field = f;
+          deny-field = g;
+          four = four;
+          subject = fx;
+          object = fy;
+          allows = r;
+          denies = w;
+          different = λ z. no (sym q ∙ ap (λ (l : List ℕ). sameBytes l y) z ∙ same-refl y);
+        })
+
+    by-access :
+        (x y f g : List ℕ) →
+        length text ≤ 600 →
+        fields text ≡ x ∷ y ∷ f ∷ g ∷ [] →
+        wellFormed x ≡ true →
+        wellFormed y ≡ true →
+        (v : Access) →
+        readModes changeLetters true f ≡ v →
+        (u : Access) →
+        readModes changeLetters true g ≡ u →
+        changeWith x y v u ≡ change s o a d →
+        ChangeText text s o a d
+    by-access x y f g short four fx fy (Modes n) r (Modes k) w e = by-same x y f g n k short four fx fy r w (sameBytes x y) refl e
+    by-access x y f g short four fx fy (Modes n) r Bad w e = let z : _≡_ {A = ℕ} 0 1 = cc in absurd (omega arith)
+    by-access x y f g short four fx fy Bad r u w e = let z : _≡_ {A = ℕ} 0 1 = cc in absurd (omega arith)
+
+    by-formed :
+        (x y f g : List ℕ) →
+        length text ≤ 600 →
+        fields text ≡ x ∷ y ∷ f ∷ g ∷ [] →
+        (b : Bool) →
+        wellFormed x ≡ b →
+        (c : Bool) →
+        wellFormed y ≡ c →
+        cond (b && c) (changeWith x y (readModes changeLetters true f) (readModes changeLetters true g)) (refused 3) ≡ change s o a d →
+        ChangeText text s o a d
+    by-formed x y f g short four true fx true fy e =
+        by-access x y f g short four fx fy (readModes changeLetters true f) refl (readModes changeLetters true g) refl e
+    by-formed x y f g short four true fx false fy e = let z : _≡_ {A = ℕ} 0 1 = cc in absurd (omega arith)
+    by-formed x y f g short four false fx c fy e = let z : _≡_ {A = ℕ} 0 1 = cc in absurd (omega arith)
+
+    by-fields : (fs : List (List ℕ)) → fields text ≡ fs → length text ≤ 600 → changeFields fs ≡ change s o a d → ChangeText text s o a d
+    by-fields [] four short e = let z : _≡_ {A = ℕ} 0 1 = cc in absurd (omega arith)
+    by-fields (x ∷ []) four short e = let z : _≡_ {A = ℕ} 0 1 = cc in absurd (omega arith)
+    by-fields (x ∷ y ∷ []) four short e = let z : _≡_ {A = ℕ} 0 1 = cc in absurd (omega arith)
+    by-fields (x ∷ y ∷ f ∷ []) four short e = let z : _≡_ {A = ℕ} 0 1 = cc in absurd (omega arith)
+    by-fields (x ∷ y ∷ f ∷ g ∷ []) four short e = by-formed x y f g short four (wellFormed x) refl (wellFormed y) refl e
+    by-fields (x ∷ y ∷ f ∷ g ∷ v ∷ more) four short e = let z : _≡_ {A = ℕ} 0 1 = cc in absurd (omega arith)
+
+    by-length : (b : Bool) → ltb 600 (length text) ≡ b → cond b (refused 1) (changeFields (fields text)) ≡ change s o a d → ChangeText text s o a d
     by-length true q e = let z : _≡_ {A = ℕ} 0 1 = cc in absurd (omega arith)
     by-length false q e = by-fields (fields text) refl (ltb-false _ _ q) e
 

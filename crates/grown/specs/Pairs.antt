@@ -9,7 +9,7 @@ use lib.Dec.{leb, ltb}
 use Rattle.search.specs.declared.Found.{Found}
 use Rattle.search.specs.declared.Found.the-variants.{At, Nothing}
 use Rattle.alphabet.specs.Alphabet.{wellFormed, lineLimit, fields}
-use Rattle.modes.specs.Modes.{readModes, ruleLetters}
+use Rattle.modes.specs.Modes.{readModes, ruleLetters, changeLetters}
 use Rattle.modes.specs.declared.Access.the-variants.{Modes}
 use Rattle.store.specs.Table.{Table, labelIn, labelLimit, ruleLimit, soundTable}
 use Rattle.store.specs.Judged.{Judged, is-skipped, is-refused, is-accepted}
@@ -30,6 +30,18 @@ pub record Triple (text s o : List ℕ) (m : ℕ) : Type 0 where
   pub subject : wellFormed s ≡ true
   pub object : wellFormed o ≡ true
   pub modes : readModes ruleLetters true access ≡ Modes m
+  pub different : s ≡ o → ⊥
+
+-- a well-formed change of two different labels, within the length: subject, object, and the modes that allow and deny say
+pub record ChangeText (text s o : List ℕ) (allow deny : ℕ) : Type 0 where
+  pub short : length text ≤ lineLimit
+  pub allow-field : List ℕ
+  pub deny-field : List ℕ
+  pub four : fields text ≡ s ∷ o ∷ allow-field ∷ deny-field ∷ []
+  pub subject : wellFormed s ≡ true
+  pub object : wellFormed o ≡ true
+  pub allows : readModes changeLetters true allow-field ≡ Modes allow
+  pub denies : readModes changeLetters true deny-field ≡ Modes deny
   pub different : s ≡ o → ⊥
 
 -- room for it: no more new labels than free label places, and the pair has a rule or fewer than 256 are stored

@@ -3,7 +3,7 @@
 use Prim.Native.Nat.{ℕ, zero, suc, _<_, _≤_}
 use mathlib.Core.Path.{_≡_}
 use mathlib.Core.List.{List, [], _∷_, _++_, map}
-use lib.ListN.{length, take}
+use lib.ListN.{length, take, drop}
 use Rattle.refusals.specs.Refusals.{noSuchNumber}
 use Rattle.store.specs.declared.Rule.{Rule}
 use Rattle.store.specs.Table.{Table, fresh, labelNumbered, ruleNumbered}
@@ -53,14 +53,25 @@ abbrev pub listedByCalls : Store → (ℕ → List ℕ) → ℕ → ℕ → List
 listedByCalls st buffers k zero = []
 listedByCalls st buffers k (suc n) = front (listAnswer st k (buffers k)) (listOut st k (buffers k)) ++ listedByCalls st buffers (suc k) n
 
--- a buffer of 519 bytes is long enough for every rule; asked for each number in turn the call writes the listing; and the number after the
--- last rule's is refused with 13, so that a host knows where it ends. What was written loads back
+-- the text of rule number k
+abbrev pub textNumbered : Store → ℕ → List ℕ
+textNumbered st k = ruleText (tableOf st) (ruleNumbered (tableOf st) k)
+
+-- a buffer that is long enough for its rule gets the rule's text at its front, and the rest of it is unchanged; one of 519 bytes is long enough for every
+-- rule; asked for each number in turn the call writes the listing; and the number after the last rule's is refused with 13, so that a host knows where it
+-- ends. What was written loads back
 pub record ListedByNumber (st : Store) : Type 0 where
   pub given :
       (k : ℕ) (out : List ℕ) →
       k < length (tableOf st .rules) →
-      longestRule ≤ length out →
-      listAnswer st k out ≡ l.Length (length (ruleText (tableOf st) (ruleNumbered (tableOf st) k)))
+      length (textNumbered st k) ≤ length out →
+      listAnswer st k out ≡ l.Length (length (textNumbered st k))
+  pub written :
+      (k : ℕ) (out : List ℕ) →
+      k < length (tableOf st .rules) →
+      length (textNumbered st k) ≤ length out →
+      listOut st k out ≡ textNumbered st k ++ drop (length (textNumbered st k)) out
+  pub enough : (k : ℕ) → k < length (tableOf st .rules) → length (textNumbered st k) ≤ longestRule
   pub whole :
       (buffers : ℕ → List ℕ) →
       ((k : ℕ) → longestRule ≤ length (buffers k)) →

@@ -15,7 +15,7 @@ ghost use Rattle.access.specs.Access.{effective};
 ghost use Rattle.listing.specs.Listing.{listing};
 ghost use Rattle.grown.specs.Grown.{Grown};
 ghost use Rattle.grown.specs.Sane.{Sane};
-ghost use Rattle.grown.specs.Pairs.{SoundTable, Triple, hasRoom, isAccepted, SetsPair};
+ghost use Rattle.grown.specs.Pairs.{SoundTable, Triple, ChangeText, hasRoom, isAccepted, SetsPair};
 ghost use Rattle.grown.specs.Order.{Asks, ByFirst};
 ghost use Rattle.grown.specs.Relisted.{LoadsBack, ListedByNumber};
 
@@ -57,6 +57,11 @@ pub fn triple_accepted_with_room()
 pub fn accepted_line_sets_its_pair()
     ensures { λ _. ⌜ ((t t′ : Table) (line s o : List ℕ) (m : ℕ) → SoundTable t → ruleOf line ≡ rule s o m → judged t (ruleOf line) ≡ is-accepted t′ →
         SetsPair t t′ s o m) ⌝ }
+{}
+
+// What a change write has to be to say a change: four fields, the last two of letters that are allowed and denied.
+pub fn what_a_change_says()
+    ensures { λ _. ⌜ ((text s o : List ℕ) (allow deny : ℕ) → (changeOf text ≡ change s o allow deny) ↔ ChangeText text s o allow deny) ⌝ }
 {}
 
 // An accepted change leaves its pair with (old modes or allow) without deny, and changes no other pair's answer either.

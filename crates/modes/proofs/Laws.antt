@@ -1,6 +1,6 @@
 -- Laws of the definitions of specs/Modes.antt: the table of letters, a field read from some byte on, and modes as text. Assumes nothing.
 use mathlib.Core.Path.{_≡_, refl, sym, ap, _∙_}
-use mathlib.Core.Bool.{Bool, true, false, cond, not, _&&_, _||_, Bool·beq, or-true, and-false}
+use mathlib.Core.Bool.{Bool, true, false, cond, not, _&&_, _||_, Bool·beq, or-true, or-false, or-assoc, and-false}
 use mathlib.Core.Logic.{_↔_, _⊎_}
 use mathlib.Core.List.{List, [], _∷_, foldl, append-assoc}
 use Prim.Native.Nat.{ℕ, zero, suc, _+_, _-_, _<_, _≤_}
@@ -12,9 +12,10 @@ use borrow.Author.Tests.{eqb-true, eq-eqb, ne-eqb, ltb-true, lt-ltb, leb-true}
 use lib.ListN.{length, take, drop, getD, set, length-set, drop-of-length-le}
 use lib.Seq.{drop-cons, drop-nil, take-length, set-split, paste, paste-zero, paste-suc}
 use Rattle.search.specs.Search.{all, entries}
-use Rattle.search.specs.Bytes.{written}
+use Rattle.search.specs.Bytes.{ascii, written}
 use Rattle.search.proofs.Laws.{no, and-both, eqb-is, or-is, not-is, number-is, all-at, entries-at, entries-length}
-use Rattle.modes.specs.Modes.{letters, bitAmong, bitOf, allowedByte, modesOf, readModes, has, lettersIn, modesText, ruleLetters, Is, LetterBit, SixLetters}
+use Rattle.modes.specs.Modes.{letters, bitAmong, bitOf, allowedByte, modesOf, readModes, has, lettersIn, modesText, ruleLetters, changeLetters, requestLetters, Is, LetterBit, any, oneOf, SixLetters}
+use Rattle.modes.proofs.Bits.{single, has-or, six}
 use Rattle.modes.specs.declared.Letter.{Letter}
 use Rattle.modes.specs.declared.Access.{Access}
 use Rattle.modes.specs.declared.Access.the-variants.{Modes, Bad}
@@ -131,14 +132,87 @@ letter-bit b h =
       none = no-letter-is b h;
     }
 
-pub six-letters : SixLetters
-unfolding modesText allowedByte bitOf
-six-letters = record { bits = letter-bit; in-a-rule = refl; in-a-change = refl; in-a-request = refl; dashes = (refl, refl, refl) }
+-- ---- the bytes that each place allows, computed at all 256
 
--- ---- a field read from some byte on, with the modes m of the bytes before
+allowedTest : ℕ → Bool → List ℕ → ℕ → Bool
+allowedTest allowed dashes text b = Bool·beq (allowedByte allowed dashes b) (oneOf text b)
+
+allowed-is :
+    (allowed : ℕ) (dashes : Bool) (text : List ℕ) →
+    all (allowedTest allowed dashes text) (entries (λ (j : ℕ). j) 256) ≡ true → (b : ℕ) → b < 256 → allowedByte allowed dashes b ≡ oneOf text b
+unfolding allowedTest
+allowed-is allowed dashes text e b h = beq-same _ _ (below (allowedTest allowed dashes text) 256 e b h)
+
+-- ---- the letters of a field
 
 abbrev pub joined : ℕ → ℕ → ℕ
 joined m b = bitOr m (bitOf b)
+
+-- the bytes' bits are single: one has the bit k where it is k
+bit-alone : (k : ℕ) → all (λ (l : Letter). Bool·beq (has (l .bit) k) (eqb (l .bit) k)) letters ≡ true → has 0 k ≡ eqb 0 k → (b : ℕ) → has (bitOf b) k ≡ eqb (bitOf b) k
+unfolding bitOf all
+bit-alone k e z b = among letters e
+  where
+    by-test : (l : Letter) (n : ℕ) (t : Bool) → has (l .bit) k ≡ eqb (l .bit) k → has n k ≡ eqb n k → has (cond t (l .bit) n) k ≡ eqb (cond t (l .bit) n) k
+    by-test l n true p q = p
+    by-test l n false p q = q
+
+    among : (ls : List Letter) → all (λ (l : Letter). Bool·beq (has (l .bit) k) (eqb (l .bit) k)) ls ≡ true → has (bitAmong ls b) k ≡ eqb (bitAmong ls b) k
+    among [] e = z
+    among (l ∷ ls) e =
+        let h = and-both _ _ e in
+        by-test l (bitAmong ls b) (eqb b (l .letter) || eqb b (l .letter - 32)) (beq-same _ _ (h .0)) (among ls (h .1))
+
+-- with the modes m of the bytes before, a field has a letter where m or one of its bytes does
+joined-has :
+    (k : ℕ) → ((b : ℕ) → has (bitOf b) (single k) ≡ eqb (bitOf b) (single k)) → (field : List ℕ) (m : ℕ) →
+    has (foldl joined m field) (single k) ≡ (has m (single k) || any (λ (b : ℕ). eqb (bitOf b) (single k)) field)
+joined-has k alone [] m = sym (or-false (has m (single k)))
+joined-has k alone (b ∷ bs) m =
+    joined-has k alone bs (joined m b)
+    ∙ rw (has-or k m (bitOf b), alone b) (or-assoc (has m (single k)) (eqb (bitOf b) (single k)) (any (λ (x : ℕ). eqb (bitOf x) (single k)) bs))
+
+field-has : (field : List ℕ) (l : ℕ) → oneOf (ascii "rwxatb") l ≡ true → has (modesOf field) (bitOf l) ≡ any (λ (b : ℕ). eqb (bitOf b) (bitOf l)) field
+unfolding modesOf bitOf all
+field-has field l =
+    six (λ (x : ℕ). has (modesOf field) (bitOf x) ≡ any (λ (b : ℕ). eqb (bitOf b) (bitOf x)) field) l
+    (joined-has 5 (bit-alone 32 refl refl) field _)
+    (joined-has 4 (bit-alone 16 refl refl) field _)
+    (joined-has 3 (bit-alone 8 refl refl) field _)
+    (joined-has 2 (bit-alone 4 refl refl) field _)
+    (joined-has 1 (bit-alone 2 refl refl) field _)
+    (joined-has 0 (bit-alone 1 refl refl) field _)
+
+-- modes that were read are below 64
+modes-lt : (field : List ℕ) (m : ℕ) → m < 64 → foldl joined m field < 64
+modes-lt [] m h = h
+modes-lt (b ∷ bs) m h = modes-lt bs (joined m b) (or-lt 6 m (bitOf b) h (bit-lt b))
+
+field-small : (field : List ℕ) → modesOf field < 64
+unfolding modesOf
+field-small field = modes-lt field _ (omega arith)
+
+-- ---- THE LETTERS as 01 says them
+
+pub six-letters : SixLetters
+unfolding modesText allowedByte allowedTest bitOf all entries
+six-letters =
+    record {
+      bits = letter-bit;
+      rule-bytes = allowed-is ruleLetters true (ascii "rwxatbRWXATB-") refl;
+      change-bytes = allowed-is changeLetters true (ascii "rwxatRWXAT-") refl;
+      request-bytes = allowed-is requestLetters false (ascii "rwxaRWXA") refl;
+      read = field-has;
+      no-other = field-small;
+      written = λ m. refl;
+      in-a-rule = refl;
+      in-a-change = refl;
+      in-a-request = refl;
+      read-execute = refl;
+      bring-up-letter = refl;
+    }
+
+-- ---- a field read from some byte on, with the modes m of the bytes before
 
 unfoldable pub readFrom : ℕ → Bool → ℕ → List ℕ → Access
 readFrom allowed dashes m rest = cond (all (allowedByte allowed dashes) rest) (Modes (foldl joined m rest)) Bad
@@ -176,11 +250,6 @@ module _ (allowed : ℕ) (dashes : Bool) (m : ℕ) (field : List ℕ) (i : ℕ) 
   pub read-other : bitAnd bit allowed ≡ 0 → (getD field i 0 ≡ 45 → ⊥) → readFrom allowed dashes m (drop i field) ≡ Bad
   unfolding allowedByte
   read-other z n = read-stop (rw (← is, eq-eqb (bitAnd bit allowed) 0 z, ne-eqb (getD field i 0) 45 n) (and-false dashes))
-
--- modes that were read are below 64
-modes-lt : (field : List ℕ) (m : ℕ) → m < 64 → foldl joined m field < 64
-modes-lt [] m h = h
-modes-lt (b ∷ bs) m h = modes-lt bs (joined m b) (or-lt 6 m (bitOf b) h (bit-lt b))
 
 pub modes-small : (allowed : ℕ) (dashes : Bool) (field : List ℕ) (m : ℕ) → readModes allowed dashes field ≡ Modes m → m < 64
 unfolding readModes modesOf

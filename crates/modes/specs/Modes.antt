@@ -8,7 +8,7 @@ use mathlib.Core.Logic.{_↔_, _⊎_}
 use lib.Dec.{eqb}
 use lib.Bits.{bitAnd, bitOr}
 use Rattle.search.specs.Bytes.{ascii}
-use Rattle.search.specs.Search.{all}
+use Rattle.search.specs.Search.{all, those}
 use Rattle.alphabet.specs.Alphabet.{dash}
 use Rattle.modes.specs.declared.Letter.{Letter}
 use Rattle.modes.specs.declared.Access.{Access}
@@ -85,11 +85,27 @@ pub record LetterBit (b bit : ℕ) : Type 0 where
   pub bring-up : (bit ≡ 1) ↔ Is b 98 66
   pub none : (bit ≡ 0) ↔ (Is b 114 82 ⊎ Is b 119 87 ⊎ Is b 120 88 ⊎ Is b 97 65 ⊎ Is b 116 84 ⊎ Is b 98 66 → ⊥)
 
--- so it is of all 256 bytes; the letters that each place allows, in the order in which they are written; and a dash stands in a rule and in a change,
--- not in a request
+-- whether any byte of a text passes a test; and whether a byte is one of a text's
+abbrev pub any : (ℕ → Bool) → List ℕ → Bool
+any p [] = false
+any p (b ∷ bs) = p b || any p bs
+
+abbrev pub oneOf : List ℕ → ℕ → Bool
+oneOf text b = any (eqb b) text
+
+-- so it is of all 256 bytes; each place allows its letters in either case, and a dash in a rule and in a change; a field has a letter exactly where
+-- one of its bytes is that letter, and nothing else; modes are written as their letters in the order r w x a t b, or as a dash; and which letters
+-- the sets named above are
 pub record SixLetters : Type 0 where
   pub bits : (b : ℕ) → b < 256 → LetterBit b (bitOf b)
+  pub rule-bytes : (b : ℕ) → b < 256 → allowedByte ruleLetters true b ≡ oneOf (ascii "rwxatbRWXATB-") b
+  pub change-bytes : (b : ℕ) → b < 256 → allowedByte changeLetters true b ≡ oneOf (ascii "rwxatRWXAT-") b
+  pub request-bytes : (b : ℕ) → b < 256 → allowedByte requestLetters false b ≡ oneOf (ascii "rwxaRWXA") b
+  pub read : (field : List ℕ) (l : ℕ) → oneOf (ascii "rwxatb") l ≡ true → has (modesOf field) (bitOf l) ≡ any (λ (b : ℕ). eqb (bitOf b) (bitOf l)) field
+  pub no-other : (field : List ℕ) → modesOf field < 64
+  pub written : (m : ℕ) → modesText m ≡ cond (eqb m 0) (ascii "-") (those (λ (l : ℕ). has m (bitOf l)) (ascii "rwxatb"))
   pub in-a-rule : modesText ruleLetters ≡ ascii "rwxatb"
   pub in-a-change : modesText changeLetters ≡ ascii "rwxat"
   pub in-a-request : modesText requestLetters ≡ ascii "rwxa"
-  pub dashes : (allowedByte ruleLetters true 45 ≡ true) × (allowedByte changeLetters true 45 ≡ true) × (allowedByte requestLetters false 45 ≡ false)
+  pub read-execute : modesText readExecute ≡ ascii "rx"
+  pub bring-up-letter : modesText bringUpLetter ≡ ascii "b"

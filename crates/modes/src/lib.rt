@@ -73,7 +73,7 @@ fn bit_of(b: u8) -> u8
     0
 }
 
-// The claim that letters and bits are those that 01 says, and that each place allows the letters that 01 says.
+// The claim that letters and bits are those that 01 says, that each place allows the bytes that 01 says, and how a field is read and modes are written.
 pub fn six_letters()
     ensures { λ _. ⌜ SixLetters ⌝ }
 {}

@@ -1,9 +1,11 @@
 -- 01: the tables as they are spoken of, with no word of how they lie in memory: labels, rules, mappings and the onlycap list (01: the
 -- override list), in order. Assumes nothing.
-use Prim.Native.Nat.{ℕ}
+use Prim.Native.Nat.{ℕ, _<_}
 use mathlib.Core.Bool.{Bool, false, _&&_}
 use mathlib.Core.List.{List, [], _∷_, _++_}
-use lib.ListN.{getD}
+use mathlib.Core.Logic.{_↔_}
+use mathlib.Core.Path.{_≡_}
+use lib.ListN.{length, getD}
 use lib.Dec.{eqb, ltb, leb}
 pub use Rattle.numbers.specs.Categories.{knownSet}
 use Rattle.search.specs.Search.{first, all, placeOf}
@@ -117,6 +119,21 @@ ruleNumbered t k = getD (t .rules) k (record { subject = 0; object = 0; modes = 
 
 abbrev pub mappingNumbered : Table → ℕ → Mapping
 mappingNumbered t k = getD (t .mappings) k (record { label = 0; level = 0; set = 0 })
+
+-- 01: 'the first counts, and a label means its first number'. A search finds number k exactly where k is stored and is what was sought, and no
+-- earlier number is
+pub record FirstCounts (t : Table) : Type 0 where
+  pub label :
+      (l : List ℕ) (k : ℕ) →
+      (labelIn t l ≡ At k) ↔ ((k < length (t .labels)) × (labelNumbered t k ≡ l) × ((j : ℕ) → j < k → labelNumbered t j ≡ l → ⊥))
+  pub pair :
+      (s o k : ℕ) →
+      (pairIn t s o ≡ At k) ↔ (
+        (k < length (t .rules)) × (ruleNumbered t k .subject ≡ s) × (ruleNumbered t k .object ≡ o)
+        × ((j : ℕ) → j < k → ruleNumbered t j .subject ≡ s → ruleNumbered t j .object ≡ o → ⊥))
+  pub mapping :
+      (n k : ℕ) →
+      (mappingIn t n ≡ At k) ↔ ((k < length (t .mappings)) × (mappingNumbered t k .label ≡ n) × ((j : ℕ) → j < k → mappingNumbered t j .label ≡ n → ⊥))
 
 -- ---- refusal 0, of what is stored: each number names a stored label (of which there are n), no unknown mode bit (64 and above), no
 -- unknown category bit

@@ -3,7 +3,7 @@
 ghost use mathlib.Core.Path.{_≡_};
 ghost use Prim.Native.Nat.{_+_, _<_, _≤_};
 ghost use lib.ListN.{length};
-ghost use Rattle.store.specs.Table.{labelLimit, ruleLimit, mappingLimit};
+ghost use Rattle.store.specs.Table.{Table, FirstCounts, labelLimit, ruleLimit, mappingLimit};
 ghost use Rattle.store.specs.Layout.{store, lent, labelsSize, modesFrom, levelsFrom, setsFrom};
 ghost use Rattle.store.specs.Within.{withLabel, withRule, withNumbers, withWord};
 ghost use Rattle.store.specs.Judged.{freshAnswer, freshStore};
@@ -68,6 +68,11 @@ pub struct Mapping {
     pub level: u8,
     pub set: u64,
 }
+
+// The first counts, and a label means its first number: of every table. This function does nothing, and what it ensures is the theorem.
+pub fn the_first_counts()
+    ensures { λ _. ⌜ ((t : Table) → FirstCounts t) ⌝ }
+{}
 
 // Writes a label into place k: its length and its bytes. Who calls it has tested the store and the label.
 pub fn write_label(labels: &mut [u8], k: usize, label: &[u8])

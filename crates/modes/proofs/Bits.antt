@@ -1,0 +1,71 @@
+-- Laws of modes letter by letter: what a set that was joined, met or taken away from has of one letter. Assumes nothing.
+use mathlib.Core.Path.{_≡_, refl, sym, _∙_, subst}
+use mathlib.Core.Bool.{Bool, true, false, not, _&&_, _||_}
+use Prim.Native.Nat.{ℕ, zero, suc, _+_, _-_, _*_, _/_, _%_, _^_, _<_}
+use native.Mathlib.Nat.{zero-mul, one-mul, mod-lt}
+use native.Mathlib.Omega.{arith}
+use lib.Dec.{eqb}
+use lib.Pow.{pow-pos}
+use lib.Bits.{bitAnd, bitOr, bitXor, and-high, and-shr, and-mod, or-shr, or-mod, xor-shr, xor-mod}
+use borrow.Author.Tests.{eqb-true, ne-eqb}
+use Rattle.search.specs.Bytes.{ascii}
+use Rattle.search.proofs.Laws.{no}
+use Rattle.modes.specs.Modes.{has, oneOf}
+
+-- the bit that has k digits below it, and a number's digit there
+abbrev pub single : ℕ → ℕ
+single k = 2 ^ (1 + k) - 2 ^ k
+
+abbrev digit : ℕ → ℕ → ℕ
+digit k n = n / 2 ^ k % 2
+
+digit-lt : (k n : ℕ) → digit k n < 2
+digit-lt k n = mod-lt (n / 2 ^ k) (omega arith)
+
+digit-has : (x q : ℕ) → x < 2 → 0 < q → not (eqb (x * q) 0) ≡ eqb x 1
+digit-has zero q h p = rw (zero-mul q)
+digit-has (suc zero) q h p = rw (one-mul q, ne-eqb q 0 (λ e. omega arith))
+digit-has (suc (suc x)) q h p = absurd (omega arith)
+
+has-digit : (k n : ℕ) → has n (single k) ≡ eqb (digit k n) 1
+has-digit k n = rw (and-high n 1 k) (digit-has (digit k n) (2 ^ k) (digit-lt k n) (pow-pos k))
+
+-- what is true of the digits 0 and 1 is true of any two digits
+digits : (P : ℕ → ℕ → Type 0) → P 0 0 → P 0 1 → P 1 0 → P 1 1 → (x y : ℕ) → x < 2 → y < 2 → P x y
+digits P a b c d zero zero h i = a
+digits P a b c d zero (suc zero) h i = b
+digits P a b c d zero (suc (suc y)) h i = absurd (omega arith)
+digits P a b c d (suc zero) zero h i = c
+digits P a b c d (suc zero) (suc zero) h i = d
+digits P a b c d (suc zero) (suc (suc y)) h i = absurd (omega arith)
+digits P a b c d (suc (suc x)) y h i = absurd (omega arith)
+
+module _ (k a b : ℕ) where
+  pub has-or : has (bitOr a b) (single k) ≡ (has a (single k) || has b (single k))
+  has-or =
+      rw (has-digit k (bitOr a b), has-digit k a, has-digit k b, or-shr a b k, or-mod (a / 2 ^ k) (b / 2 ^ k) 1)
+      (digits (λ (x y : ℕ). eqb (bitOr x y) 1 ≡ (eqb x 1 || eqb y 1)) refl refl refl refl (digit k a) (digit k b) (digit-lt k a) (digit-lt k b))
+
+  pub has-and : has (bitAnd a b) (single k) ≡ (has a (single k) && has b (single k))
+  has-and =
+      rw (has-digit k (bitAnd a b), has-digit k a, has-digit k b, and-shr a b k, and-mod (a / 2 ^ k) (b / 2 ^ k) 1)
+      (digits (λ (x y : ℕ). eqb (bitAnd x y) 1 ≡ (eqb x 1 && eqb y 1)) refl refl refl refl (digit k a) (digit k b) (digit-lt k a) (digit-lt k b))
+
+  pub has-without : has a (single k) ≡ true → has (bitXor a b) (single k) ≡ not (has b (single k))
+  has-without e =
+      rw (has-digit k (bitXor a b), has-digit k b, xor-shr a b k, xor-mod (a / 2 ^ k) (b / 2 ^ k) 1)
+      (digits (λ (x y : ℕ). eqb x 1 ≡ true → eqb (bitXor x y) 1 ≡ not (eqb y 1)) (λ z. absurd (no z)) (λ z. absurd (no z)) (λ z. refl) (λ z. refl)
+      (digit k a) (digit k b) (digit-lt k a) (digit-lt k b) (sym (has-digit k a) ∙ e))
+
+-- what is true of each of the six letters
+module _ (P : ℕ → Type 0) (l : ℕ) where
+  letter-or : (x : ℕ) (t : Bool) → P x → (t ≡ true → P l) → (eqb l x || t) ≡ true → P l
+  letter-or x t p rest = by-test (eqb l x) (eqb-true l x)
+    where
+      by-test : (s : Bool) → (s ≡ true → l ≡ x) → (s || t) ≡ true → P l
+      by-test true is e = subst P (sym (is refl)) p
+      by-test false is e = rest e
+
+  pub six : P 114 → P 119 → P 120 → P 97 → P 116 → P 98 → oneOf (ascii "rwxatb") l ≡ true → P l
+  six r w x a t b =
+      letter-or 114 _ r (letter-or 119 _ w (letter-or 120 _ x (letter-or 97 _ a (letter-or 116 _ t (letter-or 98 _ b (λ e. absurd (no e)))))))
