@@ -1,14 +1,28 @@
 -- 01's numbers are those of the definitions: by computing. Assumes nothing.
-use mathlib.Core.Path.{refl}
+use mathlib.Core.Path.{_≡_, refl}
+use mathlib.Core.Bool.{true}
+use Rattle.numbers.specs.Categories.{withCategory}
+use Rattle.reports.specs.Report.{freshLoader}
+use Rattle.load.specs.Loader.{Load, ready, endAfter}
 use Rattle.claims.specs.Numbers.{NumbersOf01}
 
+after-the-end : (s : Load) → ready s ≡ true → endAfter s .loader ≡ freshLoader
+unfolding endAfter
+after-the-end s e = rw e
+
 pub numbers-of-01 : NumbersOf01
+unfolding withCategory
 numbers-of-01 =
     record {
       refusals = refl;
       sizes = refl;
       fresh-table = refl;
       from-none = refl;
+      fresh-loader = refl;
+      after-the-end = after-the-end;
+      levels = λ n. refl;
+      categories = λ n. refl;
+      first-and-last = refl;
       granted = λ n b. refl;
       denied-1 = refl;
       denied-7 = refl;

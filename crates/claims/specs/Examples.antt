@@ -16,8 +16,8 @@ use Rattle.program.specs.Program.{output}
 pub record ExamplesOf01 : Type 0 where
   -- the program's own example
   pub program : output (ascii "Probe3 Air w\n?\nProbe3 Air w\nAir Probe3 w o\n") ≡ ascii "1 1 0 0 0 0\ngranted 6\noverride 7\n"
-  -- of five lines one accepted, two blank, two refused: the first of these is the fourth, for its access field; without a last newline
-  pub report : output (ascii "A B r\n\n \nA B q\nA") ≡ ascii "5 1 2 2 4 4\n"
+  -- of six lines one accepted, three blank, two refused: the first of these is the fifth, for its access field; without a last newline
+  pub report : output (ascii "A B r\n\n \n\nA B q\nA") ≡ ascii "6 1 3 2 5 4\n"
   -- question lines: other fields, another fourth field, and the last without a newline
   pub questions : output (ascii "A B rb\n?\nA B\nA B r x\n\nA B r") ≡ ascii "1 1 0 0 0 0\nrefused 2\nrefused 2\nrefused 2\ngranted 6 b\n"
   pub answers :

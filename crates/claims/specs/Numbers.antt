@@ -2,14 +2,16 @@
 -- a name that has another number is refused. Assumes nothing.
 use Prim.Native.Nat.{ℕ}
 use mathlib.Core.Path.{_≡_}
-use mathlib.Core.Bool.{Bool, true, false}
+use mathlib.Core.Bool.{Bool, true, false, _&&_}
+use lib.Dec.{leb}
 use mathlib.Core.List.{List, [], _∷_}
 use Rattle.search.specs.Bytes.{ascii}
 use Rattle.refusals.specs.Refusals as refusal
 use Rattle.alphabet.specs.Alphabet.{labelLongest, lineLimit}
-use Rattle.numbers.specs.Categories.{levelLimit, categoryLimit}
+use Rattle.numbers.specs.Categories.{levelLimit, isLevel, categoryLimit, isCategory, noCategories, withCategory}
 use Rattle.store.specs.Table.{Table, fresh, labelLimit, ruleLimit, mappingLimit, onlycapLimit}
 use Rattle.reports.specs.Report.{countLimit, freshLoader}
+use Rattle.load.specs.Loader.{Load, ready, endAfter}
 use Rattle.rule_text.specs.RuleText.{longestRule}
 use Rattle.access.specs.declared.Denial.the-variants.{StarSubject, AnyOther}
 use Rattle.access.specs.declared.Answer.the-variants as answer
@@ -38,6 +40,13 @@ pub record NumbersOf01 : Type 0 where
       fresh
       ≡ record { labels = ascii "_" ∷ ascii "^" ∷ ascii "*" ∷ ascii "?" ∷ ascii "@" ∷ []; rules = []; mappings = []; onlycap = [] }
   pub from-none : modesSoFar no-rule ≡ 0
+  -- a fresh loader has kept nothing and counted nothing, and an end call that is not refused leaves one
+  pub fresh-loader : freshLoader ≡ record { kept = 0; lines = 0; accepted = 0; skipped = 0; refused = 0; first = 0; reason = 0 }
+  pub after-the-end : (s : Load) → ready s ≡ true → endAfter s .loader ≡ freshLoader
+  -- levels are 0 to 255 and categories 1 to 63; category 1 is the highest bit of a u64, and 63 the lowest but one
+  pub levels : (n : ℕ) → isLevel n ≡ leb n 255
+  pub categories : (n : ℕ) → isCategory n ≡ (leb 1 n && leb n 63)
+  pub first-and-last : withCategory (withCategory noCategories 1) 63 ≡ 9223372036854775810
   -- a question: 0 granted, 1 denied, 2 granted by override, 3 refused, with the number that applies
   pub granted : (n : ℕ) (b : Bool) → shown (answer.Granted n b) ≡ record { kind = 0; number = n; bringup = b }
   pub denied-1 : shown (answer.Denied StarSubject) ≡ record { kind = 1; number = 1; bringup = false }
