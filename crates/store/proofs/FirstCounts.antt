@@ -20,8 +20,8 @@ module _ {A : Type 0} (p : A → Bool) (is : A → Type 0) (says : (x : A) → (
   the-first : (first p l ≡ At k) ↔ ((k < length l) × is (getD l k d) × ((j : ℕ) → j < k → is (getD l j d) → ⊥))
   the-first = (
     λ e.
-    let f = first-is p d l k e in
-    (f .0, says (getD l k d) .0 (f .1), λ j h x. no (sym (first-before p d l k e j h) ∙ says (getD l j d) .1 x)),
+        let f = first-is p d l k e in
+        (f .0, says (getD l k d) .0 (f .1), λ j h x. no (sym (first-before p d l k e j h) ∙ says (getD l j d) .1 x)),
     λ q. first-at p d l k (q .0) (λ j h. not-so (p (getD l j d)) (λ e. q .2 j h (says (getD l j d) .0 e))) (says (getD l k d) .1 (q .1)),
   )
 
@@ -34,8 +34,8 @@ pair-is : (s o : ℕ) (r : Rule) → (isPair s o r ≡ true) ↔ ((r .subject �
 unfolding isPair
 pair-is s o r = (
   λ e.
-  let b = and-both (eqb (r .subject) s) (eqb (r .object) o) e in
-  (eqb-is (r .subject) s .0 (b .0), eqb-is (r .object) o .0 (b .1)),
+      let b = and-both (eqb (r .subject) s) (eqb (r .object) o) e in
+      (eqb-is (r .subject) s .0 (b .0), eqb-is (r .object) o .0 (b .1)),
   λ q. rw (eq-eqb (r .subject) s (q .0), eq-eqb (r .object) o (q .1)),
 )
 

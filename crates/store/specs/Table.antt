@@ -129,8 +129,8 @@ pub record FirstCounts (t : Table) : Type 0 where
   pub pair :
       (s o k : ℕ) →
       (pairIn t s o ≡ At k) ↔ (
-        (k < length (t .rules)) × (ruleNumbered t k .subject ≡ s) × (ruleNumbered t k .object ≡ o)
-        × ((j : ℕ) → j < k → ruleNumbered t j .subject ≡ s → ruleNumbered t j .object ≡ o → ⊥))
+      (k < length (t .rules)) × (ruleNumbered t k .subject ≡ s) × (ruleNumbered t k .object ≡ o)
+      × ((j : ℕ) → j < k → ruleNumbered t j .subject ≡ s → ruleNumbered t j .object ≡ o → ⊥))
   pub mapping :
       (n k : ℕ) →
       (mappingIn t n ≡ At k) ↔ ((k < length (t .mappings)) × (mappingNumbered t k .label ≡ n) × ((j : ℕ) → j < k → mappingNumbered t j .label ≡ n → ⊥))
