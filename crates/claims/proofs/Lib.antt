@@ -3,3 +3,4 @@ pub mod Refusals
 pub mod Program
 pub mod Numbers
 pub mod Examples
+pub mod EachRule

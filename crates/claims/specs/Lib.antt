@@ -5,3 +5,4 @@ pub mod Unchanged
 pub mod RunSearch
 pub mod Numbers
 pub mod Examples
+pub mod EachRule

@@ -13,6 +13,7 @@ ghost use Rattle.calls.specs.Calls.{Fresh, Runs};
 ghost use Rattle.calls.specs.PlainReaders.{PlainReaders, refusal-of};
 ghost use Rattle.lists.specs.Tables.{TablesFollow};
 ghost use Rattle.claims.specs.Cases.{right, cases, furtherCases};
+ghost use Rattle.claims.specs.EachRule.{EachRule};
 ghost use Rattle.claims.specs.Examples.{ExamplesOf01};
 ghost use Rattle.claims.specs.Exported.{ExportedCalls};
 ghost use Rattle.claims.specs.Numbers.{NumbersOf01};
@@ -84,4 +85,9 @@ pub fn numbers_of_01()
 // 01's examples, byte for byte, and further ones.
 pub fn examples_of_01()
     ensures { λ _. ⌜ ExamplesOf01 ⌝ }
+{}
+
+// Each of the seven rules as 01 says it, with the labels and the letters as text.
+pub fn each_rule_of_01()
+    ensures { λ _. ⌜ EachRule ⌝ }
 {}
