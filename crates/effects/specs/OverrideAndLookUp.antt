@@ -29,11 +29,11 @@ overridden (Refused n) = Refused n
 
 -- 01: override counts only if the asker has it and the list is empty or holds the subject, and only after a denial
 pub record OverrideCounts (t : Table) : Type 0 where
-  -- who has it gets the answer that he would get without it, or that one overridden
+  -- an asker who has it gets the answer that there is without it or, where override counts, that one overridden
   pub after-denial :
       (s o request : List ℕ) →
       answer t s o request true ≡ cond (effective t (labelIn t s) true) (overridden (answer t s o request false)) (answer t s o request false)
-  -- who has it not gets no override
+  -- an asker who has it not gets no override
   pub never-without : (s o request : List ℕ) (by : Denial) → answer t s o request false ≡ Override by → ⊥
   -- it counts exactly for an asker who has it, where the list is empty or holds the subject; a label that is not in the table is on no list
   pub holder : (i : ℕ) (capable : Bool) → (effective t (At i) capable ≡ true) ↔ ((capable ≡ true) × ((t .onlycap ≡ []) ⊎ List·Memᴰ i (t .onlycap)))
