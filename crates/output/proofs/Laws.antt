@@ -10,7 +10,7 @@ use lib.ListN.{length, take, drop, set, length-append}
 use lib.Seq.{take-append-seam}
 use Rattle.search.specs.Bytes.{written}
 use Rattle.search.proofs.Laws.{length-written, written-more, written-one}
-use Rattle.output.specs.Output.{putAnswer, putOut, Text, text, refused, textAnswer, textOut}
+use Rattle.output.specs.Output.{putAnswer, putOut, Text, text, refused, textAnswer, textOut, Written, LengthAnswered}
 use Rattle.output.specs.declared.Output.the-variants as output
 
 -- ---- a text that fits, and one that does not
@@ -43,6 +43,22 @@ refused-keeps (text t) out n q = by-test (leb (length t) (length out)) q
     by-test true q = let z : _≡_ {A = ℕ} 0 1 = cc in absurd (omega arith)
     by-test false q = refl
 refused-keeps (refused k) out n q = refl
+
+-- THE LENGTH WRITTEN IS ANSWERED
+written-is : (x : Text) (out : List ℕ) (n : ℕ) → textAnswer x out ≡ output.Length n → Written x out (textOut x out) n
+unfolding putAnswer putOut written
+written-is (text t) out n q = by-test (leb (length t) (length out)) q
+  where
+    by-test : (b : Bool) → cond b (output.Length (length t)) (output.Refused 12) ≡ output.Length n → Written (text t) out (cond b (written out 0 t) out) n
+    by-test true q =
+        let e : length t ≡ n = cc in
+        let k : 0 + length t ≡ n = omega arith in
+        record { bytes = t; is = refl; long = e; front = ap (λ (j : ℕ). t ++ drop j out) k }
+    by-test false q = let z : _≡_ {A = ℕ} 0 1 = cc in absurd (omega arith)
+written-is (refused k) out n q = let z : _≡_ {A = ℕ} 0 1 = cc in absurd (omega arith)
+
+pub length-answered : LengthAnswered
+length-answered = record { written = written-is; enough = fits-answer; too-short = short-answer; unchanged = refused-keeps }
 
 -- ---- one text behind another
 

@@ -1,9 +1,10 @@
 -- 01: what a call writes to a lent output: a text at its front, or nothing where the text does not fit (refusal 12) or another refusal comes first.
 -- Assumes nothing.
-use Prim.Native.Nat.{ℕ}
+use Prim.Native.Nat.{ℕ, _<_, _≤_}
+use mathlib.Core.Path.{_≡_}
 use mathlib.Core.Bool.{cond}
-use mathlib.Core.List.{List}
-use lib.ListN.{length}
+use mathlib.Core.List.{List, _++_}
+use lib.ListN.{length, drop}
 use lib.Dec.{leb}
 use Rattle.search.specs.Bytes.{written}
 use Rattle.refusals.specs.Refusals.{outputTooShort}
@@ -31,3 +32,19 @@ textAnswer (refused n) out = output.Refused n
 abbrev pub textOut : Text → List ℕ → List ℕ
 textOut (text t) out = putOut t out
 textOut (refused n) out = out
+
+-- ---- 02, One: here and later, the length written to a lent output is answered
+
+-- what a call that answers the length n has written: n bytes at the output's front; the rest of the output is unchanged
+pub record Written (x : Text) (out after : List ℕ) (n : ℕ) : Type 0 where
+  pub bytes : List ℕ
+  pub is : x ≡ text bytes
+  pub long : length bytes ≡ n
+  pub front : after ≡ bytes ++ drop n out
+
+-- so it is of every text and every output; an output of the text's length is enough; and a refusal changes no byte
+pub record LengthAnswered : Type 0 where
+  pub written : (x : Text) (out : List ℕ) (n : ℕ) → textAnswer x out ≡ output.Length n → Written x out (textOut x out) n
+  pub enough : (t out : List ℕ) → length t ≤ length out → textAnswer (text t) out ≡ output.Length (length t)
+  pub too-short : (t out : List ℕ) → length out < length t → textAnswer (text t) out ≡ output.Refused outputTooShort
+  pub unchanged : (x : Text) (out : List ℕ) (n : ℕ) → textAnswer x out ≡ output.Refused n → textOut x out ≡ out
