@@ -1,4 +1,4 @@
--- 01, The refusal numbers: each under one name, which every definition cites. Assumes nothing.
+-- 01, The refusal numbers, and those of 02: each under one name, which every definition cites. Assumes nothing.
 use Prim.Native.Nat.{ℕ}
 
 -- the lent state has a part not of its full size, a count or length over its limit, a number that names no stored label, or an unknown mode
@@ -57,3 +57,11 @@ outputTooShort = 12
 -- no rule or label of that number
 abbrev pub noSuchNumber : ℕ
 noSuchNumber = 13
+
+-- 02, One: a record has a length other than 53, or a label place that is all spaces, has another byte after a space or doesn't end in a space
+abbrev pub badRecord : ℕ
+badRecord = 14
+
+-- 02, One: a line has a label over 23 bytes or a b, and no record can hold it
+abbrev pub notInARecord : ℕ
+notInARecord = 15

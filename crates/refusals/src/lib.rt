@@ -1,4 +1,4 @@
-// The refusal numbers (01, The refusal numbers), each under one name. specs/Refusals.antt has the same names for the definitions.
+// The refusal numbers (01, The refusal numbers; 02), each under one name. specs/Refusals.antt has the same names for the definitions.
 
 // The lent state is damaged: it comes before every other.
 pub const DAMAGED: u8 = 0;
@@ -41,3 +41,9 @@ pub const OUTPUT_TOO_SHORT: u8 = 12;
 
 // No rule or label of that number.
 pub const NO_SUCH_NUMBER: u8 = 13;
+
+// No record of the fixed load form (02, One).
+pub const BAD_RECORD: u8 = 14;
+
+// What a line says has no place in such a record.
+pub const NOT_IN_A_RECORD: u8 = 15;

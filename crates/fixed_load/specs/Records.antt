@@ -1,0 +1,182 @@
+-- 02, One: old fixed records. A rule as a record of 53 bytes, the source's fixed load form, turned into a rule line and back. Assumes nothing.
+use Prim.Native.Nat.{ℕ, zero, suc, _+_, _-_, _≤_}
+use mathlib.Core.Path.{_≡_}
+use mathlib.Core.Bool.{Bool, true, false, cond, not, _&&_}
+use mathlib.Core.List.{List, [], _∷_, _++_, map}
+use lib.ListN.{length, take, drop, getD}
+use lib.Dec.{eqb, leb}
+use Rattle.refusals.specs.Refusals.{wrongFields, badLabel, badRecord, notInARecord}
+use Rattle.search.specs.Bytes.{ascii, sameBytes}
+use Rattle.alphabet.specs.Alphabet.{space, newline, dash, isNewline, wellFormed}
+use Rattle.text_lines.specs.TextLines.{lines}
+use Rattle.modes.specs.Modes.{letters, allowedByte, modesOf, has, modesText, bringUpLetter}
+use Rattle.modes.specs.declared.Letter.{Letter}
+use Rattle.modes.specs.declared.Access.{Access}
+use Rattle.modes.specs.declared.Access.the-variants.{Modes, Bad}
+use Rattle.lines.specs.Lines as said
+use Rattle.lines.specs.Lines.{Said, ruleWith, ruleOf}
+use Rattle.output.specs.declared.Output.the-variants as output
+use Rattle.output.specs.Output.{Text, text, refused, textAnswer, textOut}
+use Rattle.rule_text.specs.RuleText.{textOf}
+
+-- ---- the record: two 24-byte labels and five access bytes
+
+-- the most bytes of a label in a record, the bytes of a label's place, and those of the record
+abbrev pub recordLabel : ℕ
+recordLabel = 23
+
+abbrev pub labelPlace : ℕ
+labelPlace = 24
+
+abbrev pub recordSize : ℕ
+recordSize = 53
+
+-- where the access bytes begin; the places of subject and object, and the access bytes
+abbrev pub accessFrom : ℕ
+accessFrom = labelPlace + labelPlace
+
+abbrev pub subjectPlace : List ℕ → List ℕ
+subjectPlace r = take labelPlace r
+
+abbrev pub objectPlace : List ℕ → List ℕ
+objectPlace r = take labelPlace (drop labelPlace r)
+
+abbrev pub accessBytes : List ℕ → List ℕ
+accessBytes r = drop accessFrom r
+
+-- a label at the left of its place, filled with spaces
+abbrev pub spaces : ℕ → List ℕ
+spaces zero = []
+spaces (suc n) = space ∷ spaces n
+
+unfoldable pub filled : List ℕ → List ℕ
+filled l = l ++ spaces (labelPlace - length l)
+
+-- the label of a place: its bytes before the first space
+unfoldable pub placeLabel : List ℕ → List ℕ
+placeLabel [] = []
+placeLabel (b ∷ bs) = cond (eqb b space) [] (b ∷ placeLabel bs)
+
+-- the place holds a label of 1 to 23 bytes, filled with spaces
+unfoldable pub isPlace : List ℕ → Bool
+unfolding filled placeLabel
+isPlace p = leb 1 (length (placeLabel p)) && (leb (length (placeLabel p)) recordLabel && sameBytes p (filled (placeLabel p)))
+
+-- r, w, x, a, t: the letters that have a place, in its order
+abbrev pub fiveLetters : List Letter
+fiveLetters = take 5 letters
+
+-- the access bytes are these letters in their own places, either case, or a dash: each byte is allowed where only the letter of its place is
+unfoldable pub inOwnPlaces : List Letter → List ℕ → Bool
+inOwnPlaces ls [] = true
+inOwnPlaces [] (b ∷ bs) = false
+inOwnPlaces (l ∷ ls) (b ∷ bs) = allowedByte (l .bit) true b && inOwnPlaces ls bs
+
+abbrev pub recordAccess : List ℕ → Access
+recordAccess access = cond (inOwnPlaces fiveLetters access) (Modes (modesOf access)) Bad
+
+-- ---- what a record says: it is none, then as in a line a label is not well formed, an access byte is not allowed, subject equals object; or a rule
+
+unfoldable pub isRecord : List ℕ → Bool
+unfolding isPlace
+isRecord r = eqb (length r) recordSize && (isPlace (subjectPlace r) && isPlace (objectPlace r))
+
+abbrev pub saidBy : List ℕ → List ℕ → List ℕ → Said
+saidBy s o access = cond (wellFormed s && wellFormed o) (ruleWith s o (recordAccess access)) (said.refused badLabel)
+
+unfoldable pub recordSays : List ℕ → Said
+unfolding isRecord placeLabel
+recordSays r = cond (isRecord r) (saidBy (placeLabel (subjectPlace r)) (placeLabel (objectPlace r)) (accessBytes r)) (said.refused badRecord)
+
+-- ---- a record to a line, in the listing's form
+
+-- a text made of a rule that is said, or the refusal; a line that says no rule (it has no field) has the wrong number of fields
+abbrev pub ofRule : (List ℕ → List ℕ → ℕ → Text) → Said → Text
+ofRule made said.skipped = refused wrongFields
+ofRule made (said.refused n) = refused n
+ofRule made (said.rule s o m) = made s o m
+ofRule made (said.change s o a d) = refused wrongFields
+
+abbrev pub listed : Said → Text
+listed x = ofRule (λ s o m. text (textOf s o (modesText m))) x
+
+unfoldable pub lineFrom : List ℕ → Text
+unfolding recordSays
+lineFrom r = listed (recordSays r)
+
+-- ---- a line to a record
+
+-- the line is read with or without one closing newline
+unfoldable pub withoutNewline : List ℕ → List ℕ
+withoutNewline line = cond (isNewline (getD line (length line - 1) 0)) (take (length line - 1) line) line
+
+-- modes as access bytes: the letter of each place, or a dash
+abbrev pub inPlaces : List Letter → ℕ → List ℕ
+inPlaces [] m = []
+inPlaces (l ∷ ls) m = cond (has m (l .bit)) (l .letter) dash ∷ inPlaces ls m
+
+-- a rule as a record
+unfoldable pub recordOf : List ℕ → List ℕ → ℕ → List ℕ
+unfolding filled
+recordOf s o m = filled s ++ (filled o ++ inPlaces fiveLetters m)
+
+-- a label over 23 bytes, and the letter b, have no place in a record
+unfoldable pub fitsARecord : List ℕ → List ℕ → ℕ → Bool
+fitsARecord s o m = leb (length s) recordLabel && (leb (length o) recordLabel && not (has m bringUpLetter))
+
+abbrev pub ifItFits : List ℕ → List ℕ → ℕ → Text
+ifItFits s o m = cond (fitsARecord s o m) (text (recordOf s o m)) (refused notInARecord)
+
+unfoldable pub recordFrom : List ℕ → Text
+unfolding withoutNewline recordOf fitsARecord
+recordFrom line = ofRule ifItFits (ruleOf (withoutNewline line))
+
+-- ---- there and back
+
+-- a record with its access letters in lower case
+abbrev pub lowerCase : ℕ → ℕ
+lowerCase b = cond (leb 65 b && leb b 90) (b + 32) b
+
+abbrev pub lowered : List ℕ → List ℕ
+lowered r = take accessFrom r ++ map lowerCase (accessBytes r)
+
+-- a text that is one line of rule text, and what it says when it is loaded
+pub record OneLine (t : List ℕ) (says : Said) : Type 0 where
+  pub line : List ℕ
+  pub one : lines t ≡ line ∷ []
+  pub ended : t ≡ line ++ (newline ∷ [])
+  pub rule : ruleOf line ≡ says
+
+-- what is said is a rule, and a text is the listing's form of it
+pub record ListingForm (says : Said) (x : Text) : Type 0 where
+  pub subject : List ℕ
+  pub object : List ℕ
+  pub modes : ℕ
+  pub rule : says ≡ said.rule subject object modes
+  pub form : x ≡ text (textOf subject object (modesText modes))
+
+-- the record r turned into a line in one lent output, and the bytes that were written there, as many as were answered, turned back in another, which has
+-- room for a record
+abbrev pub BackByCalls : List ℕ → List ℕ → List ℕ → ℕ → Type 0
+BackByCalls r out back n =
+    (textAnswer (recordFrom (take n (textOut (lineFrom r) out))) back ≡ output.Length recordSize)
+    × (textOut (recordFrom (take n (textOut (lineFrom r) out))) back ≡ lowered r ++ drop recordSize back)
+
+pub record OldRecords : Type 0 where
+  -- an accepted record turned there and back is the same but for its access letters, now in lower case: as texts, and as a host calls it
+  pub record-and-back : (r t : List ℕ) → lineFrom r ≡ text t → recordFrom t ≡ text (lowered r)
+  pub by-calls : (r out back : List ℕ) (n : ℕ) → textAnswer (lineFrom r) out ≡ output.Length n → recordSize ≤ length back → BackByCalls r out back n
+  -- an accepted line turned there and back is the listing's form of that line
+  pub line-and-back : (l t : List ℕ) → recordFrom l ≡ text t → ListingForm (ruleOf (withoutNewline l)) (lineFrom t)
+  -- the text of an accepted record is one line, which says when it is loaded what the record says
+  pub loaded : (r t : List ℕ) → lineFrom r ≡ text t → OneLine t (recordSays r)
+  -- a record has 53 bytes, and its line at most 54
+  pub record-bytes : (l t : List ℕ) → recordFrom l ≡ text t → length t ≡ 53
+  pub line-bytes : (r t : List ℕ) → lineFrom r ≡ text t → length t ≤ 54
+  -- a line is read with or without one closing newline: one is taken off, and no other byte
+  pub one-newline : (l : List ℕ) → withoutNewline (l ++ (newline ∷ [])) ≡ l
+  pub no-newline : (l : List ℕ) (b : ℕ) → isNewline b ≡ false → withoutNewline (l ++ (b ∷ [])) ≡ l ++ (b ∷ [])
+  pub no-byte : withoutNewline [] ≡ []
+  -- one each way, byte by byte
+  pub example : lineFrom (ascii "Probe-North             Store                   Rw-aT") ≡ text (ascii "Probe-North Store rwat" ++ (newline ∷ []))
+  pub example-back : recordFrom (ascii " Store  ^ xR-") ≡ text (ascii "Store                   ^                       r-x--")
