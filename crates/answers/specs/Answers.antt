@@ -16,7 +16,7 @@ use Rattle.lookups.specs.declared.Lookup.the-variants as lookup
 use Rattle.lookups.specs.declared.Label.{Label}
 use Rattle.lookups.specs.declared.Label.the-variants as label
 use Rattle.output.specs.declared.Output.{Output}
-use Rattle.output.specs.declared.Output.the-variants as listed
+use Rattle.output.specs.declared.Output.the-variants as output
 use Rattle.reports.specs.declared.Loader.{Loader}
 use Rattle.load.specs.declared.Fed.{Fed}
 use Rattle.load.specs.declared.Fed.the-variants as fed
@@ -60,10 +60,10 @@ endShown old (ended.Report r l) = record { refused = false; number = 0; report =
 endShown old (ended.Refused n) =
     record { refused = true; number = n; report = record { lines = 0; accepted = 0; skipped = 0; refused = 0; first = 0; reason = 0 }; loader = old }
 
--- the listing of a rule: its length
-abbrev pub listShown : Output → Length
-listShown (listed.Length k) = record { refused = false; number = 0; length = k }
-listShown (listed.Refused n) = record { refused = true; number = n; length = 0 }
+-- a text written to a lent output, as the listing of a rule is: its length
+abbrev pub outputShown : Output → Length
+outputShown (output.Length k) = record { refused = false; number = 0; length = k }
+outputShown (output.Refused n) = record { refused = true; number = n; length = 0 }
 
 -- a look-up by label: kind 0 a mapping, with level, set and how many categories are in the set; 1 none; 2 refused
 abbrev pub lookupShown : Lookup → Mapped

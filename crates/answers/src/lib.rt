@@ -13,7 +13,7 @@ use revoke::Revoked;
 use store::Done;
 ghost use mathlib.Core.Path.{_≡_};
 ghost use Rattle.access.specs.SevenRules.{denialNumber};
-ghost use Rattle.answers.specs.Answers.{shown, writeShown, revokeShown, pieceShown, endShown, listShown, lookupShown, searchShown};
+ghost use Rattle.answers.specs.Answers.{shown, writeShown, revokeShown, pieceShown, endShown, outputShown, lookupShown, searchShown};
 
 // What a question answers. Kind 0 is granted, 1 denied, 2 granted by override, 3 refused; the number is the rule's, or the refusal's.
 #[repr(C)]
@@ -207,9 +207,9 @@ pub fn end_shown(before: Loader, answer: Ended) -> Finished
     }
 }
 
-// So for the listing of a rule.
-pub fn list_shown(answer: Output) -> Length
-    ensures { λ r. ⌜ r ≡ listShown answer ⌝ }
+// So for a text written to a lent output.
+pub fn output_shown(answer: Output) -> Length
+    ensures { λ r. ⌜ r ≡ outputShown answer ⌝ }
 {
     match answer {
         Output::Length(length) => Length {

@@ -77,7 +77,7 @@ use Rattle.reports.specs.Report.{freshLoader, reportOf}
 use Rattle.load.specs.declared.Fed.the-variants as f
 use Rattle.load.specs.declared.Ended.the-variants as e
 use Rattle.load.specs.Loader.{Load, load, ready, stepPiece, stepEnd, pieceAnswer, pieceAfter, endAnswer, endAfter}
-use Rattle.answers.specs.Answers.{writeShown, revokeShown, pieceShown, endShown, listShown, lookupShown, searchShown, partShown}
+use Rattle.answers.specs.Answers.{writeShown, revokeShown, pieceShown, endShown, outputShown, lookupShown, searchShown, partShown}
 use Rattle.listing.proofs.Laws.{label-done, label-is, label-refused}
 use Rattle.host.proofs.Laws.{label-stands}
 use Rattle.lists.specs.Called.{Called}
@@ -317,7 +317,7 @@ list-rule-call st k out =
       lifetimes = ([], ([], ([], ([], tt))));
       args = (ref (st .labels), (ref (st .entries), (ref (st .words), (k, (ref out, tt)))));
       asked = tt;
-      result = listShown (listAnswer st k out);
+      result = outputShown (listAnswer st k out);
       last = (tt, (tt, (tt, (tt, (listOut st k out, tt)))));
       ensures = (refl, refl);
     }

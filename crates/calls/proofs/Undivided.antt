@@ -22,7 +22,7 @@ use Rattle.load.specs.declared.Fed.the-variants as f
 use Rattle.load.specs.declared.Ended.{Ended}
 use Rattle.load.specs.declared.Ended.the-variants as e
 use Rattle.load.specs.Loader.{Load, load, ready, pieceAnswer, pieceAfter, endAnswer, endAfter}
-use Rattle.answers.specs.Answers.{writeShown, revokeShown, pieceShown, endShown, listShown, lookupShown, searchShown}
+use Rattle.answers.specs.Answers.{writeShown, revokeShown, pieceShown, endShown, outputShown, lookupShown, searchShown}
 use Rattle.answers.specs.declared.Length.{Length}
 use Rattle.lists.specs.Called.{first, third, fourth, fifth, sixth, seventh, lent, loading, loaded}
 use Rattle.lists.specs.Reader as r
@@ -177,7 +177,7 @@ answers-refused u (a-look-up k) = ap r.mapped (k .ensures ∙ ap lookupShown (by
 answers-refused u (a-search k) = ap r.lowest (k .ensures ∙ ap searchShown (by-level-refused _ u _ _))
 answers-refused u (a-listing k) =
     let c = list-refused _ u (fourth (k .args)) (now (fifth (k .args))) in
-    both-listed (k .ensures .0 ∙ ap listShown (c .0)) (k .ensures .1 ∙ c .1)
+    both-listed (k .ensures .0 ∙ ap outputShown (c .0)) (k .ensures .1 ∙ c .1)
 answers-refused u (a-label k) = label-refused _ u _ _ _ _ (k .ensures .0)
 answers-refused u (a-check k) = ap written-reply (k .ensures ∙ ap writeShown (check-refused _ u _))
 

@@ -10,7 +10,7 @@ use Rattle.store.specs.Layout.{tableOf}
 use Rattle.lines.specs.Lines.{ruleOf}
 use Rattle.writes.specs.Writes.{judged, changed}
 use Rattle.store.specs.Judged.{is-skipped, is-refused, is-accepted}
-use Rattle.answers.specs.Answers.{shown, lookupShown, searchShown, listShown}
+use Rattle.answers.specs.Answers.{shown, lookupShown, searchShown, outputShown}
 use Rattle.access.specs.declared.Answer.the-variants as answer
 use Rattle.lookups.specs.declared.Lookup.the-variants as lookup
 use Rattle.lookups.specs.declared.Label.the-variants as label
@@ -98,6 +98,6 @@ refusal-of (r.write w) = r.refusal damaged
 refusal-of (r.ask (r.question s o request capable)) = r.answered (shown (answer.Refused damaged))
 refusal-of (r.ask (r.by-label l)) = r.mapped (lookupShown (lookup.Refused damaged))
 refusal-of (r.ask (r.by-level level set)) = r.lowest (searchShown (label.Refused damaged))
-refusal-of (r.ask (r.list-rule k out)) = r.listed (listShown (listed.Refused damaged)) out
+refusal-of (r.ask (r.list-rule k out)) = r.listed (outputShown (listed.Refused damaged)) out
 refusal-of (r.ask (r.label k)) = r.refusal damaged
 refusal-of (r.ask (r.label-check k)) = r.refusal damaged

@@ -1,10 +1,10 @@
--- 01's numbers are those of the definitions: by computing. Assumes nothing.
+-- 01's numbers and 02's are those of the definitions: by computing. Assumes nothing.
 use mathlib.Core.Path.{_≡_, refl}
 use mathlib.Core.Bool.{true}
 use Rattle.numbers.specs.Categories.{withCategory}
 use Rattle.reports.specs.Report.{freshLoader}
 use Rattle.load.specs.Loader.{Load, ready, endAfter}
-use Rattle.claims.specs.Numbers.{NumbersOf01}
+use Rattle.claims.specs.Numbers.{NumbersOf01, NumbersOf02}
 
 after-the-end : (s : Load) → ready s ≡ true → endAfter s .loader ≡ freshLoader
 unfolding endAfter
@@ -38,3 +38,6 @@ numbers-of-01 =
       listed = λ k. refl;
       not-listed = λ n. refl;
     }
+
+pub numbers-of-02 : NumbersOf02
+numbers-of-02 = record { old-records = refl }

@@ -42,6 +42,10 @@ use Rattle.host.proofs.bq_label_check as label-check
 use Rattle.host.proofs.bq_label_check.Reads as label-check-reads
 use Rattle.host.proofs.bq_label as label
 use Rattle.host.proofs.bq_label.Reads as label-reads
+use Rattle.host.proofs.bq_record_to_line as record-to-line
+use Rattle.host.proofs.bq_record_to_line.Reads as record-to-line-reads
+use Rattle.host.proofs.bq_line_to_record as line-to-record
+use Rattle.host.proofs.bq_line_to_record.Reads as line-to-record-reads
 use Rattle.listing.proofs.label_by_number as label-part
 use Rattle.listing.proofs.label_by_number.Reads as label-part-reads
 use Rattle.store.specs.Layout.{store}
@@ -56,10 +60,12 @@ use Rattle.access.specs.Access.{questionOf}
 use Rattle.answers.specs.Answers.{shown}
 use Rattle.places.specs.Places.{PartFrom}
 use Rattle.listing.specs.Listing.{listAnswer, listOut, labelGiven, labelAnswer, labelFrom}
+use Rattle.output.specs.Output.{textAnswer, textOut}
+use Rattle.fixed_load.specs.Records.{lineFrom, recordFrom}
 use Rattle.reports.specs.Report.{freshLoader}
 use Rattle.load.specs.Loader.{pieceAnswer, pieceAfter, endAnswer, endAfter}
 use Rattle.lists.specs.Called.{first, second, third, fourth, fifth, sixth, seventh, lent, left, loading, loaded}
-use Rattle.answers.specs.Answers.{writeShown, revokeShown, pieceShown, endShown, listShown, lookupShown, searchShown, partShown}
+use Rattle.answers.specs.Answers.{writeShown, revokeShown, pieceShown, endShown, outputShown, lookupShown, searchShown, partShown}
 
 -- The promise of a function. Its caller has nothing to show, whatever the arguments a. And of every call, with the answer r and with what the
 -- parameters lent by `&mut` hold at its end, l, what the function ensures says this
@@ -99,7 +105,7 @@ module _ (κs : Lfts 1) (a : Args lowest-in-run.signature κs) where
     abbrev pub Learnt-in-run : Type 0
     Learnt-in-run = AllOf (learnt-in-run .tells)
 
--- ---- the sixteen exported functions, in 01's order of the calls, and the one call that can't be exported in its own form
+-- ---- the eighteen exported functions, in 01's order of the calls and then 02's, and the one call that can't be exported in its own form
 
 pub record ExportedCalls : Type 0 where
   -- a fresh table: the entries are lent by `&`
@@ -147,7 +153,7 @@ pub record ExportedCalls : Type 0 where
       × (l ≡ (tt, (tt, (tt, (tt, (tt, (tt, (tt, tt)))))))))
   -- a rule by its number, at the front of the lent buffer
   pub listing : Promise list-rule.ended list-rule-reads.Asked list-rule-reads.Learnt
-      (λ κs a r l. (r ≡ listShown (listAnswer (lent a) (fourth a) (now (fifth a)))) × (fifth l ≡ listOut (lent a) (fourth a) (now (fifth a)))
+      (λ κs a r l. (r ≡ outputShown (listAnswer (lent a) (fourth a) (now (fifth a)))) × (fifth l ≡ listOut (lent a) (fourth a) (now (fifth a)))
       × (first l ≡ tt) × (second l ≡ tt) × (third l ≡ tt))
   -- whether a number is a label's
   pub label-check : Promise label-check.ended label-check-reads.Asked label-check-reads.Learnt
@@ -160,3 +166,10 @@ pub record ExportedCalls : Type 0 where
   pub label-part : Promise label-part.ended label-part-reads.Asked label-part-reads.Learnt
       (λ κs a r l. (now r ≡ labelGiven (lent a) (fourth a)) × PartFrom r (first a) (labelFrom (labelAnswer (lent a) (fourth a)) (fourth a))
       × (l ≡ (tt, (tt, (tt, (tt, tt))))))
+  -- an old record as a rule line, and a rule line as an old record, at the front of the lent buffer
+  pub record-to-line : Promise record-to-line.ended record-to-line-reads.Asked record-to-line-reads.Learnt
+      (λ κs a r l. (r ≡ outputShown (textAnswer (lineFrom (now (first a))) (now (second a))))
+      × (second l ≡ textOut (lineFrom (now (first a))) (now (second a))) × (first l ≡ tt))
+  pub line-to-record : Promise line-to-record.ended line-to-record-reads.Asked line-to-record-reads.Learnt
+      (λ κs a r l. (r ≡ outputShown (textAnswer (recordFrom (now (first a))) (now (second a))))
+      × (second l ≡ textOut (recordFrom (now (first a))) (now (second a))) × (first l ≡ tt))

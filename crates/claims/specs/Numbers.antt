@@ -1,4 +1,4 @@
--- 01's numbers, each as it stands there: the refusals, the limits, and what a host gets for each case of an answer. Elsewhere they are spoken of by name; here
+-- 01's numbers and 02's, each as it stands there: the refusals, the limits, and what a host gets for each case of an answer. Elsewhere they are spoken of by name; here
 -- a name that has another number is refused. Assumes nothing.
 use Prim.Native.Nat.{ℕ}
 use mathlib.Core.Path.{_≡_}
@@ -13,13 +13,14 @@ use Rattle.store.specs.Table.{Table, fresh, labelLimit, ruleLimit, mappingLimit
 use Rattle.reports.specs.Report.{countLimit, freshLoader}
 use Rattle.load.specs.Loader.{Load, ready, endAfter}
 use Rattle.rule_text.specs.RuleText.{longestRule}
+use Rattle.fixed_load.specs.Records.{recordLabel, recordSize}
 use Rattle.access.specs.declared.Denial.the-variants.{StarSubject, AnyOther}
 use Rattle.access.specs.declared.Answer.the-variants as answer
 use Rattle.lookups.specs.declared.Lookup.the-variants as lookup
 use Rattle.lookups.specs.declared.Label.the-variants as label
 use Rattle.output.specs.declared.Output.the-variants as output
 use Rattle.answers.specs.declared.Shown.{Shown}
-use Rattle.answers.specs.Answers.{shown, lookupShown, searchShown, listShown}
+use Rattle.answers.specs.Answers.{shown, lookupShown, searchShown, outputShown}
 use Rattle.store.specs.Pairs.{no-rule, modesSoFar}
 
 -- the refusals and the limits, in 01's order
@@ -62,5 +63,9 @@ pub record NumbersOf01 : Type 0 where
   pub none : searchShown label.Nothing ≡ record { kind = 1; number = 0; label = 0 }
   pub search-refused : (n : ℕ) → searchShown (label.Refused n) ≡ record { kind = 2; number = n; label = 0 }
   -- a listed rule: its length, or refused
-  pub listed : (k : ℕ) → listShown (output.Length k) ≡ record { refused = false; number = 0; length = k }
-  pub not-listed : (n : ℕ) → listShown (output.Refused n) ≡ record { refused = true; number = n; length = 0 }
+  pub listed : (k : ℕ) → outputShown (output.Length k) ≡ record { refused = false; number = 0; length = k }
+  pub not-listed : (n : ℕ) → outputShown (output.Refused n) ≡ record { refused = true; number = n; length = 0 }
+
+-- what 02 adds, request by request. One: the refusals 14 and 15; the most bytes of a label in an old record, and the bytes of the record
+pub record NumbersOf02 : Type 0 where
+  pub old-records : (refusal.badRecord ∷ refusal.notInARecord ∷ recordLabel ∷ recordSize ∷ []) ≡ 14 ∷ 15 ∷ 23 ∷ 53 ∷ []

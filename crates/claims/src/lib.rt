@@ -16,7 +16,7 @@ ghost use Rattle.claims.specs.Cases.{right, cases, furtherCases};
 ghost use Rattle.claims.specs.EachRule.{EachRule};
 ghost use Rattle.claims.specs.Examples.{ExamplesOf01};
 ghost use Rattle.claims.specs.Exported.{ExportedCalls};
-ghost use Rattle.claims.specs.Numbers.{NumbersOf01};
+ghost use Rattle.claims.specs.Numbers.{NumbersOf01, NumbersOf02};
 ghost use Rattle.claims.specs.Program.{ProgramOutput};
 ghost use Rattle.claims.specs.Unchanged.{NothingChanges};
 ghost use Rattle.claims.specs.RunSearch.{SearchesTheRun};
@@ -80,6 +80,11 @@ pub fn either_side_of_a_limit()
 // 01's numbers, as they stand there: the refusals, the limits, and what a host gets for each case of an answer.
 pub fn numbers_of_01()
     ensures { λ _. ⌜ NumbersOf01 ⌝ }
+{}
+
+// And what 02 adds to them.
+pub fn numbers_of_02()
+    ensures { λ _. ⌜ NumbersOf02 ⌝ }
 {}
 
 // 01's examples, byte for byte, and further ones.

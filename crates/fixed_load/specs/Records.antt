@@ -178,5 +178,5 @@ pub record OldRecords : Type 0 where
   pub no-newline : (l : List ℕ) (b : ℕ) → isNewline b ≡ false → withoutNewline (l ++ (b ∷ [])) ≡ l ++ (b ∷ [])
   pub no-byte : withoutNewline [] ≡ []
   -- one each way, byte by byte
-  pub example : lineFrom (ascii "Probe-North             Store                   Rw-aT") ≡ text (ascii "Probe-North Store rwat" ++ (newline ∷ []))
+  pub example : lineFrom (ascii "Probe-North             Store                   Rw-aT") ≡ text (ascii "Probe-North Store rwat\n")
   pub example-back : recordFrom (ascii " Store  ^ xR-") ≡ text (ascii "Store                   ^                       r-x--")

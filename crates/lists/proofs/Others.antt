@@ -23,7 +23,7 @@ use Rattle.access.specs.Access.{questionOf}
 use Rattle.answers.specs.Answers.{shown}
 use Rattle.access.specs.declared.Answer.the-variants as a
 use Rattle.load.specs.Loader.{Load, load}
-use Rattle.answers.specs.Answers.{listShown, lookupShown, searchShown, partShown}
+use Rattle.answers.specs.Answers.{outputShown, lookupShown, searchShown, partShown}
 use Rattle.answers.specs.declared.Part.{Part}
 use Rattle.lists.specs.Reader as r
 use Rattle.lists.specs.Reader.{Reader, doneReply, countReply, Write, afterWrite, writeSays, writeOn, askSays}
@@ -85,7 +85,7 @@ module _ (st : Store) (u : undamagedOf st ≡ true) where
   unfolding byLevelOf
   by-level-says level set = rw u
 
-  pub list-says : (k : ℕ) (out : List ℕ) → r.listed (listShown (listAnswer st k out)) (listOut st k out) ≡ askSays (tableOf st) (r.list-rule k out)
+  pub list-says : (k : ℕ) (out : List ℕ) → r.listed (outputShown (listAnswer st k out)) (listOut st k out) ≡ askSays (tableOf st) (r.list-rule k out)
   unfolding listAnswer listOut
   list-says k out = rw u
 

@@ -26,7 +26,7 @@ use Rattle.listing.specs.Listing.{listRule, listRuleOut}
 use Rattle.access.specs.Access.{answer}
 use Rattle.answers.specs.Answers.{shown}
 use Rattle.answers.specs.declared.Shown.{Shown}
-use Rattle.answers.specs.Answers.{lookupShown, searchShown, listShown}
+use Rattle.answers.specs.Answers.{lookupShown, searchShown, outputShown}
 use Rattle.answers.specs.declared.Mapped.{Mapped}
 use Rattle.answers.specs.declared.Lowest.{Lowest}
 use Rattle.answers.specs.declared.Length.{Length}
@@ -170,7 +170,7 @@ abbrev pub askSays : Table → Ask → Reply
 askSays t (question s o r capable) = answered (shown (answer t s o r capable))
 askSays t (by-label l) = mapped (lookupShown (labelLookup t l))
 askSays t (by-level level set) = lowest (searchShown (levelLookup t level set))
-askSays t (list-rule k out) = listed (listShown (listRule t k out)) (listRuleOut t k out)
+askSays t (list-rule k out) = listed (outputShown (listRule t k out)) (listRuleOut t k out)
 askSays t (label k) = cond (ltb k (length (t .labels))) (label-is (labelNumbered t k)) (refusal noSuchNumber)
 askSays t (label-check k) = cond (ltb k (length (t .labels))) done (refusal noSuchNumber)
 
