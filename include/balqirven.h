@@ -62,6 +62,8 @@ extern "C" {
 #define BQ_LONGEST_LABEL 255
 #define BQ_LONGEST_RULE (2 * BQ_LONGEST_LABEL + 2 + 6 + 1)
 
+#define BQ_FIXED_RECORD 53
+
 /* A category n, 1 to 63, as the bit that it has in a set. */
 #define BQ_CATEGORY(n) ((uint64_t)1 << (64 - (n)))
 
@@ -80,7 +82,9 @@ enum bq_refusal {
     BQ_MAPPINGS_FULL = 10,
     BQ_TOO_MANY_OVERRIDES = 11,
     BQ_OUTPUT_TOO_SHORT = 12,
-    BQ_NO_SUCH_NUMBER = 13
+    BQ_NO_SUCH_NUMBER = 13,
+    BQ_BAD_RECORD = 14,
+    BQ_NOT_IN_A_RECORD = 15
 };
 
 /* The loader between two calls: how many bytes of the line under way are kept (601: it has over 600), and the report so far. */
@@ -256,6 +260,9 @@ bq_part bq_label(const uint8_t *labels, size_t labels_len, const uint8_t *entrie
                  size_t words_len, size_t k);
 bq_written bq_label_check(const uint8_t *labels, size_t labels_len, const uint8_t *entries, size_t entries_len, const uint64_t *words,
                           size_t words_len, size_t k);
+
+bq_length bq_record_to_line(const uint8_t *record, size_t record_len, uint8_t *out, size_t out_len);
+bq_length bq_line_to_record(const uint8_t *line, size_t line_len, uint8_t *out, size_t out_len);
 
 #ifdef __cplusplus
 }

@@ -360,6 +360,15 @@ static void put_decision(bq_decision d) {
     if (d.bringup) put(d.kind == BQ_GRANTED ? " b" : " stray");
 }
 
+/* How many bytes were written to a lent output, and the whole output afterwards. */
+static void put_length(bq_length l, text *out) {
+    put_word_number(l.refused ? "refused" : "length", l.refused ? l.number : l.length);
+    if (l.refused ? l.length != 0 : l.number != 0) put(" stray");
+    put(" ");
+    put_hex(out->bytes, out->length);
+    give_back(out);
+}
+
 /* ---- calls with a little more to them */
 
 /* The run goes to bq_lowest_in_run as records, and to bq_lowest_of as three arrays. There are as many records as the shortest array has
@@ -534,7 +543,7 @@ static bool call(const char *at, const char *end) {
     if (is(name, "resize")) return call_resize(at, end);
     word a = next_word(&at, end), b = next_word(&at, end), c = next_word(&at, end), d = next_word(&at, end);
     size_t given = next_word(&at, end).length ? 5 : d.length ? 4 : c.length ? 3 : b.length ? 2 : a.length ? 1 : 0;
-    text t, object, request;
+    text t, object, request, out;
     uint64_t number, set;
     if (given == 0) {
         if (is(name, "fresh")) {
@@ -600,12 +609,19 @@ static bool call(const char *at, const char *end) {
     }
     if (given == 2 && is(name, "list")) {
         if (!read_number(a, &number) || !read_hex(b, &t)) return false;
-        bq_length listed = bq_list_rule(TABLES, number, t.bytes, t.length);
-        put_word_number(listed.refused ? "refused" : "length", listed.refused ? listed.number : listed.length);
-        if (listed.refused ? listed.length != 0 : listed.number != 0) put(" stray");
-        put(" ");
-        put_hex(t.bytes, t.length);
-        give_back(&t);
+        put_length(bq_list_rule(TABLES, number, t.bytes, t.length), &t);
+        return true;
+    }
+    if (given == 2 && (is(name, "recordtoline") || is(name, "linetorecord"))) {
+        if (!read_hex(a, &t)) return false;
+        if (!read_hex(b, &out)) {
+            give_back(&t);
+            return false;
+        }
+        bq_length turned = is(name, "recordtoline") ? bq_record_to_line(t.bytes, t.length, out.bytes, out.length)
+                                                    : bq_line_to_record(t.bytes, t.length, out.bytes, out.length);
+        put_length(turned, &out);
+        read_only(&t);
         return true;
     }
     if (given == 4 && is(name, "question")) {

@@ -1,6 +1,7 @@
-//! A plain reference: the paper 01 ("What is to be built") said again as code.
+//! A plain reference: the paper 01 ("What is to be built") and request One of
+//! the paper 02 ("Old fixed records") said again as code.
 //!
-//! - `plain`: the tables, the loader and every call of the paper. Nothing here
+//! - `plain`: the tables, the loader and every call of the papers. Nothing here
 //!   can be damaged, so refusal 0 does not occur.
 //! - `raw`: the same calls over lent memory, which may be damaged (refusal 0).
 //! - `program`: standard input to standard output.

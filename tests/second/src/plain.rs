@@ -1,7 +1,8 @@
 //! The library of the paper, as plainly as it can be said.
 //!
 //! Words in quotes are the paper's. The order of this file is the paper's:
-//! labels, modes, rule text, single writes, look-ups, questions, listing.
+//! labels, modes, rule text, single writes, look-ups, questions, listing; then
+//! the requests of 02 that are built: One, old fixed records.
 //! A table here is never damaged; see `raw` for lent memory and refusal 0.
 
 /// "The label table holds 64 labels".
@@ -50,6 +51,11 @@ pub enum Refusal {
     OutputTooShort = 12,
     /// 13: "no rule or label of that number".
     NoSuchNumber = 13,
+    /// 14: "a length other than 53, a label place that is all spaces, has
+    /// another byte after a space or doesn't end in a space".
+    BadRecord = 14,
+    /// 15: "a label over 23 bytes or a b".
+    NotInARecord = 15,
 }
 
 impl Refusal {
@@ -411,26 +417,32 @@ impl Table {
         }
     }
 
-    /// A rule: "subject, object, access"; "the first in this order is given:
-    /// rule 1 2 3 4 5 6 7".
+    /// "the first in this order is given: rule 1 2 3 4 5 6 7".
     fn judge_rule<'a>(&self, line: &'a [u8]) -> Result<(&'a [u8], &'a [u8], u8), Refusal> {
-        if line.len() > LINE_LIMIT {
-            return Err(Refusal::TooLong);
-        }
-        let fields = fields(line);
-        if fields.len() != 3 {
-            return Err(Refusal::WrongFields);
-        }
-        let (subject, object, access) = (fields[0], fields[1], fields[2]);
-        if !is_well_formed(subject) || !is_well_formed(object) {
-            return Err(Refusal::BadLabel);
-        }
-        let Some(modes) = read_access(access, RULE_LETTERS) else {
-            return Err(Refusal::BadAccess);
-        };
+        let (subject, object, modes) = read_rule(line)?;
         self.check_pair(subject, object)?;
         Ok((subject, object, modes))
     }
+}
+
+/// A rule: "subject, object, access". The refusals 1 2 3 4, which no table is
+/// asked for.
+fn read_rule(line: &[u8]) -> Result<(&[u8], &[u8], u8), Refusal> {
+    if line.len() > LINE_LIMIT {
+        return Err(Refusal::TooLong);
+    }
+    let fields = fields(line);
+    if fields.len() != 3 {
+        return Err(Refusal::WrongFields);
+    }
+    let (subject, object, access) = (fields[0], fields[1], fields[2]);
+    if !is_well_formed(subject) || !is_well_formed(object) {
+        return Err(Refusal::BadLabel);
+    }
+    let Some(modes) = read_access(access, RULE_LETTERS) else {
+        return Err(Refusal::BadAccess);
+    };
+    Ok((subject, object, modes))
 }
 
 /// The plain reader's loader: "a kept line of any length and the report's true
@@ -876,33 +888,37 @@ impl Table {
 // Listing
 // ---------------------------------------------------------------------------
 
-impl Table {
-    /// "subject, space, object, space, modes or a dash, newline".
-    fn rule_text(&self, rule: (usize, usize, u8)) -> Vec<u8> {
-        let (subject, object, modes) = rule;
-        let mut text = Vec::new();
-        text.extend_from_slice(&self.labels[subject]);
-        text.push(b' ');
-        text.extend_from_slice(&self.labels[object]);
-        text.push(b' ');
-        text.extend_from_slice(&write_modes(modes));
-        text.push(b'\n');
-        text
-    }
+/// "subject, space, object, space, modes or a dash, newline".
+fn rule_text(subject: &[u8], object: &[u8], modes: u8) -> Vec<u8> {
+    let mut text = Vec::new();
+    text.extend_from_slice(subject);
+    text.push(b' ');
+    text.extend_from_slice(object);
+    text.push(b' ');
+    text.extend_from_slice(&write_modes(modes));
+    text.push(b'\n');
+    text
+}
 
-    /// "Rule number k (from 0, in table order)": "It goes to the front of a
-    /// lent buffer, the rest of which is unchanged; the length is answered."
-    /// Refusals 13 12.
+/// "It goes to the front of a lent buffer, the rest of which is unchanged; the
+/// length is answered." Refusal 12: "lent output too short".
+fn write_to_front(text: &[u8], buffer: &mut [u8]) -> Result<usize, Refusal> {
+    if text.len() > buffer.len() {
+        return Err(Refusal::OutputTooShort);
+    }
+    buffer[..text.len()].copy_from_slice(text);
+    Ok(text.len())
+}
+
+impl Table {
+    /// "Rule number k (from 0, in table order)". Refusals 13 12.
     pub fn list(&self, k: u64, buffer: &mut [u8]) -> Result<usize, Refusal> {
         if k >= self.rules.len() as u64 {
             return Err(Refusal::NoSuchNumber);
         }
-        let text = self.rule_text(self.rules[k as usize]);
-        if text.len() > buffer.len() {
-            return Err(Refusal::OutputTooShort);
-        }
-        buffer[..text.len()].copy_from_slice(&text);
-        Ok(text.len())
+        let (subject, object, modes) = self.rules[k as usize];
+        let text = rule_text(&self.labels[subject], &self.labels[object], modes);
+        write_to_front(&text, buffer)
     }
 
     /// "A label can also be asked for by number: the answer is the very part
@@ -921,4 +937,101 @@ impl Table {
         }
         Ok(())
     }
+}
+
+// ---------------------------------------------------------------------------
+// Old fixed records (02, One)
+// ---------------------------------------------------------------------------
+
+/// "53-byte records": "two 24-byte labels and five access bytes".
+pub const FIXED_RECORD: usize = 53;
+/// The place of a label in a record.
+pub const FIXED_PLACE: usize = 24;
+/// "A label is 1 to 23 bytes at the left, filled with spaces."
+pub const FIXED_LABEL_LIMIT: usize = 23;
+
+/// The letters of the five access bytes, each at its own place: "r, w, x, a, t".
+fn fixed_letters() -> &'static [(u8, u8)] {
+    &LETTERS[..5]
+}
+
+/// The label at the left of a place. None where the place "is all spaces, has
+/// another byte after a space or doesn't end in a space". Only a space fills:
+/// a tab is a byte like others.
+fn label_of_place(place: &[u8]) -> Option<&[u8]> {
+    // A place without any space does not end in one.
+    let length = place.iter().position(|&byte| byte == b' ')?;
+    let (label, filling) = place.split_at(length);
+    // What begins with a space is all spaces, or has another byte after one.
+    if label.is_empty() || filling.iter().any(|&byte| byte != b' ') {
+        return None;
+    }
+    Some(label)
+}
+
+/// The five access bytes: each is "the letter of its place", "either case, or a
+/// dash". None where one is neither.
+fn read_fixed_access(bytes: &[u8]) -> Option<u8> {
+    let mut modes = 0;
+    for (&byte, &(letter, bit)) in bytes.iter().zip(fixed_letters()) {
+        if byte.to_ascii_lowercase() == letter {
+            modes |= bit;
+        } else if byte != b'-' {
+            return None;
+        }
+    }
+    Some(modes)
+}
+
+/// A record turned into a rule line: "The line is written in the listing's
+/// form"; "the length written to a lent output is answered". Refusals 14 3 4 5
+/// 12; 14 of either place comes before 3 of either label.
+pub fn record_to_line(record: &[u8], output: &mut [u8]) -> Result<usize, Refusal> {
+    if record.len() != FIXED_RECORD {
+        return Err(Refusal::BadRecord);
+    }
+    let (subject_place, rest) = record.split_at(FIXED_PLACE);
+    let (object_place, access) = rest.split_at(FIXED_PLACE);
+    let Some(subject) = label_of_place(subject_place) else {
+        return Err(Refusal::BadRecord);
+    };
+    let Some(object) = label_of_place(object_place) else {
+        return Err(Refusal::BadRecord);
+    };
+    if !is_well_formed(subject) || !is_well_formed(object) {
+        return Err(Refusal::BadLabel);
+    }
+    let Some(modes) = read_fixed_access(access) else {
+        return Err(Refusal::BadAccess);
+    };
+    if subject == object {
+        return Err(Refusal::SameLabels);
+    }
+    write_to_front(&rule_text(subject, object, modes), output)
+}
+
+/// A rule line turned into a record. The line is "read with or without one
+/// closing newline; another is a bad byte": any other newline is a byte of the
+/// field that it is in. Nothing is skipped here. Refusals 1 2 3 4 5 15 12.
+pub fn line_to_record(line: &[u8], output: &mut [u8]) -> Result<usize, Refusal> {
+    let line = match line.split_last() {
+        Some((b'\n', before)) => before,
+        _ => line,
+    };
+    let (subject, object, modes) = read_rule(line)?;
+    if subject == object {
+        return Err(Refusal::SameLabels);
+    }
+    if subject.len() > FIXED_LABEL_LIMIT || object.len() > FIXED_LABEL_LIMIT || modes & B != 0 {
+        return Err(Refusal::NotInARecord);
+    }
+    let mut record = Vec::new();
+    for label in [subject, object] {
+        record.extend_from_slice(label);
+        record.resize(record.len() + FIXED_PLACE - label.len(), b' ');
+    }
+    for &(letter, bit) in fixed_letters() {
+        record.push(if modes & bit != 0 { letter } else { b'-' });
+    }
+    write_to_front(&record, output)
 }

@@ -14,7 +14,7 @@
 
 use std::io::{self, Write};
 
-use crate::plain::Table;
+use crate::plain::{self, class_of, Class, Table};
 use crate::raw;
 use crate::script::{write_hex, Machine};
 
@@ -1044,7 +1044,7 @@ impl Generator<'_> {
     }
 
     fn any_call(&mut self) {
-        match self.random.below(100) {
+        match self.random.below(108) {
             0..=21 => self.piece_call(),
             22..=26 => self.emit("end"),
             27..=35 => self.change_call(),
@@ -1057,6 +1057,8 @@ impl Generator<'_> {
             70..=84 => self.question_call(),
             85..=91 => self.list_call(),
             92..=95 => self.label_call(),
+            96..=99 => self.record_call(),
+            100..=103 => self.line_call(),
             _ => self.emit("dump"),
         }
         self.some_dump();
@@ -1082,6 +1084,8 @@ impl Generator<'_> {
         self.question_call();
         self.list_call();
         self.label_call();
+        self.record_call();
+        self.line_call();
         self.emit("dump");
     }
 
@@ -1318,5 +1322,255 @@ impl Generator<'_> {
             }
         }
         self.emit(&format!("label {k}"));
+    }
+
+    // -----------------------------------------------------------------------
+    // Old fixed records
+    // -----------------------------------------------------------------------
+
+    /// A well-formed label of this many bytes.
+    fn label_of_length(&mut self, length: u64) -> Vec<u8> {
+        let mut label = Vec::new();
+        while (label.len() as u64) < length {
+            let byte = 33 + self.random.below(94) as u8;
+            let is_first_dash = label.is_empty() && byte == b'-';
+            if class_of(byte) == Class::Label && !is_first_dash {
+                label.push(byte);
+            }
+        }
+        label
+    }
+
+    /// A label of 1 to 23 bytes.
+    fn fixed_label(&mut self) -> Vec<u8> {
+        if self.random.chance(40) {
+            let label = self.pool_label();
+            if label.len() <= plain::FIXED_LABEL_LIMIT {
+                return label;
+            }
+        }
+        let any = 1 + self.random.below(23);
+        let length = self.random.pick(&[1, 2, 22, 23, any, any]);
+        self.label_of_length(length)
+    }
+
+    /// Two different labels of 1 to 23 bytes.
+    fn fixed_pair(&mut self) -> (Vec<u8>, Vec<u8>) {
+        let subject = self.fixed_label();
+        let mut object = self.fixed_label();
+        if self.random.chance(15) {
+            // Different in one byte alone.
+            object = subject.clone();
+            let at = self.random.below(object.len() as u64) as usize;
+            object[at] = self.random.pick(b"aZ9~");
+        }
+        while object == subject {
+            object = self.fixed_label();
+        }
+        (subject, object)
+    }
+
+    /// A record that is accepted where the output has room.
+    fn good_record(&mut self) -> Vec<u8> {
+        let (subject, object) = self.fixed_pair();
+        let mut record = subject;
+        record.resize(plain::FIXED_PLACE, b' ');
+        record.extend_from_slice(&object);
+        record.resize(2 * plain::FIXED_PLACE, b' ');
+        for letters in [b"rR-", b"wW-", b"xX-", b"aA-", b"tT-"] {
+            record.push(self.random.pick(letters));
+        }
+        record
+    }
+
+    /// One thing about a record becomes wrong, or now and then stays right.
+    fn spoil_record(&mut self, record: &mut Vec<u8>) {
+        if record.len() != plain::FIXED_RECORD {
+            return;
+        }
+        let place = plain::FIXED_PLACE * self.random.below(2) as usize;
+        let any = self.random.below(plain::FIXED_RECORD as u64) as usize;
+        match self.random.below(12) {
+            0 => record[any] = self.random.byte(),
+            // A strange byte among those of a label, or in its filling.
+            1 | 2 => {
+                let used = record[place..]
+                    .iter()
+                    .position(|&byte| byte == b' ')
+                    .unwrap_or(1)
+                    .max(1);
+                let at = match self.random.below(4) {
+                    0 => self.random.below(plain::FIXED_PLACE as u64),
+                    1 => 0,
+                    _ => self.random.below(used as u64),
+                };
+                record[place + at as usize] =
+                    self.random.pick(b" -/\\'\"\t\n\r\0\x1f\x7f\x80\xa0\xffA");
+            }
+            3 => record.insert(any, self.random.pick(b" A-r\n\0")),
+            4 => {
+                record.remove(any);
+            }
+            5 => record[place..place + plain::FIXED_PLACE].fill(b' '),
+            // A place without a space at its end.
+            6 => match self.random.below(2) {
+                0 => record[place + plain::FIXED_PLACE - 1] = self.random.pick(b"F\t\0"),
+                _ => record[place..place + plain::FIXED_PLACE].fill(b'F'),
+            },
+            // A letter in another's place, or a byte that has none.
+            7 | 8 => {
+                let at = 2 * plain::FIXED_PLACE + self.random.below(5) as usize;
+                record[at] = self.random.pick(b"rwxatRWXATbB _\r\0\xff");
+            }
+            9 | 10 => {
+                // Subject = object.
+                let label = record[..plain::FIXED_PLACE].to_vec();
+                record[plain::FIXED_PLACE..2 * plain::FIXED_PLACE].copy_from_slice(&label);
+            }
+            _ => {
+                let length = self.random.pick(&[0, 1, 24, 48, 52, 54, 106, 600, 601]);
+                record.resize(length, b' ');
+            }
+        }
+    }
+
+    /// A record with no, one or two things wrong.
+    fn record(&mut self) -> Vec<u8> {
+        if self.random.chance(2) {
+            return self.random_bytes(60);
+        }
+        let mut record = self.good_record();
+        let faults = self.random.pick(&[0, 0, 0, 0, 1, 1, 1, 2]);
+        for _ in 0..faults {
+            self.spoil_record(&mut record);
+        }
+        record
+    }
+
+    /// Letters that a record has a place for.
+    fn fixed_access(&mut self) -> Vec<u8> {
+        self.letters(b"rwxatRWXAT-", 6)
+    }
+
+    /// A line that is accepted where the output has room.
+    fn good_fixed_line(&mut self) -> Vec<u8> {
+        let (subject, object) = self.fixed_pair();
+        let access = self.fixed_access();
+        self.join(&[subject, object, access])
+    }
+
+    /// A line to make a record of: often a good one, with or without a newline.
+    fn fixed_line(&mut self) -> Vec<u8> {
+        let mut line = match self.random.below(24) {
+            0..=12 => self.good_fixed_line(),
+            13 | 14 => {
+                // Labels about as long as a place, with a beginning that is the same.
+                let longest = self.label_of_length(25);
+                let mut fields = Vec::new();
+                for _ in 0..2 {
+                    let length = self.random.pick(&[22, 23, 24, 25]);
+                    fields.push(longest[..length].to_vec());
+                }
+                fields[1][21] = self.random.pick(b"ab");
+                fields.push(self.fixed_access());
+                self.join(&fields)
+            }
+            15 => {
+                let (subject, object) = self.fixed_pair();
+                let mut access = self.fixed_access();
+                let at = self.random.below(access.len() as u64 + 1) as usize;
+                access.insert(at, self.random.pick(b"bB"));
+                self.join(&[subject, object, access])
+            }
+            16 | 17 => {
+                let line = self.good_fixed_line();
+                self.pad(line)
+            }
+            18 => {
+                let label = self.label();
+                let fields = [label.clone(), label, self.any_access()];
+                self.join(&fields)
+            }
+            19 => self.rule_text(),
+            _ => self.rule_line(),
+        };
+        for _ in 0..self.random.pick(&[0, 0, 0, 1, 1, 1, 1, 2]) {
+            line.push(b'\n');
+        }
+        if self.random.chance(5) && !line.is_empty() {
+            let at = self.random.below(line.len() as u64) as usize;
+            line[at] = match self.random.below(2) {
+                0 => self.random.byte(),
+                _ => self.random.pick(b" \t\n\r-/bB"),
+            };
+        }
+        line
+    }
+
+    /// An output of random bytes; `written` is how many the call writes, where
+    /// it is not refused for another reason.
+    fn output(&mut self, written: Option<usize>) -> Vec<u8> {
+        let length = match (written, self.random.below(16)) {
+            (_, 0) => 0,
+            (Some(exact), 1 | 2) => exact - 1,
+            (Some(exact), 3..=9) => exact,
+            (Some(exact), 10 | 11) => exact + 1,
+            (Some(exact), 12) => self.random.below(exact as u64) as usize,
+            (Some(exact), 13 | 14) => exact + self.random.below(40) as usize,
+            (None, 1..=14) => self.random.pick(&[1, 7, 13, 52, 53, 53, 54, 60]),
+            _ => self.random.pick(&[255, 519, 600, 601]),
+        };
+        (0..length).map(|_| self.random.byte()).collect()
+    }
+
+    fn emit_record(&mut self, record: &[u8], output: &[u8]) {
+        self.emit(&format!(
+            "recordtoline {} {}",
+            write_hex(record),
+            write_hex(output)
+        ));
+    }
+
+    fn emit_line(&mut self, line: &[u8], output: &[u8]) {
+        self.emit(&format!(
+            "linetorecord {} {}",
+            write_hex(line),
+            write_hex(output)
+        ));
+    }
+
+    /// A record turned into its line; often that line back, and then once more.
+    fn record_call(&mut self) {
+        let record = self.record();
+        let mut line = [0; 600];
+        let written = plain::record_to_line(&record, &mut line).ok();
+        let output = self.output(written);
+        self.emit_record(&record, &output);
+        let Some(length) = written else { return };
+        if self.random.chance(40) {
+            let output = self.output(Some(plain::FIXED_RECORD));
+            self.emit_line(&line[..length], &output);
+            let mut again = [0; plain::FIXED_RECORD];
+            let back = plain::line_to_record(&line[..length], &mut again);
+            if back.is_ok() && self.random.chance(30) {
+                let output = self.output(Some(length));
+                self.emit_record(&again, &output);
+            }
+        }
+    }
+
+    /// A line turned into its record; now and then that record back.
+    fn line_call(&mut self) {
+        let line = self.fixed_line();
+        let mut record = [0; plain::FIXED_RECORD];
+        let written = plain::line_to_record(&line, &mut record).ok();
+        let output = self.output(written);
+        self.emit_line(&line, &output);
+        if written.is_some() && self.random.chance(20) {
+            let mut space = [0; 600];
+            let length = plain::record_to_line(&record, &mut space).ok();
+            let output = self.output(length);
+            self.emit_record(&record, &output);
+        }
     }
 }

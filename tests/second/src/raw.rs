@@ -18,7 +18,7 @@
 //! bytes again, and every other byte stays.
 
 use crate::plain::{
-    limited, search_run, Answer, Found, Loader, Mapping, Record, Refusal, Report, Table,
+    self, limited, search_run, Answer, Found, Loader, Mapping, Record, Refusal, Report, Table,
     LABEL_PLACES, LINE_LIMIT, MAPPING_PLACES, OVERRIDE_PLACES, RULE_LETTERS, RULE_PLACES,
     UNKNOWN_CATEGORY_BIT,
 };
@@ -403,4 +403,15 @@ pub fn label(state: &RawState, k: u64) -> &[u8] {
 /// The call beside it. Refusals 0 13, else done.
 pub fn label_check(state: &RawState, k: u64) -> Result<(), Refusal> {
     table_of(state)?.label_check(k)
+}
+
+/// An old fixed record turned into a rule line. Refusals 14 3 4 5 12; nothing is
+/// lent but the record and the output, so never 0.
+pub fn record_to_line(record: &[u8], output: &mut [u8]) -> Result<usize, Refusal> {
+    plain::record_to_line(record, output)
+}
+
+/// A rule line turned into an old fixed record. Refusals 1 2 3 4 5 15 12; never 0.
+pub fn line_to_record(line: &[u8], output: &mut [u8]) -> Result<usize, Refusal> {
+    plain::line_to_record(line, output)
 }

@@ -24,6 +24,8 @@
 //! | `question SUBJECT OBJECT REQUEST 0` or `1` | `granted R`, `granted 6 b`, `denied R`, `override R` or `refused N` |
 //! | `list K HEX` | `length N HEX` or `refused N HEX`: the whole buffer afterwards |
 //! | `label K` | `done HEX` or `refused N -` |
+//! | `recordtoline HEX OUT` | `length N HEX` or `refused N HEX`: the whole output afterwards |
+//! | `linetorecord HEX OUT` | `length N HEX` or `refused N HEX`: the whole output afterwards |
 //! | `poke labels OFFSET HEX` | `done`: the bytes from OFFSET on |
 //! | `poke entries OFFSET HEX` | `done` |
 //! | `poke words INDEX VALUE` | `done`: one word |
@@ -157,17 +159,26 @@ impl Machine {
             ["list", k, buffer] => {
                 let k = read_u64(k)?;
                 let mut buffer = read_hex(buffer)?;
-                let answer = match raw::list(&self.state, k, &mut buffer) {
-                    Ok(length) => format!("length {length}"),
-                    Err(refusal) => refused_text(refusal),
-                };
-                Some(format!("{answer} {}", write_hex(&buffer)))
+                let answer = raw::list(&self.state, k, &mut buffer);
+                Some(length_text(answer, &buffer))
             }
             ["label", k] => {
                 let k = read_u64(k)?;
                 let answer = done_text(raw::label_check(&self.state, k));
                 let part = raw::label(&self.state, k);
                 Some(format!("{answer} {}", write_hex(part)))
+            }
+            ["recordtoline", record, output] => {
+                let record = read_hex(record)?;
+                let mut output = read_hex(output)?;
+                let answer = raw::record_to_line(&record, &mut output);
+                Some(length_text(answer, &output))
+            }
+            ["linetorecord", line, output] => {
+                let line = read_hex(line)?;
+                let mut output = read_hex(output)?;
+                let answer = raw::line_to_record(&line, &mut output);
+                Some(length_text(answer, &output))
             }
             ["poke", part, at, value] => self.poke(part, read_u64(at)?, value),
             ["resize", part, size] => self.resize(part, read_u64(size)?),
@@ -265,6 +276,15 @@ fn done_text(answer: Result<(), Refusal>) -> String {
         Ok(()) => "done".to_string(),
         Err(refusal) => refused_text(refusal),
     }
+}
+
+/// What was written to a lent output, and the whole output afterwards.
+fn length_text(answer: Result<usize, Refusal>, output: &[u8]) -> String {
+    let answer = match answer {
+        Ok(length) => format!("length {length}"),
+        Err(refusal) => refused_text(refusal),
+    };
+    format!("{answer} {}", write_hex(output))
 }
 
 /// A decimal number: digits alone.

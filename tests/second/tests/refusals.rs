@@ -83,6 +83,8 @@ fn the_numbers() {
         Refusal::TooManyOverrideLabels,
         Refusal::OutputTooShort,
         Refusal::NoSuchNumber,
+        Refusal::BadRecord,
+        Refusal::NotInARecord,
     ];
     for (number, refusal) in all.iter().enumerate() {
         assert_eq!(usize::from(refusal.number()), number);

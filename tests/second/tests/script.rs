@@ -30,6 +30,15 @@ fn every_form() {
         |s: &str, o: &str, r: &str, c: u8| format!("question {} {} {} {c}", hex(s), hex(o), hex(r));
     let listed = format!("length 15 {}ff", hex("Alarm Air rwxb\n"));
     let air = format!("done {}", hex("Air"));
+    let record = hex(&format!("{:24}{:24}{}", "Alarm", "Air", "Rw--t"));
+    let record_back = hex(&format!("{:24}{:24}{}", "Alarm", "Air", "rw--t"));
+    let line = hex("Alarm Air rwt\n");
+    let to_line = format!("recordtoline {record} {}ff", "00".repeat(14));
+    let written_line = format!("length 14 {line}ff");
+    let to_line_short = format!("recordtoline {record} {}", "07".repeat(13));
+    let not_written = format!("refused 12 {}", "07".repeat(13));
+    let to_record = format!("linetorecord {line} {}ff", "00".repeat(53));
+    let written_record = format!("length 53 {record_back}ff");
     check(&[
         ("fresh", "done"),
         ("freshloader", "done"),
@@ -65,7 +74,16 @@ fn every_form() {
         (&revoke, "revoked 1"),
         ("label 6", &air),
         ("label 7", "refused 13 -"),
+        (&to_line, &written_line),
+        (&to_line_short, &not_written),
+        (&to_record, &written_record),
+        ("recordtoline - 0708", "refused 14 0708"),
+        ("linetorecord - 0708", "refused 2 0708"),
+        ("linetorecord =A -", "refused 2 -"),
         ("poke words 0 65", "done"),
+        // No table is lent to these two.
+        (&to_line, &written_line),
+        (&to_record, &written_record),
         ("label 6", "refused 0 -"),
         ("end", "refused 0"),
         ("poke words 0 7", "done"),
@@ -131,6 +149,14 @@ fn lines_that_are_no_calls() {
         "resize other 3",
         "resize line 99999999999",
         "list 0",
+        "recordtoline",
+        "recordtoline 41",
+        "recordtoline 41 4",
+        "recordtoline 41 42 43",
+        "linetorecord",
+        "linetorecord 41",
+        "linetorecord 4 42",
+        "linetorecord 41 42 43",
     ] {
         assert_eq!(machine.execute(line).as_deref(), Some("bad line"), "{line}");
     }
@@ -208,7 +234,8 @@ fn random_calls_are_calls_and_refusals_leave_every_byte() {
                 assert_eq!(machine.state, state, "{call}");
                 assert_eq!(machine.loader, loader, "{call}");
             }
-            if damaged && !is_setter && kind != "dump" && kind != "run" {
+            let takes_no_table = ["dump", "run", "recordtoline", "linetorecord"].contains(&kind);
+            if damaged && !is_setter && !takes_no_table {
                 assert!(answer.starts_with("refused 0"), "{call}");
             }
             // No call damages a state.
@@ -217,7 +244,15 @@ fn random_calls_are_calls_and_refusals_leave_every_byte() {
             }
             // Questions and look-ups change nothing.
             let reads = [
-                "bylabel", "bylevel", "run", "question", "list", "label", "dump",
+                "bylabel",
+                "bylevel",
+                "run",
+                "question",
+                "list",
+                "label",
+                "recordtoline",
+                "linetorecord",
+                "dump",
             ];
             if reads.contains(&kind) {
                 assert_eq!(machine.state, state, "{call}");
@@ -229,7 +264,7 @@ fn random_calls_are_calls_and_refusals_leave_every_byte() {
 
 #[test]
 fn random_scripts_reach_every_refusal_of_every_call() {
-    let orders: [(&str, &[u8]); 12] = [
+    let orders: [(&str, &[u8]); 14] = [
         ("freshen", &[0]),
         ("piece", &[0]),
         ("end", &[0]),
@@ -242,6 +277,8 @@ fn random_scripts_reach_every_refusal_of_every_call() {
         ("run", &[9]),
         ("question", &[0, 3, 8]),
         ("list", &[0, 13, 12]),
+        ("recordtoline", &[14, 3, 4, 5, 12]),
+        ("linetorecord", &[1, 2, 3, 4, 5, 15, 12]),
     ];
     let mut seen = std::collections::BTreeSet::new();
     let mut reasons = std::collections::BTreeSet::new();
@@ -276,6 +313,42 @@ fn random_scripts_reach_every_refusal_of_every_call() {
             .chain([&label])
             .any(|order| order.0 == kind && order.1.contains(&number));
         assert!(allowed, "{kind} {number}");
+    }
+}
+
+/// Of the calls that turn records and lines over, a good share is accepted, and
+/// often the text of a call is what the call before it wrote.
+#[test]
+fn random_records_and_lines_are_often_accepted() {
+    let kinds = ["recordtoline", "linetorecord"];
+    let (mut calls, mut accepted, mut back) = ([0; 2], [0; 2], [0; 2]);
+    for seed in 0..4 {
+        let mut machine = Machine::new();
+        let mut before = String::new();
+        for call in random_script(seed, 5000) {
+            let answer = machine.execute(&call).unwrap();
+            let words: Vec<&str> = call.split(' ').collect();
+            if let Some(kind) = kinds.iter().position(|kind| *kind == words[0]) {
+                calls[kind] += 1;
+                if answer.starts_with("length ") {
+                    accepted[kind] += 1;
+                    let written = before.split(' ').nth(2).unwrap_or("");
+                    if before.starts_with("length ") && written.starts_with(words[1]) {
+                        back[kind] += 1;
+                    }
+                }
+            }
+            before = answer;
+        }
+    }
+    for kind in 0..2 {
+        assert!(calls[kind] > 300, "{calls:?}");
+        assert!(accepted[kind] * 4 > calls[kind], "{accepted:?} {calls:?}");
+        assert!(
+            accepted[kind] * 3 < calls[kind] * 2,
+            "{accepted:?} {calls:?}"
+        );
+        assert!(back[kind] > 10, "{back:?}");
     }
 }
 
