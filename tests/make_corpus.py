@@ -4,14 +4,15 @@ the second implementation the outputs that go with them (NAME.out, NAME.answers)
 
   tests/make_corpus.py
 
-The order is that of 01, the scope paper. What 01 says of a call stands before the call as a comment line that tests/corpus_check holds the answers to:
+The order is that of 01, the scope paper; then come the old fixed records of 02, request One. What the paper says of a call stands before the call as a
+comment line that tests/corpus_check holds the answers to:
 
   # expect: ANSWER              the next call answers exactly this
   # expect: same NAME           the next call answers what the first call so marked in this script answered
   # expect: same tables NAME    of a dump: the same but for the kept line and the loader
   # expect from here: ANSWER    each call answers this, up to the line `# expect from here: any`
 
-These lines are written here from 01, not taken from a program. What the program says to a small input is given here too, and tested as the corpus
+These lines are written here from the papers, not taken from a program. What the program says to a small input is given here too, and tested as the corpus
 is written. The scripts kernel_*.calls are made of recordings of a running kernel, from the folder named by KERNEL_VECTORS; without it those that are stored
 stay as they are.
 """
@@ -40,6 +41,13 @@ def w(data):
 
 def category(n):
     return 1 << (64 - n)
+
+
+def output_says(expect, out):
+    """The answer of a call that writes to the front of `out`: `expect` is what it writes, or the number of its refusal, which leaves all of `out`."""
+    if isinstance(expect, bytes):
+        return "length %d %s" % (len(expect), h(expect + out[len(expect):]))
+    return "refused %d %s" % (expect, h(out))
 
 
 class Script:
@@ -101,11 +109,15 @@ class Script:
     def list(self, k, expect=None, buffer=None):
         """`expect` is the line that is listed, or the number of a refusal."""
         buffer = self.buffer if buffer is None else buffer
-        if isinstance(expect, bytes):
-            said = "length %d %s" % (len(expect), h(expect + buffer[len(expect):]))
-        else:
-            said = None if expect is None else "refused %d %s" % (expect, h(buffer))
-        self.call("list %d %s" % (k, h(buffer)), said)
+        self.call("list %d %s" % (k, h(buffer)), None if expect is None else output_says(expect, buffer))
+
+    def to_line(self, record, expect, out=b"\xee" * 56):
+        """`expect` is the line that is written, or the number of a refusal."""
+        self.call("recordtoline %s %s" % (h(record), h(out)), output_says(expect, out))
+
+    def to_record(self, line, expect, out=b"\xee" * 56):
+        """`expect` is the record that is written, or the number of a refusal."""
+        self.call("linetorecord %s %s" % (h(line), h(out)), output_says(expect, out))
 
     def label(self, k, expect):
         self.call("label %d" % k, "done " + h(expect) if isinstance(expect, bytes) else "refused %d -" % expect)
@@ -2550,6 +2562,420 @@ def near():
 
 
 # ---------------------------------------------------------------------------------------------------------------------------------------------
+# Old fixed records: 02, request One
+# ---------------------------------------------------------------------------------------------------------------------------------------------
+
+PLACES = (b"rR-", b"wW-", b"xX-", b"aA-", b"tT-")
+LONG = b"L2345678901234567890123456789"
+
+
+def fixed(subject, object_, access):
+    """A record: two places of 24 bytes, filled with spaces, and the access bytes."""
+    return subject.ljust(24, b" ") + object_.ljust(24, b" ") + access
+
+
+def says_record(record):
+    """The line that a record is turned into, or the number of its refusal. Where the record is made by a loop."""
+    places = record[:24], record[24:48]
+    labels = [p.rstrip(b" ") for p in places]
+    if len(record) != 53 or any(p[-1:] != b" " for p in places) or any(not l or b" " in l for l in labels):
+        return 14
+    if not all(is_label(l) for l in labels):
+        return 3
+    if any(b not in own for b, own in zip(record[48:], PLACES)):
+        return 4
+    return 5 if labels[0] == labels[1] else b"%s %s %s\n" % (labels[0], labels[1], listed_modes(record[48:]))
+
+
+def says_line(line):
+    """The record that a line is turned into, or the number of its refusal."""
+    text = line[:-1] if line[-1:] == b"\n" else line
+    f = cut(text)
+    if len(text) > 600:
+        return 1
+    if len(f) != 3:
+        return 2
+    if not (is_label(f[0]) and is_label(f[1])):
+        return 3
+    if not is_access(f[2], b"rwxatb"):
+        return 4
+    if f[0] == f[1]:
+        return 5
+    if len(f[0]) > 23 or len(f[1]) > 23 or b"b" in f[2].lower():
+        return 15
+    return fixed(f[0], f[1], bytes(c if c in f[2].lower() else 45 for c in b"rwxat"))
+
+
+def records_bytes():
+    good = fixed(b"Do1", b"Do2", b"rwxat")
+    for name, first, last, text in (("subject", 0, 24, "the subject's place"), ("object", 24, 48, "the object's place"), ("access", 48, 53, "the five access bytes")):
+        s = Script("records_bytes_" + name, "02, One: every byte in every place of a good record: %s." % text, True)
+        for at in range(first, last):
+            s.say("byte %d of the record" % at)
+            for b in range(256):
+                record = good[:at] + bytes([b]) + good[at + 1:]
+                s.to_line(record, says_record(record), b"\xee" * 16)
+        if first < 48:
+            s.say("A label of 23 bytes: every byte as its last one, and as the one that closes the place.")
+            other = b"B".ljust(24)
+            for at in (22, 23):
+                for b in range(256):
+                    place = (LONG[:23] + b" ")[:at] + bytes([b]) + (LONG[:23] + b" ")[at + 1:]
+                    record = (place + other if first == 0 else other + place) + b"r----"
+                    s.to_line(record, says_record(record), b"\xee" * 28)
+        s.store()
+
+    s = Script("records_bytes_line", "02, One: every byte in every place of a good line, and behind it.", True)
+    for at in range(8):
+        s.say("byte %d of the line" % at)
+        for b in range(256):
+            line = b"A1 A2 r\n"
+            line = line[:at] + bytes([b]) + line[at + 1:]
+            s.to_record(line, says_line(line), b"\xee" * 53)
+    s.say("behind the line, where it has no newline, and behind its newline; before it")
+    for b in range(256):
+        for line in (b"A1 A2 r" + bytes([b]), b"A1 A2 r\n" + bytes([b]), bytes([b]) + b"A1 A2 r"):
+            s.to_record(line, says_line(line), b"\xee" * 53)
+    s.store()
+
+
+def records_access():
+    s = Script("records_access", "02, One: each of the 243 patterns of the five access bytes, small, capital or dash: the line, the record back, the line again.", True)
+    for number in range(243):
+        access = bytes(own[number // 3 ** k % 3] for k, own in enumerate(PLACES))
+        letters = access.lower().replace(b"-", b"") or b"-"
+        line, back = b"Alarm Air " + letters + b"\n", fixed(b"Alarm", b"Air", access.lower())
+        s.to_line(fixed(b"Alarm", b"Air", access), line, b"\xee" * 17)
+        s.to_record(line, back, b"\xee" * 54)
+        s.to_line(back, line, b"\xee" * len(line))
+    s.say("In a line letters stand in any order, either case, repeats and dashes allowed; a dash between is a placeholder. The record has each at its place.")
+    for access, back in ((b"-", b"-----"), (b"---", b"-----"), (b"-----", b"-----"), (b"------", b"-----"), (b"taxwr", b"rwxat"), (b"TAXWR", b"rwxat"), (b"a-r", b"r--a-"),
+                         (b"-r", b"r----"), (b"t-", b"----t"), (b"rRrR", b"r----"), (b"x", b"--x--"), (b"X", b"--x--"), (b"wW-wW", b"-w---"), (b"rwxatrwxat", b"rwxat")):
+        s.to_record(b"Alarm Air " + access, fixed(b"Alarm", b"Air", back), b"\xee" * 53)
+        s.to_record(b"Alarm Air " + access + b"\n", fixed(b"Alarm", b"Air", back), b"\xee" * 53)
+    s.say("A letter in another's place is 4, and so is b in any place.")
+    for at in range(5):
+        for letter in b"rwxatb":
+            if letter == b"rwxat"[at]:
+                continue
+            for one in (bytes([letter]), bytes([letter]).upper()):
+                for rest in (b"-----", b"rwxat"):
+                    s.to_line(fixed(b"Alarm", b"Air", rest[:at] + one + rest[at + 1:]), 4, b"\xee" * 17)
+    s.store()
+
+
+def records_refusals():
+    s = Script("records_refusals", "02, One: record 14 3 4 5 12; line 1 2 3 4 5 15 12. Each refusal, and each two neighbours where an input deserves both. All of the output stays.")
+    outs = [b"", b"\xee", b"\xee" * 53, b"\xee" * 100]
+
+    def record(name, data, number):
+        """`name` says which numbers hold. 12 holds too where the output is short."""
+        s.say("record: " + name)
+        s.to_line(data, number)
+        for out in outs:
+            s.to_line(data, number, out)
+
+    def line(name, data, number):
+        s.say("line: " + name)
+        s.to_record(data, number)
+        for out in outs:
+            s.to_record(data, number, out)
+
+    good = fixed(b"Alarm", b"Air", b"rwxat")
+    record("14, no byte", b"", 14)
+    record("14, one byte less", good[:52], 14)
+    record("14, one byte more", good + b"-", 14)
+    record("14, a space more", good + b" ", 14)
+    record("14, a newline more", good + b"\n", 14)
+    record("14, two records", good + good, 14)
+    record("14, the subject's place is all spaces", fixed(b"", b"Air", b"rwxat"), 14)
+    record("14, the object's place is all spaces", fixed(b"Alarm", b"", b"rwxat"), 14)
+    record("14, both places are all spaces", b" " * 48 + b"rwxat", 14)
+    record("14, the record is all spaces", b" " * 53, 14)
+    record("14, a space within the subject", fixed(b"Al rm", b"Air", b"rwxat"), 14)
+    record("14, a space within the object", fixed(b"Alarm", b"A r", b"rwxat"), 14)
+    record("14, a space before the subject", fixed(b" Alarm", b"Air", b"rwxat"), 14)
+    record("14, a space before the object", fixed(b"Alarm", b" Air", b"rwxat"), 14)
+    record("14, the subject stands at the right", b"Alarm".rjust(24) + good[24:], 14)
+    record("14, the object stands at the right", good[:24] + b"Air".rjust(24) + b"rwxat", 14)
+    record("14, a tab after a space", fixed(b"Alarm \t", b"Air", b"rwxat"), 14)
+    record("14, a NUL after a space", fixed(b"Alarm", b"Air \x00", b"rwxat"), 14)
+    record("14, the subject's place does not end in a space", fixed(LONG[:24], b"Air", b"rwxat"), 14)
+    record("14, the object's place does not end in a space", fixed(b"Alarm", LONG[:24], b"rwxat"), 14)
+    record("14, the subject's place has a letter at its end alone", fixed(b"Alarm".ljust(23) + b"x", b"Air", b"rwxat"), 14)
+    record("14, the object's place has a letter at its end alone", fixed(b"Alarm", b"Air".ljust(23) + b"x", b"rwxat"), 14)
+    record("14, filled with NUL", (b"Alarm".ljust(24, b"\x00") + b"Air".ljust(24, b"\x00") + b"rwxat"), 14)
+    record("14, filled with tabs", (b"Alarm".ljust(24, b"\t") + b"Air".ljust(24, b"\t") + b"rwxat"), 14)
+    record("14 and 3, of the subject", fixed(b"/ Alarm", b"Air", b"rwxat"), 14)
+    record("14 of the object and 3 of the subject", fixed(b"Al/rm", b"", b"rwxat"), 14)
+    record("14 of the object's end and 3 of the subject", fixed(b"-Alarm", LONG[:24], b"rwxat"), 14)
+    record("14 of the subject and 3 of the object", fixed(b"", b"Air/", b"rwxat"), 14)
+    record("14 of the length and 3", fixed(b"Al/rm", b"Air", b"rwxa"), 14)
+    record("14 of the length and 3, one more", fixed(b"Al/rm", b"Air", b"rwxat-"), 14)
+    record("14 and 4", fixed(b"Alarm", b"A r", b"q----"), 14)
+    record("14 and 5", fixed(b"A r", b"A r", b"rwxat"), 14)
+    record("14 and 3 4 5, all of it wrong", fixed(b"/ /", b"/ /", b"qqqqq"), 14)
+    record("3, of the subject", fixed(b"Al/rm", b"Air", b"rwxat"), 3)
+    record("3, of the object", fixed(b"Alarm", b"Ai\\r", b"rwxat"), 3)
+    record("3, the subject begins with a dash", fixed(b"-Alarm", b"Air", b"rwxat"), 3)
+    record("3, the object is a dash", fixed(b"Alarm", b"-", b"rwxat"), 3)
+    for b in b"\x00\t\n\r\x1f\"'/\\\x7f\x80\xa0\xff":
+        record("3, byte %d in the subject" % b, fixed(b"Al" + bytes([b]) + b"rm", b"Air", b"rwxat"), 3)
+        record("3, byte %d ends the object" % b, fixed(b"Alarm", b"Air" + bytes([b]), b"rwxat"), 3)
+    record("3 and 4", fixed(b"Al/rm", b"Air", b"q----"), 3)
+    record("3 of the object and 4", fixed(b"Alarm", b"-Air", b"----b"), 3)
+    record("3 and 5", fixed(b"-", b"-", b"rwxat"), 3)
+    record("3 and 4 5", fixed(b"A/", b"A/", b"wwwww"), 3)
+    record("4, a letter that is none", fixed(b"Alarm", b"Air", b"q----"), 4)
+    record("4, w in the place of r", fixed(b"Alarm", b"Air", b"w----"), 4)
+    record("4, b", fixed(b"Alarm", b"Air", b"rwxab"), 4)
+    record("4, spaces for dashes", fixed(b"Alarm", b"Air", b"r    "), 4)
+    record("4, letters at the left", fixed(b"Alarm", b"Air", b"rx---"), 4)
+    record("4, NUL at the end", fixed(b"Alarm", b"Air", b"rwxa\x00"), 4)
+    record("4, a newline at the end", fixed(b"Alarm", b"Air", b"rwxa\n"), 4)
+    record("4 and 5", fixed(b"Alarm", b"Alarm", b"w----"), 4)
+    record("4 and 5, the last byte", fixed(b"Alarm", b"Alarm", b"rwxab"), 4)
+    record("5", fixed(b"Alarm", b"Alarm", b"rwxat"), 5)
+    record("5, no letter", fixed(b"_", b"_", b"-----"), 5)
+    record("5, labels of 23 bytes", fixed(LONG[:23], LONG[:23], b"RWXAT"), 5)
+    s.say("record: 12 alone; nothing before it holds")
+    line_text = b"Alarm Air rwxat\n"
+    for length in (0, 1, 15):
+        s.to_line(good, 12, b"\xee" * length)
+    s.to_line(good, line_text, b"\xee" * 16)
+
+    pad = b" " * 600
+    line("1", b"Alarm Air r" + pad, 1)
+    line("1 and 2", b"Alarm Air" + pad, 1)
+    line("1 and 2, blanks alone", pad + b" ", 1)
+    line("1 and 3 4 5", b"/ / q" + pad, 1)
+    line("1 and 15", b"Alarm Air b" + pad + b"\n", 1)
+    line("2, one field", b"Alarm", 2)
+    line("2, two fields", b"Alarm Air", 2)
+    line("2, four fields", b"Alarm Air r w", 2)
+    line("2, five fields", b"Alarm Air r w x", 2)
+    line("2 and 3", b"Al/rm Air", 2)
+    line("2 and 3, too many", b"Al/rm Air r x", 2)
+    line("2 and 4 5", b"Alarm Alarm q q", 2)
+    line("2 and 15", b"%s Air b b" % LONG[:24], 2)
+    line("3, of the subject", b"Al/rm Air r", 3)
+    line("3, of the object", b"Alarm -Air r", 3)
+    line("3, 256 bytes and not 15", b"%s Air r" % (b"L" * 256), 3)
+    line("3, 256 bytes in the object", b"Alarm %s r" % (b"L" * 256), 3)
+    line("3 and 4", b"Al/rm Air q", 3)
+    line("3 of the object and 4", b"Alarm Air' q", 3)
+    line("3 and 5", b"- - -", 3)
+    line("3 and 15", b"Al/rm %s b" % LONG[:24], 3)
+    line("4", b"Alarm Air q", 4)
+    line("4, the last byte", b"Alarm Air rwxatl", 4)
+    line("4 and 5", b"Alarm Alarm q", 4)
+    line("4 and 15, b beside it", b"Alarm Air bq", 4)
+    line("4 and 15, a long label", b"%s Air q" % LONG[:24], 4)
+    line("5", b"Alarm Alarm r", 5)
+    line("5, no letter", b"_ _ -\n", 5)
+    line("5 and 15, b", b"Alarm Alarm b", 5)
+    line("5 and 15, labels of 24 bytes", b"%s %s r" % (LONG[:24], LONG[:24]), 5)
+    line("5 and 15, labels of 255 bytes", b"%s %s r" % (b"L" * 255, b"L" * 255), 5)
+    line("15, the subject", b"%s Air r" % LONG[:24], 15)
+    line("15, the object", b"Alarm %s r" % LONG[:24], 15)
+    for access in (b"b", b"B", b"rwxatb", b"RWXATB", b"-b", b"b-", b"br", b"bb", b"r-B-r"):
+        line("15, access %s" % access.decode(), b"Alarm Air " + access, 15)
+    s.say("line: 12 alone; nothing before it holds")
+    for length in (0, 1, 52):
+        s.to_record(b"Alarm Air rwxat\n", 12, b"\xee" * length)
+    s.to_record(b"Alarm Air rwxat\n", good, b"\xee" * 53)
+    s.store()
+
+
+def records_labels():
+    s = Script("records_labels", "02, One: labels of 1 to 24 bytes and more as subject and as object, both ways. A label is never cut.")
+    for length in (1, 2, 22, 23):
+        label = LONG[:length]
+        s.say("a label of %d bytes" % length)
+        for subject, object_ in ((label, b"Air"), (b"Air", label), (label, b"M" * length), (b"M" * length, label)):
+            line = b"%s %s rx\n" % (subject, object_)
+            s.to_line(fixed(subject, object_, b"R-X--"), line)
+            s.to_record(line, fixed(subject, object_, b"r-x--"))
+            s.to_record(line[:-1], fixed(subject, object_, b"r-x--"))
+            s.to_line(fixed(subject, object_, b"r-x--"), line)
+    s.say("The longest line of a record: 23, 23, five letters, two spaces, a newline: 54. The shortest: 6.")
+    line = b"%s %s rwxat\n" % (LONG[:23], b"M" * 23)
+    s.to_line(fixed(LONG[:23], b"M" * 23, b"rwxat"), line, b"\xee" * 54)
+    s.to_line(fixed(LONG[:23], b"M" * 23, b"rwxat"), 12, b"\xee" * 53)
+    s.to_line(fixed(b"A", b"B", b"-----"), b"A B -\n", b"\xee" * 6)
+    s.say("24 bytes fill a place: the record is 14. In a line they are 15.")
+    for length in (24, 25, 47, 48, 254, 255):
+        label = (LONG * 10)[:length]
+        if length == 24:
+            s.to_line(fixed(label, b"Air", b"r-x--"), 14)
+            s.to_line(fixed(b"Air", label, b"r-x--"), 14)
+            s.to_line(fixed(label, b"M" * 24, b"r-x--"), 14)
+        for line in (b"%s Air rx" % label, b"Air %s rx" % label, b"%s %s rx" % (label, b"M" * length), b"%s %s rx" % (b"M" * 23, label)):
+            s.to_record(line, 15)
+            s.to_record(line + b"\n", 15)
+    s.say("Two labels that agree in their first 23 bytes: 15, as if nothing were equal.")
+    for one, two in ((LONG[:23] + b"1", LONG[:23] + b"2"), (LONG[:24], LONG[:23]), (LONG[:23], LONG[:24]), (LONG[:25], LONG[:24]), (b"L" * 254 + b"1", b"L" * 254 + b"2")):
+        s.to_record(b"%s %s r" % (one, two), 15)
+        s.to_record(b"%s %s -\n" % (one, two), 15)
+    s.say("Two labels that differ only in byte 23, or only in case, are two labels.")
+    for one, two in ((LONG[:22] + b"1", LONG[:22] + b"2"), (LONG[:22], LONG[:23]), (b"air", b"Air"), (b"A", b"AA"), (b"A", b"A-")):
+        for subject, object_ in ((one, two), (two, one)):
+            line = b"%s %s wt\n" % (subject, object_)
+            s.to_line(fixed(subject, object_, b"-w--T"), line)
+            s.to_record(line, fixed(subject, object_, b"-w--t"))
+    s.say("The five labels, marks, a dash behind the first byte.")
+    for subject, object_ in ((b"_", b"^"), (b"*", b"?"), (b"@", b"_"), (b"!", b"#"), (b"a-", b"a--"), (b"r", b"rw"), (b"~", b"."), (b"=", b"%")):
+        line = b"%s %s a\n" % (subject, object_)
+        s.to_line(fixed(subject, object_, b"---A-"), line)
+        s.to_record(line, fixed(subject, object_, b"---a-"))
+    s.store()
+
+
+def records_lines():
+    s = Script("records_lines", "02, One: the line is read with or without one closing newline; another is a bad byte. Blanks and lengths are those of a line of 01.")
+    good, out = fixed(b"A", b"B", b"r----"), b"\xee" * 54
+    s.say("600 bytes before the newline are taken, 601 are 1; a second newline is a byte of the line.")
+    for line in (b"A B r" + b" " * 595, b" " * 595 + b"A B r", b"A" + b" " * 297 + b"B" + b" " * 300 + b"r", b"\t" * 595 + b"A B r", b"A B " + b"r" * 596):
+        assert len(line) == 600
+        s.to_record(line, good, out)
+        s.to_record(line + b"\n", good, out)
+        s.to_record(line + b"\n\n", 1, out)
+        for more in (b" ", b"r", b"\x00", b"\r"):
+            for newlines in (b"", b"\n", b"\n\n"):
+                s.to_record(line + more + newlines, 1, out)
+    s.say("599 bytes, and a second newline: it is the 600th byte.")
+    s.to_record(b"A B r" + b" " * 594 + b"\n\n", 2, out)
+    s.to_record(b" " * 594 + b"A B r\n\n", 4, out)
+    s.to_record(b"A B " + b"r" * 595 + b"\n\n", 4, out)
+    s.to_record(b"A B r" + b" " * 594 + b"\n", good, out)
+    s.say("Longer lines.")
+    for length in (602, 1000, 65541):
+        s.to_record((b"A B r" + b" " * length)[:length], 1, out)
+    s.say("One newline at the end is taken off; each other is a byte of its field.")
+    for line, expect in ((b"A B r", good), (b"A B r\n", good), (b"A B r \n", good), (b"A B r\t\n", good), (b"A B r\n\n", 4), (b"A B r\n\n\n", 4), (b"A B r \n\n", 2), (b"A B r\t\n\n", 2),
+                         (b"A B r\n ", 4), (b"A B r\n \n", 4), (b"A B r \n ", 2), (b"A B \nr", 4), (b"A B r\nw", 4), (b"A B \n\n", 4), (b"A B \n", 2), (b"\nA B r", 3), (b"\nA B r\n", 3),
+                         (b"\n A B r", 2), (b"A\n B r", 3), (b"A \nB r\n", 3), (b"A B\n r\n", 3), (b"A\nB r", 2), (b"A\nB C r", 3), (b"A B\nr", 2), (b"A B C\nr", 4), (b"A B r\nC D w\n", 2),
+                         (b"A B r\nC", 4), (b"A\n\nB r\n", 2), (b"\n\n\n", 2), (b"\n \n \n\n", 3), (b"A \n r", 3), (b"A A\n r", 3), (b"A A r\n\n", 4), (b"A A r\n", 5), (b"A B b\n", 15), (b"A B b\n\n", 4)):
+        s.to_record(line, expect, out)
+    s.say("A newline alone, an empty line, a blank line: 2, nothing is skipped.")
+    for line in (b"", b"\n", b"\n\n", b" ", b"\t", b"  ", b" \t ", b" \n", b"\t\n", b" \t \n", b"A\n", b"A B\n", b" " * 600, b" " * 600 + b"\n", b"\t" * 600):
+        s.to_record(line, 2, out)
+    s.to_record(b" " * 601, 1, out)
+    s.to_record(b" " * 601 + b"\n", 1, out)
+    s.to_record(b" " * 600 + b"\n\n", 1, out)
+    s.say("Blanks before, after and between; a tab is a blank; other control bytes are bytes of a field.")
+    for line, expect in ((b"  A   B   r  ", good), (b"\tA\tB\tr\t", good), (b" \t A \t B \t r \t ", good), (b" A B r", good), (b"A B r ", good), (b"A  B\t\tr\n", good), (b"\tA B r\n", good),
+                         (b"A B r\r", 4), (b"A B r\r\n", 4), (b"A B r \r\n", 2), (b"A\r B r\n", 3), (b"A B\r r\n", 3), (b"\rA B r\n", 3), (b"\r A B r\n", 2), (b"\r\n", 2), (b"\r", 2),
+                         (b"A B\x0b r", 3), (b"A\x0cB r", 2), (b"A\x00B C r", 3), (b"A B r\x00", 4), (b"A B r\n\x00", 4), (b"A B r \x00", 2), (b"A\xa0B C r", 3), (b"A\xffB C r", 3), (b"A B \xe4", 4)):
+        s.to_record(line, expect, out)
+    s.say("Turned there and back, a line is in the listing's form.")
+    for line, record, listed in ((b"A B r", good, b"A B r\n"), (b"\t Probe3   Air\tW ", fixed(b"Probe3", b"Air", b"-w---"), b"Probe3 Air w\n"),
+                                 (b"Alarm Air Rx", fixed(b"Alarm", b"Air", b"r-x--"), b"Alarm Air rx\n"), (b"Desk Alarm -\n", fixed(b"Desk", b"Alarm", b"-----"), b"Desk Alarm -\n"),
+                                 (b"Desk Alarm -----", fixed(b"Desk", b"Alarm", b"-----"), b"Desk Alarm -\n"), (b"S O t-A-x-W-r \n", fixed(b"S", b"O", b"rwxat"), b"S O rwxat\n"),
+                                 (b" a- " + LONG[:23] + b" Tt\n", fixed(b"a-", LONG[:23], b"----t"), b"a- " + LONG[:23] + b" t\n")):
+        s.to_record(line, record, out)
+        s.to_line(record, listed, out)
+        s.to_record(listed, record, out)
+    s.store()
+
+
+def records_outputs():
+    s = Script("records_outputs", "02, One: the length written is answered, the text goes to the front of the output, the rest stays; too short is 12 and all of it stays.")
+    filled = bytes((7 * k + 13) % 256 for k in range(700))
+    for record, line in ((fixed(b"A", b"B", b"-----"), b"A B -\n"), (fixed(b"Probe3", b"Air", b"-w---"), b"Probe3 Air w\n"),
+                         (fixed(LONG[:23], b"M" * 23, b"rwxat"), b"%s %s rwxat\n" % (LONG[:23], b"M" * 23))):
+        s.say("each length of the output up to a few bytes more than is written")
+        for length in range(len(line) + 4):
+            s.to_line(record, 12 if length < len(line) else line, filled[:length])
+        for length in range(57):
+            s.to_record(line, 12 if length < 53 else record, filled[:length])
+        for length in (100, 255, 256, 257, 600, 601, 700):
+            s.to_line(record, line, filled[:length])
+            s.to_record(line, record, filled[:length])
+    s.say("What stood in the output before is not read: the text itself, spaces, newlines, zeros.")
+    record, line = fixed(b"Probe3", b"Air", b"-w---"), b"Probe3 Air w\n"
+    for out in (record + line, line + record, b" " * 60, b"\n" * 60, b"\x00" * 60, b"\xff" * 60):
+        s.to_line(record, line, out)
+        s.to_record(line, record, out)
+        s.to_line(record[:52], 14, out)
+        s.to_record(line + b"\n", 4, out)
+    s.say("An output of over 65536 bytes.")
+    s.call("recordtoline %s =%s" % (h(record), "x" * 65541), "length 13 " + h(line + b"x" * 65528))
+    s.call("linetorecord %s =%s" % (h(line), "x" * 65541), "length 53 " + h(record + b"x" * 65488))
+    s.store()
+
+
+def records_listing():
+    s = Script("records_listing", "02, One: a record's line loaded into a fresh table is listed as it is. The two calls are lent no table and no loader, and are never refused 0.")
+    for record, line in ((fixed(b"Probe3", b"Air", b"-W---"), b"Probe3 Air w\n"), (fixed(b"Alarm", b"Air", b"R-x--"), b"Alarm Air rx\n"), (fixed(b"Desk", b"Alarm", b"-----"), b"Desk Alarm -\n"),
+                         (fixed(b"_", b"^", b"rwxat"), b"_ ^ rwxat\n"), (fixed(b"*", b"a-", b"---AT"), b"* a- at\n"), (fixed(LONG[:23], LONG[:22], b"RWXAT"), b"%s %s rwxat\n" % (LONG[:23], LONG[:22])),
+                         (fixed(LONG[:22] + b"a", LONG[:22] + b"b", b"----t"), b"%sa %sb t\n" % (LONG[:22], LONG[:22])), (fixed(b"Q", LONG[:23], b"--x--"), b"Q %s x\n" % LONG[:23])):
+        s.fresh()
+        s.to_line(record, line)
+        s.piece(line)
+        s.list(0, line, b"\xee" * 56)
+        s.list(1, 13)
+        s.end("report 1 1 0 0 0 0")
+        s.to_record(line, record[:48] + record[48:].lower())
+    s.say("The three lines of 01's listing, from records and back.")
+    s.fresh()
+    three = ((b"Probe3", b"Air", b"-w---", b"Probe3 Air w\n"), (b"Alarm", b"Air", b"r-x--", b"Alarm Air rx\n"), (b"Desk", b"Alarm", b"-----", b"Desk Alarm -\n"))
+    for subject, object_, access, line in three:
+        s.to_line(fixed(subject, object_, access), line, b"\xee" * len(line))
+        s.piece(line)
+    for k, (subject, object_, access, line) in enumerate(three):
+        s.list(k, line)
+        s.to_record(line, fixed(subject, object_, access), b"\xee" * 53)
+    s.end("report 3 3 0 0 0 0")
+
+    def both():
+        s.to_line(fixed(b"New1", b"New2", b"RW---"), b"New1 New2 rw\n")
+        s.to_line(fixed(b"New1", b"New1", b"RW---"), 5)
+        s.to_line(b"New1 New2 rw", 14)
+        s.to_record(b"New1 New2 rw\n", fixed(b"New1", b"New2", b"rw---"))
+        s.to_record(b"New1 New2 rwb", 15)
+        s.to_record(b"New1 New2\n", 2)
+        s.to_record(b"\n", 2)
+    s.say("Neither table nor loader changes, with a line under way; no label enters.")
+    s.piece(b"A A r\nKept under w")
+    s.dump("under way")
+    both()
+    s.dump("under way")
+    s.label(9, 13)
+    s.piece(b"ay\n")
+    s.end("report 2 0 0 2 1 5")
+    s.say("64 labels and 256 rules: neither 6 nor 7.")
+    full(s, 64, 256, 0)
+    s.dump("full")
+    both()
+    s.dump("full")
+    s.say("Damaged tables and a damaged loader: not 0.")
+    for part, at, value in (("words", 0, 65), ("words", 1, 257), ("entries", 512, b"\xff"), ("loader", 0, 602)):
+        full(s, 64, 256, 0)
+        s.poke(part, at, value)
+        s.piece(b"", "refused 0")
+        s.dump("damaged %s %d" % (part, at))
+        both()
+        s.dump("damaged %s %d" % (part, at))
+    for part in ("labels", "entries", "words", "line"):
+        s.call("resize %s 0" % part, "done")
+        s.piece(b"", "refused 0")
+        both()
+        s.fresh()
+    s.store()
+
+
+def records():
+    records_bytes()
+    records_access()
+    records_refusals()
+    records_labels()
+    records_lines()
+    records_outputs()
+    records_listing()
+
+
+# ---------------------------------------------------------------------------------------------------------------------------------------------
 # Recordings of a running kernel, where 01 does not decide otherwise
 # ---------------------------------------------------------------------------------------------------------------------------------------------
 
@@ -2693,6 +3119,7 @@ def main():
     programs()
     ranges()
     near()
+    records()
     folder = os.environ.get("KERNEL_VECTORS")
     if folder:
         kernel(folder)
