@@ -58,7 +58,6 @@ use Rattle.access.specs.declared.Answer.{Answer}
 use Rattle.access.specs.declared.Answer.the-variants as a
 use Rattle.output.specs.Output as output
 use Rattle.output.specs.Output.{putAnswer, textAnswer}
-use Rattle.output.specs.declared.Output.{Output}
 use Rattle.output.specs.declared.Output.the-variants as l
 use Rattle.listing.specs.Listing.{ruleText, ruleGiven, listAnswer, labelAnswer}
 use Rattle.load.specs.Loader.{Load, ready, pieceAnswer, endAnswer}
@@ -69,6 +68,7 @@ use Rattle.load.specs.declared.Ended.the-variants as e
 use Rattle.grown.specs.Pairs.{SoundTable, newLabels, hasRule}
 use Rattle.grown.proofs.Pairs.{undamaged-sound, labels-counted}
 use Rattle.faults.proofs.Different.{those-all, entered-many}
+use Rattle.faults.proofs.Records.{refuses, output-by, of-output, not-leb, record-faults, line-faults}
 use Rattle.faults.specs.Faults.{
   Fault,
   _when_,
@@ -115,16 +115,6 @@ use Rattle.faults.specs.Faults.{
 }
 
 -- ---- what each answer is refused by
-
--- an answer that is refused by what the faults come to
-refuses :
-    {A : Type 0} (R : ℕ → A) (refusal : A → Refusal) →
-    ((n : ℕ) → refusal (R n) ≡ by n) →
-    ((x : A) (n : ℕ) → refusal x ≡ by n → x ≡ R n) →
-    (x : A) (faults : List Fault) →
-    refusal x ≡ firstFault faults →
-    Refuses x R faults
-refuses R refusal to from x faults e n = (λ q. sym e ∙ ap refusal q ∙ to n, λ q. from x n (e ∙ q))
 
 abbrev done-by : Done → Refusal
 done-by d.Done = none
@@ -224,17 +214,6 @@ of-answer = refuses a.Refused answer-by (λ n. refl) from
     from (a.Override x) n q = let z : _≡_ {A = ℕ} 0 1 = cc in absurd (omega arith)
     from (a.Refused m) n q = let z : m ≡ n = cc in ap a.Refused z
 
-abbrev output-by : Output → Refusal
-output-by (l.Length x) = none
-output-by (l.Refused n) = by n
-
-of-output : (x : Output) (faults : List Fault) → output-by x ≡ firstFault faults → Refuses x l.Refused faults
-of-output = refuses l.Refused output-by (λ n. refl) from
-  where
-    from : (x : Output) (n : ℕ) → output-by x ≡ by n → x ≡ l.Refused n
-    from (l.Length x) n q = let z : _≡_ {A = ℕ} 0 1 = cc in absurd (omega arith)
-    from (l.Refused m) n q = let z : m ≡ n = cc in ap l.Refused z
-
 -- and what a write is judged by
 abbrev stateFaults : Store → List Fault → List Fault
 stateFaults st more = 0 when not (undamagedOf st) ∷ more
@@ -310,13 +289,6 @@ not-ltb a b = by-test (ltb a b) refl
     by-test : (x : Bool) → ltb a b ≡ x → not x ≡ leb b a
     by-test true q = sym (lt-leb _ _ (ltb-true a b q))
     by-test false q = sym (le-leb _ _ (ltb-false a b q))
-
-not-leb : (a b : ℕ) → not (leb a b) ≡ ltb b a
-not-leb a b = by-test (leb a b) refl
-  where
-    by-test : (x : Bool) → leb a b ≡ x → not x ≡ ltb b a
-    by-test true q = sym (le-ltb _ _ (leb-true a b q))
-    by-test false q = sym (lt-ltb _ _ (leb-false a b q))
 
 -- ---- a pair, in tables within their limits
 
@@ -894,4 +866,6 @@ first-in-order =
       question-line = question-line-refused;
       listing = listing-refused;
       label-by-number = label-refused;
+      record-to-line = record-faults;
+      line-to-record = line-faults;
     }

@@ -1,2 +1,3 @@
 pub mod Different
+pub mod Records
 pub mod Faults

@@ -1,6 +1,6 @@
 -- Demand 1: bad input is refused by a number from the list. 01, The refusal numbers: of each call the faults that it can have, in 01's order, each as
--- the test that 01's table says in words, by the fields of the text and the tables as they are; a call is refused by the first that holds, and by
--- none exactly when none holds. Assumes nothing.
+-- the test that 01's table says in words, by the fields of the text and the tables as they are; so of 02's calls in 02's order and words. A call
+-- is refused by the first that holds, and by none exactly when none holds. Assumes nothing.
 use Prim.Native.Nat.{ℕ, _+_, _-_}
 use mathlib.Core.Path.{_≡_}
 use mathlib.Core.Bool.{Bool, true, false, cond, not, _&&_, _||_}
@@ -13,8 +13,8 @@ use Rattle.search.specs.Search.{all, those}
 use Rattle.search.specs.Bytes.{ascii, sameBytes}
 use Rattle.search.specs.declared.Found.{Found}
 use Rattle.search.specs.declared.Found.the-variants.{At, Nothing}
-use Rattle.alphabet.specs.Alphabet.{wellFormed, fields, lineLimit, dash}
-use Rattle.modes.specs.Modes.{allowedByte, ruleLetters, changeLetters, requestLetters}
+use Rattle.alphabet.specs.Alphabet.{wellFormed, fields, lineLimit, dash, space}
+use Rattle.modes.specs.Modes.{allowedByte, ruleLetters, changeLetters, requestLetters, modesOf, modesText, any, oneOf}
 use Rattle.numbers.specs.Numbers.{numberOf}
 use Rattle.numbers.specs.Categories.{isLevel, isCategory, knownSet}
 use Rattle.numbers.specs.declared.Number.{Number}
@@ -41,7 +41,10 @@ use Rattle.run.specs.Run.{runOf}
 use Rattle.access.specs.Access.{isFound, answer, questionOf}
 use Rattle.access.specs.declared.Answer.the-variants as a
 use Rattle.listing.specs.Listing.{ruleText, listAnswer, labelAnswer}
+use Rattle.output.specs.Output.{textAnswer}
 use Rattle.output.specs.declared.Output.the-variants as l
+use Rattle.rule_text.specs.RuleText.{textOf}
+use Rattle.fixed_load.specs.Records.{recordLabel, recordSize, subjectPlace, objectPlace, accessBytes, placeLabel, lineFrom, withoutNewline, recordFrom}
 use Rattle.program.specs.Program.{answerTo}
 use Rattle.grown.specs.Pairs.{newLabels, hasRule}
 
@@ -263,6 +266,80 @@ listingFaults st k out =
 abbrev pub labelByNumberFaults : Store → ℕ → List Fault
 labelByNumberFaults st k = refusal.damaged when not (undamagedOf st) ∷ refusal.noSuchNumber when leb (length (tableOf st .labels)) k ∷ []
 
+-- ---- old records (02, One): a record 14 3 4 5 12; a line 1 2 3 4 5 15 12
+
+-- a label place is all spaces
+abbrev pub allSpaces : List ℕ → Bool
+allSpaces place = all (λ (b : ℕ). eqb b space) place
+
+-- it has another byte after a space
+abbrev pub byteAfterSpace : List ℕ → Bool
+byteAfterSpace [] = false
+byteAfterSpace (b ∷ bs) = cond (eqb b space) (not (allSpaces bs)) (byteAfterSpace bs)
+
+-- it ends in a space
+abbrev pub endsInSpace : List ℕ → Bool
+endsInSpace [] = false
+endsInSpace (b ∷ []) = eqb b space
+endsInSpace (b ∷ c ∷ bs) = endsInSpace (c ∷ bs)
+
+-- it is all spaces, has another byte after a space or doesn't end in a space
+abbrev pub badPlace : List ℕ → Bool
+badPlace place = allSpaces place || (byteAfterSpace place || not (endsInSpace place))
+
+-- access byte k, from 0, is none of its own: the letter of its place, either case, and a dash
+abbrev pub otherByte : List ℕ → ℕ → List ℕ → Bool
+otherByte access k own = not (oneOf own (getD access k 0))
+
+-- an access byte is neither a dash nor the letter of its place: r, w, x, a, t
+abbrev pub badAccessBytes : List ℕ → Bool
+badAccessBytes access =
+    otherByte access 0 (ascii "rR-")
+    || (otherByte access 1 (ascii "wW-")
+    || (otherByte access 2 (ascii "xX-")
+    || (otherByte access 3 (ascii "aA-")
+    || otherByte access 4 (ascii "tT-"))))
+
+-- the labels of a record, each at the left of its place
+abbrev pub recordSubject : List ℕ → List ℕ
+recordSubject r = placeLabel (subjectPlace r)
+
+abbrev pub recordObject : List ℕ → List ℕ
+recordObject r = placeLabel (objectPlace r)
+
+-- of the record: a length other than 53 or a bad label place, and then as of a line. The line is written in the listing's form
+abbrev pub recordFaults : List ℕ → List ℕ → List Fault
+recordFaults r out =
+    refusal.badRecord when (not (eqb (length r) recordSize) || (badPlace (subjectPlace r) || badPlace (objectPlace r)))
+    ∷ refusal.badLabel when badLabels (recordSubject r) (recordObject r)
+    ∷ refusal.badAccess when badAccessBytes (accessBytes r)
+    ∷ refusal.sameLabels when sameBytes (recordSubject r) (recordObject r)
+    ∷ refusal.outputTooShort when ltb (length out) (length (textOf (recordSubject r) (recordObject r) (modesText (modesOf (accessBytes r)))))
+    ∷ []
+
+-- a label over 23 bytes
+abbrev pub overRecordLabel : List ℕ → Bool
+overRecordLabel x = ltb recordLabel (length x)
+
+-- an access field has a b, either case
+abbrev pub hasB : List ℕ → Bool
+hasB access = any (oneOf (ascii "bB")) access
+
+-- of the fields of a line, subject, object, access
+abbrev pub toRecordFieldFaults : List (List ℕ) → List ℕ → List Fault
+toRecordFieldFaults fs out =
+    refusal.wrongFields when not (eqb (length fs) 3)
+    ∷ refusal.badLabel when badLabels (field fs 0) (field fs 1)
+    ∷ refusal.badAccess when badBytes ruleLetters true (field fs 2)
+    ∷ refusal.sameLabels when sameBytes (field fs 0) (field fs 1)
+    ∷ refusal.notInARecord when (overRecordLabel (field fs 0) || (overRecordLabel (field fs 1) || hasB (field fs 2)))
+    ∷ refusal.outputTooShort when ltb (length out) recordSize
+    ∷ []
+
+-- of the line, which is read with or without one closing newline
+abbrev pub lineToRecordFaults : List ℕ → List ℕ → List Fault
+lineToRecordFaults line out = refusal.tooLong when isTooLong (withoutNewline line) ∷ toRecordFieldFaults (fields (withoutNewline line)) out
+
 -- ---- a fresh table, a piece, the end call: 0 alone
 
 -- a part has not its full size
@@ -295,3 +372,5 @@ pub record FirstInOrder : Type 0 where
   pub question-line : (t : Table) (line : List ℕ) → Refuses (answerTo (answer t) line) a.Refused (questionLineFaults line)
   pub listing : (st : Store) (k : ℕ) (out : List ℕ) → Refuses (listAnswer st k out) l.Refused (listingFaults st k out)
   pub label-by-number : (st : Store) (k : ℕ) → Refuses (labelAnswer st k) d.Refused (labelByNumberFaults st k)
+  pub record-to-line : (r out : List ℕ) → Refuses (textAnswer (lineFrom r) out) l.Refused (recordFaults r out)
+  pub line-to-record : (line out : List ℕ) → Refuses (textAnswer (recordFrom line) out) l.Refused (lineToRecordFaults line out)
