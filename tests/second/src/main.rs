@@ -1,11 +1,11 @@
-//! `second program`, `second script`, `second random SEED COUNT`.
+//! `second program`, `second script`, `second random SEED COUNT [KIND]`.
 //! The forms of a script are told in `script.rs` and in FORMAT.md.
 
 use std::io::{self, BufRead, BufWriter, Read, Write};
 use std::process::ExitCode;
 
 use second::program;
-use second::random;
+use second::random::{self, Kind};
 use second::script::Machine;
 
 fn main() -> ExitCode {
@@ -15,7 +15,11 @@ fn main() -> ExitCode {
         ["program"] => run_program(),
         ["script"] => run_script(),
         ["random", seed, count] => match (seed.parse(), count.parse()) {
-            (Ok(seed), Ok(count)) => run_random(seed, count),
+            (Ok(seed), Ok(count)) => run_random(seed, count, Kind::Every),
+            _ => return usage(),
+        },
+        ["random", seed, count, "records"] => match (seed.parse(), count.parse()) {
+            (Ok(seed), Ok(count)) => run_random(seed, count, Kind::Records),
             _ => return usage(),
         },
         _ => return usage(),
@@ -30,7 +34,7 @@ fn main() -> ExitCode {
 }
 
 fn usage() -> ExitCode {
-    eprintln!("usage: second program | second script | second random SEED COUNT");
+    eprintln!("usage: second program | second script | second random SEED COUNT [records]");
     ExitCode::FAILURE
 }
 
@@ -59,8 +63,8 @@ fn run_script() -> io::Result<()> {
     output.flush()
 }
 
-fn run_random(seed: u64, count: u64) -> io::Result<()> {
+fn run_random(seed: u64, count: u64, kind: Kind) -> io::Result<()> {
     let mut output = BufWriter::new(io::stdout().lock());
-    random::write_script(seed, count, &mut output)?;
+    random::write_script(seed, count, kind, &mut output)?;
     output.flush()
 }

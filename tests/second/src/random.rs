@@ -63,8 +63,15 @@ impl Xorshift {
     }
 }
 
+/// Which calls a script has: all of them, or the two that turn old records into lines and back.
+#[derive(Clone, Copy, PartialEq, Eq)]
+pub enum Kind {
+    Every,
+    Records,
+}
+
 /// Writes a script of `count` calls.
-pub fn write_script(seed: u64, count: u64, output: &mut dyn Write) -> io::Result<()> {
+pub fn write_script(seed: u64, count: u64, kind: Kind, output: &mut dyn Write) -> io::Result<()> {
     let mut generator = Generator {
         random: Xorshift::new(seed),
         machine: Machine::new(),
@@ -77,7 +84,10 @@ pub fn write_script(seed: u64, count: u64, output: &mut dyn Write) -> io::Result
         pending: Vec::new(),
     };
     while generator.left > 0 && generator.error.is_none() {
-        generator.episode();
+        match kind {
+            Kind::Every => generator.episode(),
+            Kind::Records => generator.records_episode(),
+        }
     }
     match generator.error {
         Some(error) => Err(error),
@@ -150,6 +160,15 @@ impl Generator<'_> {
             16..=19 => self.odd_episode(),
             20 | 21 => self.loader_episode(),
             _ => self.override_episode(),
+        }
+    }
+
+    /// Old records alone, with labels of one pool.
+    fn records_episode(&mut self) {
+        self.make_pool();
+        for _ in 0..40 {
+            self.record_call();
+            self.line_call();
         }
     }
 

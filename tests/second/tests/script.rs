@@ -1,7 +1,7 @@
 //! The script's forms, and the scripts that the generator writes.
 
 use second::plain::{Loader, Refusal, Table};
-use second::random::{write_script, Xorshift};
+use second::random::{write_script, Kind, Xorshift};
 use second::raw;
 use second::script::{fnv1a, read_hex, write_hex, Machine};
 
@@ -202,7 +202,7 @@ fn hex_there_and_back() {
 
 fn random_script(seed: u64, count: u64) -> Vec<String> {
     let mut text = Vec::new();
-    write_script(seed, count, &mut text).unwrap();
+    write_script(seed, count, Kind::Every, &mut text).unwrap();
     let text = String::from_utf8(text).unwrap();
     text.lines().map(str::to_string).collect()
 }
