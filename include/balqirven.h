@@ -31,6 +31,9 @@
  *   11  BQ_TOO_MANY_OVERRIDES     over 8 different labels in an override list
  *   12  BQ_OUTPUT_TOO_SHORT       the lent output is too short
  *   13  BQ_NO_SUCH_NUMBER         no rule or label of that number
+ *   14  BQ_BAD_RECORD             an old record has not 53 bytes, or a label place in it is all spaces, has another byte after a space or
+ *                                 does not end in a space
+ *   15  BQ_NOT_IN_A_RECORD        a line has a label over 23 bytes or a b, which no old record can hold
  *
  * Text is bytes with a length and no closing zero. A label has 1 to 255 bytes, each from 33 to 126, none of / \ ' ", and does not begin
  * with a dash.
@@ -50,7 +53,7 @@ extern "C" {
  * change; MAJOR, with MINOR at 0 again, where a struct, a size, a parameter or what a call answers changes, so that each host has to be
  * looked at and compiled again. */
 #define BQ_VERSION_MAJOR 1
-#define BQ_VERSION_MINOR 0
+#define BQ_VERSION_MINOR 1
 
 /* The sizes of the lent parts, in elements: bytes, bytes, 64-bit words, bytes. */
 #define BQ_LABELS 16384
@@ -62,7 +65,11 @@ extern "C" {
 #define BQ_LONGEST_LABEL 255
 #define BQ_LONGEST_RULE (2 * BQ_LONGEST_LABEL + 2 + 6 + 1)
 
+/* An old record, the fixed load form: two places of 24 bytes, each a label of 1 to 23 bytes at the left and spaces behind it, and five access
+ * bytes. The most bytes of a line that is made of one: two labels, two spaces, five letters and a newline, 54. */
 #define BQ_FIXED_RECORD 53
+#define BQ_FIXED_LABEL 23
+#define BQ_LONGEST_FIXED_LINE (2 * BQ_FIXED_LABEL + 2 + 5 + 1)
 
 /* A category n, 1 to 63, as the bit that it has in a set. */
 #define BQ_CATEGORY(n) ((uint64_t)1 << (64 - (n)))
@@ -135,7 +142,8 @@ typedef struct {
     bq_loader loader;
 } bq_finished;
 
-/* What the listing of a rule answers: how many bytes it wrote. */
+/* What a call that writes a text to a lent output answers: how many bytes it wrote at its front. The rest of the output stays as it was, and on a
+ * refusal all of it. */
 typedef struct {
     bool refused;
     uint8_t number;
@@ -261,7 +269,16 @@ bq_part bq_label(const uint8_t *labels, size_t labels_len, const uint8_t *entrie
 bq_written bq_label_check(const uint8_t *labels, size_t labels_len, const uint8_t *entries, size_t entries_len, const uint64_t *words,
                           size_t words_len, size_t k);
 
+/* ---- old records: nothing is lent but the two buffers, so 0 is never given */
+
+/* An old record as a rule line in the listing's form, with its newline, at the front of `out`; BQ_LONGEST_FIXED_LINE bytes are enough for any. The
+ * five access bytes are r w x a t in this order, each the letter of its place in either case or a dash. Both label places are judged before
+ * either label. Turned back by bq_line_to_record it is the same record, but for its letters, now small. Refusals: 14 3 4 5 12. */
 bq_length bq_record_to_line(const uint8_t *record, size_t record_len, uint8_t *out, size_t out_len);
+
+/* A rule line, with or without one closing newline, as an old record at the front of `out`: BQ_FIXED_RECORD bytes. A label is never cut: one over 23
+ * bytes is refused with 15. A line without fields is refused with 2; a second newline is a byte of its field. Turned back it is the listing's
+ * form of the line. Refusals: 1 2 3 4 5 15 12. */
 bq_length bq_line_to_record(const uint8_t *line, size_t line_len, uint8_t *out, size_t out_len);
 
 #ifdef __cplusplus

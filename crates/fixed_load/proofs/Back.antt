@@ -303,6 +303,17 @@ module _ (r t : List ℕ) (e : lineFrom r ≡ text t) where
       ∙ ap (ofRule ifItFits) (text-says (subjectIn r) (objectIn r) (modesIn r) (this .made .taken) known)
       ∙ rw fits (ap text lower-again)
 
+-- what it says is the rule whose record it is, in lower case
+says-record : (r s o : List ℕ) (m : ℕ) → recordSays r ≡ said.rule s o m → lowered r ≡ recordOf s o m
+unfolding lineFrom
+says-record r s o m e =
+    let q : lineFrom r ≡ text (textOf s o (modesText m)) = ap listed e in
+    let same : said.rule s o m ≡ rule (subjectIn r) (objectIn r) (modesIn r) = sym e ∙ accepted r (textOf s o (modesText m)) q .says in
+    let a : s ≡ subjectIn r = cc in
+    let b : o ≡ objectIn r = cc in
+    let c : m ≡ modesIn r = cc in
+    rw (a, b, c) (sym (lower-again r (textOf s o (modesText m)) q))
+
 -- ---- a rule's record
 
 -- of a rule that fits: 53 bytes, which say the rule
@@ -400,6 +411,7 @@ pub old-records : OldRecords
 unfolding lineFrom recordSays isRecord isPlace placeLabel filled inOwnPlaces recordFrom withoutNewline recordOf fitsARecord sameBytes all wellFormed labelByte isBlank fields allowedByte bitOf modesOf readModes modesText ruleOf ruleBy textOf
 old-records =
     record {
+      says = says-record;
       record-and-back = record-and-back;
       by-calls = back-by-calls;
       line-and-back = line-and-back;

@@ -90,7 +90,7 @@ recordSays r = cond (isRecord r) (saidBy (placeLabel (subjectPlace r)) (placeLab
 
 -- ---- a record to a line, in the listing's form
 
--- a text made of a rule that is said, or the refusal; a line that says no rule (it has no field) has the wrong number of fields
+-- a text made of a rule that is said, or the refusal; a line without a field, which is skipped where rule text is loaded, has the wrong number of fields here
 abbrev pub ofRule : (List ℕ → List ℕ → ℕ → Text) → Said → Text
 ofRule made said.skipped = refused wrongFields
 ofRule made (said.refused n) = refused n
@@ -163,6 +163,8 @@ BackByCalls r out back n =
     × (textOut (recordFrom (take n (textOut (lineFrom r) out))) back ≡ lowered r ++ drop recordSize back)
 
 pub record OldRecords : Type 0 where
+  -- what an accepted record says is the rule whose record it is, but for the case of its access letters
+  pub says : (r s o : List ℕ) (m : ℕ) → recordSays r ≡ said.rule s o m → lowered r ≡ recordOf s o m
   -- an accepted record turned there and back is the same but for its access letters, now in lower case: as texts, and as a host calls it
   pub record-and-back : (r t : List ℕ) → lineFrom r ≡ text t → recordFrom t ≡ text (lowered r)
   pub by-calls : (r out back : List ℕ) (n : ℕ) → textAnswer (lineFrom r) out ≡ output.Length n → recordSize ≤ length back → BackByCalls r out back n
