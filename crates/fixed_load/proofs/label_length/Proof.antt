@@ -2,7 +2,6 @@
 use Prim.Native.Nat.{_≤_, _-_}
 use mathlib.Core.Logic.{⊎-elim}
 use native.Mathlib.Omega.{arith}
-use borrow.Author.Needs.{needs}
 use Rattle.fixed_load.specs.Records.{labelPlace}
 use Rattle.fixed_load.proofs.Laws.{Scanned, scanned-none, scanned-byte, scanned-space, later-byte, only-spaces, too-many, label-found}
 use Rattle.fixed_load.proofs.label_length.Statement.{statement}

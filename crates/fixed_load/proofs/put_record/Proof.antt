@@ -1,5 +1,5 @@
 -- `fixed_load::put_record` meets its contract: the labels and the access bytes are written over spaces. Assumes nothing.
-use mathlib.Core.Path.{_≡_, sym, ap, _∙_}
+use mathlib.Core.Path.{sym, ap, _∙_}
 use mathlib.Core.List.{List}
 use Prim.Native.Nat.{ℕ}
 use Rattle.output.specs.Output.{putAnswer, putOut, Text, textAnswer, textOut}

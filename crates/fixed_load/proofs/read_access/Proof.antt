@@ -4,7 +4,7 @@ use mathlib.Core.Path.{_≡_, refl, sym, ap, _∙_}
 use mathlib.Core.Bool.{true}
 use native.Mathlib.Omega.{arith}
 use borrow.Author.Needs.{needs}
-use lib.ListN.{length, drop}
+use lib.ListN.{drop}
 use Rattle.modes.specs.Modes.{readModes}
 use Rattle.fixed_load.specs.Records.{fiveLetters, recordAccess}
 use Rattle.fixed_load.proofs.Laws.{placeBit, half-bit, one-byte, ownFrom, own-all, own-end, own-stop, own-more}

@@ -1,8 +1,7 @@
 -- `fixed_load::write_access` meets its contract: with i places passed, their bytes are written. Assumes nothing.
 use Prim.Native.Nat.{_≤_, _-_}
-use mathlib.Core.Path.{_≡_, refl, sym, ap, _∙_}
+use mathlib.Core.Path.{_≡_, refl, _∙_}
 use native.Mathlib.Omega.{arith}
-use borrow.Author.Needs.{needs}
 use lib.ListN.{length}
 use lib.Seq.{paste}
 use Rattle.fixed_load.specs.Records.{fiveLetters, inPlaces}
