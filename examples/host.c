@@ -1,10 +1,12 @@
-/* A host of the library in C: it loads a rule file in pieces, asks, changes, revokes, maps and lists.
+/* A host of the library in C: it loads a rule file in pieces, asks, changes, revokes, maps and lists, and turns a file of old records into
+ * rules and back.
  *
- *   gcc -O2 -Iinclude examples/host.c target/staticlib/libhost.a -o host && ./host examples/store_north.rules
+ *   gcc -O2 -Iinclude examples/host.c target/staticlib/libhost.a -o host && ./host examples/store_north.rules examples/old_logger.records
  *
  * examples/host.rs is the same in Rust; both write examples/host.expected. */
 #include "balqirven.h"
 
+#include <ctype.h>
 #include <stdio.h>
 #include <string.h>
 
@@ -29,6 +31,19 @@ static bool done(const char *call, bq_written w)
     if (refused(call, w.refused, w.number))
         return false;
     printf("%s: done\n", call);
+    return true;
+}
+
+/* Ends the text and prints its report. */
+static bool finish(bq_loader loader)
+{
+    bq_finished end = bq_end(TABLES, line, BQ_LINE, loader);
+    if (refused("end call", end.refused, end.number))
+        return false;
+    printf("load: %u lines, %u accepted, %u skipped, %u refused", end.report.lines, end.report.accepted, end.report.skipped, end.report.refused);
+    if (end.report.refused > 0)
+        printf(", the first at line %u for reason %d", end.report.first, end.report.reason);
+    printf("\n");
     return true;
 }
 
@@ -57,14 +72,7 @@ static bool load(const char *path)
         return false;
     }
     fclose(file);
-    bq_finished end = bq_end(TABLES, line, BQ_LINE, loader);
-    if (refused("end call", end.refused, end.number))
-        return false;
-    printf("load: %u lines, %u accepted, %u skipped, %u refused", end.report.lines, end.report.accepted, end.report.skipped, end.report.refused);
-    if (end.report.refused > 0)
-        printf(", the first at line %u for reason %d", end.report.first, end.report.reason);
-    printf("\n");
-    return true;
+    return finish(loader);
 }
 
 static void ask(const char *subject, const char *object, const char *request, bool capable)
@@ -129,10 +137,121 @@ static void list(void)
     }
 }
 
+/* What the two calls of old records refuse, in words. */
+static const char *in_words(uint8_t number)
+{
+    switch (number) {
+    case BQ_TOO_LONG:
+        return "it has over 600 bytes";
+    case BQ_WRONG_FIELDS:
+        return "it does not have three fields";
+    case BQ_BAD_LABEL:
+        return "a label is not well formed";
+    case BQ_BAD_ACCESS:
+        return "an access byte is not allowed where it stands";
+    case BQ_SAME_LABELS:
+        return "subject and object are the same label";
+    case BQ_OUTPUT_TOO_SHORT:
+        return "the lent output is too short";
+    case BQ_BAD_RECORD:
+        return "it does not have 53 bytes, or a label place is all spaces, has another byte after a space or does not end in a space";
+    case BQ_NOT_IN_A_RECORD:
+        return "a label has over 23 bytes, or there is a b; no old record holds that, and a label is never cut";
+    default:
+        return "no reason that these calls give";
+    }
+}
+
+/* Turns each record of a file into its line and loads the lines as rule text. A refused record gives no line, and the others load all the same;
+ * so the report counts lines, not records. */
+static bool load_records(FILE *file)
+{
+    uint8_t record[BQ_FIXED_RECORD], text[BQ_LONGEST_FIXED_LINE];
+    size_t n;
+    bq_loader loader = bq_fresh_loader();
+    for (size_t k = 1; (n = fread(record, 1, sizeof record, file)) > 0; k++) {
+        bq_length r = bq_record_to_line(record, n, text, sizeof text); /* of a file cut short, the rest is refused with BQ_BAD_RECORD */
+        if (r.refused) {
+            printf("record %zu is refused with %d: %s\n", k, r.number, in_words(r.number));
+            continue;
+        }
+        bq_taken taken = bq_piece(TABLES, line, BQ_LINE, loader, text, r.length);
+        if (refused("piece", taken.refused, taken.number))
+            return false;
+        loader = taken.loader;
+    }
+    return !ferror(file) && finish(loader);
+}
+
+/* Whether the file has this record, but for capital letters in the access bytes; in labels they count. */
+static bool has(FILE *file, const uint8_t *record)
+{
+    uint8_t old[BQ_FIXED_RECORD];
+    rewind(file);
+    while (fread(old, 1, sizeof old, file) == sizeof old) {
+        for (size_t i = 2 * (BQ_FIXED_LABEL + 1); i < sizeof old; i++)
+            old[i] = (uint8_t)tolower(old[i]);
+        if (memcmp(old, record, sizeof old) == 0)
+            return true;
+    }
+    return false;
+}
+
+/* Turns every rule back into a record. True where the file has each of them. */
+static bool back_to_records(FILE *file)
+{
+    uint8_t rule[BQ_LONGEST_RULE], record[BQ_FIXED_RECORD];
+    size_t k, back = 0;
+    for (k = 0;; k++) {
+        bq_length listed = bq_list_rule(TABLES, k, rule, sizeof rule);
+        if (listed.refused && listed.number == BQ_NO_SUCH_NUMBER)
+            break;
+        if (refused("listing", listed.refused, listed.number))
+            return false;
+        bq_length r = bq_line_to_record(rule, listed.length, record, sizeof record);
+        if (r.refused)
+            printf("rule %zu is refused with %d: %s\n", k, r.number, in_words(r.number));
+        else if (!has(file, record))
+            printf("rule %zu came back as a record that the file does not have\n", k);
+        else
+            back++;
+    }
+    printf("%zu of %zu rules came back as records of the file, but for capital letters\n", back, k);
+    return back == k;
+}
+
+static void show_record(const char *rule)
+{
+    uint8_t record[BQ_FIXED_RECORD];
+    bq_length r = bq_line_to_record(TEXT(rule), record, sizeof record);
+    if (r.refused)
+        printf("'%s' is refused with %d: %s\n", rule, r.number, in_words(r.number));
+    else
+        printf("'%s' as a record: '%.*s'\n", rule, (int)r.length, (const char *)record);
+}
+
+/* Old records to rules in a fresh table, which can be made of damaged parts too, and back. */
+static bool old_records(const char *path)
+{
+    FILE *file = fopen(path, "rb");
+    if (!file) {
+        perror(path);
+        return false;
+    }
+    bool loaded = done("fresh table", bq_fresh_table(TABLES)) && load_records(file);
+    if (ferror(file))
+        perror(path);
+    if (loaded)
+        list();
+    bool same = loaded && back_to_records(file);
+    fclose(file);
+    return same;
+}
+
 int main(int argc, char **argv)
 {
-    if (argc != 2) {
-        fprintf(stderr, "usage: host RULEFILE\n");
+    if (argc != 3) {
+        fprintf(stderr, "usage: host RULEFILE RECORDFILE\n");
         return 2;
     }
     if (!done("fresh table", bq_fresh_table(TABLES)) || !load(argv[1]))
@@ -164,5 +283,10 @@ int main(int argc, char **argv)
 
     words[1] = 257; /* a damaged state: every call refuses it with BQ_DAMAGED, and leaves it as it is */
     done("change on 257 rules", bq_change(TABLES, TEXT("Alarm Archive r -")));
+
+    if (!old_records(argv[2]))
+        return 1;
+    show_record("Alarm Archive ra");
+    show_record("ClimateProbe_StoreNorth_01_Temp Air_StoreNorth_01 w"); /* BQ_NOT_IN_A_RECORD */
     return 0;
 }

@@ -1,6 +1,7 @@
-//! A host of the library in Rust: it loads a rule file in pieces, asks, changes, revokes, maps and lists.
+//! A host of the library in Rust: it loads a rule file in pieces, asks, changes, revokes, maps and lists, and turns a file of old records into
+//! rules and back.
 //!
-//!   rustc -O --edition 2021 -L target/staticlib examples/host.rs -o host && ./host examples/store_north.rules
+//!   rustc -O --edition 2021 -L target/staticlib examples/host.rs -o host && ./host examples/store_north.rules examples/old_logger.records
 //!
 //! examples/host.c is the same in C; both write examples/host.expected. The module `balqirven` is the interface with safe functions:
 //! copy it. A slice gives what include/balqirven.h asks of a host (valid pointers, parts that do not overlap), so nothing else has to be tested.
@@ -15,6 +16,11 @@ mod balqirven {
     /// The most bytes of a label, and of a listed rule: two labels, two spaces, six letters and a newline.
     pub const LONGEST_LABEL: usize = 255;
     pub const LONGEST_RULE: usize = 2 * LONGEST_LABEL + 2 + 6 + 1;
+
+    /// The bytes of an old record, and the most bytes of a label in it and of the line that is made of it.
+    pub const FIXED_RECORD: usize = 53;
+    pub const FIXED_LABEL: usize = 23;
+    pub const LONGEST_FIXED_LINE: usize = 2 * FIXED_LABEL + 2 + 5 + 1;
 
     /// The category n, 1 to 63, as the bit that it has in a set.
     pub fn category(n: u32) -> u64 {
@@ -146,6 +152,8 @@ mod balqirven {
         fn bq_question(l: Bytes, ln: usize, e: Bytes, en: usize, w: *const u64, wn: usize, subject: Bytes, subject_n: usize, object: Bytes, object_n: usize, request: Bytes, request_n: usize, capable: bool) -> Shown;
         fn bq_list_rule(l: Bytes, ln: usize, e: Bytes, en: usize, w: *const u64, wn: usize, k: usize, out: *mut u8, out_n: usize) -> Length;
         fn bq_label(l: Bytes, ln: usize, e: Bytes, en: usize, w: *const u64, wn: usize, k: usize) -> Part;
+        fn bq_record_to_line(record: Bytes, record_n: usize, out: *mut u8, out_n: usize) -> Length;
+        fn bq_line_to_record(line: Bytes, line_n: usize, out: *mut u8, out_n: usize) -> Length;
     }
 
     /// A refusal, by 01's number; what each means, include/balqirven.h says.
@@ -167,6 +175,8 @@ mod balqirven {
         pub const TOO_MANY_OVERRIDES: Refused = Refused(11);
         pub const OUTPUT_TOO_SHORT: Refused = Refused(12);
         pub const NO_SUCH_NUMBER: Refused = Refused(13);
+        pub const BAD_RECORD: Refused = Refused(14);
+        pub const NOT_IN_A_RECORD: Refused = Refused(15);
     }
 
     /// The answer to a question: rule numbers are 01's.
@@ -202,6 +212,10 @@ mod balqirven {
             NO_LABEL => Ok(None),
             _ => Err(Refused(w.number)),
         }
+    }
+
+    fn front(r: Length, out: &[u8]) -> Result<&[u8], Refused> {
+        if r.refused { Err(Refused(r.number)) } else { Ok(&out[..r.length]) }
     }
 
     // The three parts as pointers and lengths: to write, to read, or with only the entries to write.
@@ -266,8 +280,7 @@ mod balqirven {
 
         /// Rule k as a line, at the front of `out`; LONGEST_RULE bytes are enough for any.
         pub fn list_rule<'a>(&self, k: usize, out: &'a mut [u8]) -> Result<&'a [u8], Refused> {
-            let r = call!(bq_list_rule, read self, k, out.as_mut_ptr(), out.len());
-            if r.refused { Err(Refused(r.number)) } else { Ok(&out[..r.length]) }
+            front(call!(bq_list_rule, read self, k, out.as_mut_ptr(), out.len()), out)
         }
 
         /// Label k: the very part of the label store that holds it.
@@ -280,6 +293,16 @@ mod balqirven {
     /// The lowest label number of a run's records that have this level and this set.
     pub fn lowest_in_run(run: &[Record], level: u64, set: u64) -> Result<Option<usize>, Refused> {
         found(unsafe { bq_lowest_in_run(run.as_ptr(), run.len(), level, set) })
+    }
+
+    /// An old record as a rule line, at the front of `out`; LONGEST_FIXED_LINE bytes are enough for any.
+    pub fn record_to_line<'a>(record: &[u8], out: &'a mut [u8]) -> Result<&'a [u8], Refused> {
+        front(unsafe { bq_record_to_line(record.as_ptr(), record.len(), out.as_mut_ptr(), out.len()) }, out)
+    }
+
+    /// A rule line as an old record, FIXED_RECORD bytes at the front of `out`.
+    pub fn line_to_record<'a>(line: &[u8], out: &'a mut [u8]) -> Result<&'a [u8], Refused> {
+        front(unsafe { bq_line_to_record(line.as_ptr(), line.len(), out.as_mut_ptr(), out.len()) }, out)
     }
 
     /// Rule text on its way into tables.
@@ -307,7 +330,8 @@ mod balqirven {
     }
 }
 
-use balqirven::{category, lowest_in_run, Answer, Load, Record, Refused, Tables, LONGEST_RULE};
+use balqirven::{category, line_to_record, lowest_in_run, record_to_line, Answer, Load, Record, Refused, Tables};
+use balqirven::{FIXED_LABEL, FIXED_RECORD, LONGEST_FIXED_LINE, LONGEST_RULE};
 use std::fs::File;
 use std::io::Read;
 
@@ -328,6 +352,23 @@ fn done(call: &str, answer: Result<(), Refused>) {
     }
 }
 
+fn fresh() -> Option<Box<Tables>> {
+    let tables = accepted("fresh table", Tables::fresh())?;
+    println!("fresh table: done");
+    Some(tables)
+}
+
+/// Ends the text and prints its report.
+fn finish(t: &mut Tables, text: &mut Load) -> Option<()> {
+    let r = accepted("end call", text.end(t))?;
+    print!("load: {} lines, {} accepted, {} skipped, {} refused", r.lines, r.accepted, r.skipped, r.refused);
+    if r.refused > 0 {
+        print!(", the first at line {} for reason {}", r.first, r.reason);
+    }
+    println!();
+    Some(())
+}
+
 /// Loads a file in pieces of a size that has nothing to do with its lines. None where a call was refused.
 fn load(t: &mut Tables, path: &str) -> std::io::Result<Option<()>> {
     let mut file = File::open(path)?;
@@ -342,15 +383,7 @@ fn load(t: &mut Tables, path: &str) -> std::io::Result<Option<()>> {
             return Ok(None);
         }
     }
-    let Some(r) = accepted("end call", text.end(t)) else {
-        return Ok(None);
-    };
-    print!("load: {} lines, {} accepted, {} skipped, {} refused", r.lines, r.accepted, r.skipped, r.refused);
-    if r.refused > 0 {
-        print!(", the first at line {} for reason {}", r.first, r.reason);
-    }
-    println!();
-    Ok(Some(()))
+    Ok(finish(t, &mut text))
 }
 
 fn ask(t: &Tables, subject: &str, object: &str, request: &str, capable: bool) {
@@ -405,17 +438,86 @@ fn list(t: &Tables) {
     }
 }
 
-fn main() {
-    let Some(path) = std::env::args().nth(1) else {
-        eprintln!("usage: host RULEFILE");
-        std::process::exit(2);
+/// What the two calls of old records refuse, in words.
+fn in_words(refusal: Refused) -> &'static str {
+    match refusal {
+        Refused::TOO_LONG => "it has over 600 bytes",
+        Refused::WRONG_FIELDS => "it does not have three fields",
+        Refused::BAD_LABEL => "a label is not well formed",
+        Refused::BAD_ACCESS => "an access byte is not allowed where it stands",
+        Refused::SAME_LABELS => "subject and object are the same label",
+        Refused::OUTPUT_TOO_SHORT => "the lent output is too short",
+        Refused::BAD_RECORD => "it does not have 53 bytes, or a label place is all spaces, has another byte after a space or does not end in a space",
+        Refused::NOT_IN_A_RECORD => "a label has over 23 bytes, or there is a b; no old record holds that, and a label is never cut",
+        _ => "no reason that these calls give",
+    }
+}
+
+/// Turns each record of a file into its line and loads the lines as rule text. A refused record gives no line, and the others load all the
+/// same; so the report counts lines, not records.
+fn load_records(t: &mut Tables, file: &[u8]) -> Option<()> {
+    let mut out = [0; LONGEST_FIXED_LINE];
+    let mut text = Load::fresh();
+    for (k, record) in (1..).zip(file.chunks(FIXED_RECORD)) {
+        // of a file cut short, the rest is refused with BAD_RECORD
+        match record_to_line(record, &mut out) {
+            Ok(line) => accepted("piece", text.piece(t, line))?,
+            Err(refusal) => println!("record {k} is refused with {}: {}", refusal.0, in_words(refusal)),
+        }
+    }
+    finish(t, &mut text)
+}
+
+/// Whether the file has this record, but for capital letters in the access bytes; in labels they count.
+fn has(file: &[u8], record: &[u8]) -> bool {
+    let (labels, access) = record.split_at(2 * (FIXED_LABEL + 1));
+    file.chunks_exact(FIXED_RECORD).any(|old| old.starts_with(labels) && old[labels.len()..].to_ascii_lowercase() == access)
+}
+
+/// Turns every rule back into a record. None where the file does not have each of them.
+fn back_to_records(t: &Tables, file: &[u8]) -> Option<()> {
+    let mut out = [0; LONGEST_RULE];
+    let mut record = [0; FIXED_RECORD];
+    let (mut k, mut back) = (0, 0);
+    loop {
+        let rule = match t.list_rule(k, &mut out) {
+            Err(Refused::NO_SUCH_NUMBER) => break,
+            answer => accepted("listing", answer)?,
+        };
+        match line_to_record(rule, &mut record) {
+            Err(refusal) => println!("rule {k} is refused with {}: {}", refusal.0, in_words(refusal)),
+            Ok(record) if !has(file, record) => println!("rule {k} came back as a record that the file does not have"),
+            Ok(_) => back += 1,
+        }
+        k += 1;
+    }
+    println!("{back} of {k} rules came back as records of the file, but for capital letters");
+    (back == k).then_some(())
+}
+
+fn show_record(rule: &str) {
+    match line_to_record(rule.as_bytes(), &mut [0; FIXED_RECORD]) {
+        Err(refusal) => println!("'{rule}' is refused with {}: {}", refusal.0, in_words(refusal)),
+        Ok(record) => println!("'{rule}' as a record: '{}'", String::from_utf8_lossy(record)),
+    }
+}
+
+/// Old records to rules in a fresh table, and back.
+fn old_records(path: &str) -> std::io::Result<Option<()>> {
+    let file = std::fs::read(path)?;
+    let Some(mut t) = fresh() else {
+        return Ok(None);
     };
-    let Some(mut tables) = accepted("fresh table", Tables::fresh()) else {
-        std::process::exit(1);
-    };
-    println!("fresh table: done");
-    let t = &mut *tables;
-    match load(t, &path) {
+    if load_records(&mut t, &file).is_none() {
+        return Ok(None);
+    }
+    list(&t);
+    Ok(back_to_records(&t, &file))
+}
+
+/// Leaves with a failing status where a file could not be read or what was to be done with it was not.
+fn or_exit(path: &str, answer: std::io::Result<Option<()>>) {
+    match answer {
         Err(error) => {
             eprintln!("{path}: {error}");
             std::process::exit(1);
@@ -423,6 +525,19 @@ fn main() {
         Ok(None) => std::process::exit(1),
         Ok(Some(())) => {}
     }
+}
+
+fn main() {
+    let arguments: Vec<String> = std::env::args().collect();
+    let [_, rules, records] = &arguments[..] else {
+        eprintln!("usage: host RULEFILE RECORDFILE");
+        std::process::exit(2);
+    };
+    let Some(mut tables) = fresh() else {
+        std::process::exit(1);
+    };
+    let t = &mut *tables;
+    or_exit(rules, load(t, rules));
     ask(t, "ClimateProbe_StoreNorth_01_Temp", "Air_StoreNorth_01", "w", false);
     ask(t, "ClimateProbe_StoreNorth_01_Temp", "Air_StoreNorth_02", "w", false);
     ask(t, "Alarm", "Air_StoreNorth_02", "r", false);
@@ -452,4 +567,8 @@ fn main() {
 
     t.words[1] = 257; // a damaged state: every call refuses it with DAMAGED, and leaves it as it is
     done("change on 257 rules", t.change(b"Alarm Archive r -"));
+
+    or_exit(records, old_records(records));
+    show_record("Alarm Archive ra");
+    show_record("ClimateProbe_StoreNorth_01_Temp Air_StoreNorth_01 w"); // NOT_IN_A_RECORD
 }
