@@ -189,7 +189,7 @@ static bool has(FILE *file, const uint8_t *record)
     uint8_t old[BQ_FIXED_RECORD];
     rewind(file);
     while (fread(old, 1, sizeof old, file) == sizeof old) {
-        for (size_t i = 2 * (BQ_FIXED_LABEL + 1); i < sizeof old; i++)
+        for (size_t i = 2 * BQ_FIXED_PLACE; i < sizeof old; i++)
             old[i] = (uint8_t)tolower(old[i]);
         if (memcmp(old, record, sizeof old) == 0)
             return true;

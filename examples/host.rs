@@ -19,6 +19,7 @@ mod balqirven {
 
     /// The bytes of an old record, and the most bytes of a label in it and of the line that is made of it.
     pub const FIXED_RECORD: usize = 53;
+    pub const FIXED_PLACE: usize = 24;
     pub const FIXED_LABEL: usize = 23;
     pub const LONGEST_FIXED_LINE: usize = 2 * FIXED_LABEL + 2 + 5 + 1;
 
@@ -331,7 +332,7 @@ mod balqirven {
 }
 
 use balqirven::{category, line_to_record, lowest_in_run, record_to_line, Answer, Load, Record, Refused, Tables};
-use balqirven::{FIXED_LABEL, FIXED_RECORD, LONGEST_FIXED_LINE, LONGEST_RULE};
+use balqirven::{FIXED_PLACE, FIXED_RECORD, LONGEST_FIXED_LINE, LONGEST_RULE};
 use std::fs::File;
 use std::io::Read;
 
@@ -470,7 +471,7 @@ fn load_records(t: &mut Tables, file: &[u8]) -> Option<()> {
 
 /// Whether the file has this record, but for capital letters in the access bytes; in labels they count.
 fn has(file: &[u8], record: &[u8]) -> bool {
-    let (labels, access) = record.split_at(2 * (FIXED_LABEL + 1));
+    let (labels, access) = record.split_at(2 * FIXED_PLACE);
     file.chunks_exact(FIXED_RECORD).any(|old| old.starts_with(labels) && old[labels.len()..].to_ascii_lowercase() == access)
 }
 

@@ -68,6 +68,7 @@ extern "C" {
 /* An old record, the fixed load form: two places of 24 bytes, each a label of 1 to 23 bytes at the left and spaces behind it, and five access
  * bytes. The most bytes of a line that is made of one: two labels, two spaces, five letters and a newline, 54. */
 #define BQ_FIXED_RECORD 53
+#define BQ_FIXED_PLACE 24
 #define BQ_FIXED_LABEL 23
 #define BQ_LONGEST_FIXED_LINE (2 * BQ_FIXED_LABEL + 2 + 5 + 1)
 
@@ -269,16 +270,16 @@ bq_part bq_label(const uint8_t *labels, size_t labels_len, const uint8_t *entrie
 bq_written bq_label_check(const uint8_t *labels, size_t labels_len, const uint8_t *entries, size_t entries_len, const uint64_t *words,
                           size_t words_len, size_t k);
 
-/* ---- old records: nothing is lent but the two buffers, so 0 is never given */
+/* ---- old records, which are bytes (a bq_record is something else, of a run). Nothing is lent but the two buffers, so 0 is never given */
 
 /* An old record as a rule line in the listing's form, with its newline, at the front of `out`; BQ_LONGEST_FIXED_LINE bytes are enough for any. The
  * five access bytes are r w x a t in this order, each the letter of its place in either case or a dash. Both label places are judged before
- * either label. Turned back by bq_line_to_record it is the same record, but for its letters, now small. Refusals: 14 3 4 5 12. */
+ * either label. The line, turned back by bq_line_to_record, is the same record, but for its letters, now small. Refusals: 14 3 4 5 12. */
 bq_length bq_record_to_line(const uint8_t *record, size_t record_len, uint8_t *out, size_t out_len);
 
 /* A rule line, with or without one closing newline, as an old record at the front of `out`: BQ_FIXED_RECORD bytes. A label is never cut: one over 23
- * bytes is refused with 15. A line without fields is refused with 2; a second newline is a byte of its field. Turned back it is the listing's
- * form of the line. Refusals: 1 2 3 4 5 15 12. */
+ * bytes is refused with 15. A line without fields is refused with 2; a second newline is a byte of its field. The record, turned back by
+ * bq_record_to_line, is the listing's form of the line. Refusals: 1 2 3 4 5 15 12. */
 bq_length bq_line_to_record(const uint8_t *line, size_t line_len, uint8_t *out, size_t out_len);
 
 #ifdef __cplusplus
