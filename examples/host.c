@@ -216,7 +216,7 @@ static bool back_to_records(FILE *file)
         else
             back++;
     }
-    printf("%zu of %zu rules came back as records of the file, but for capital letters\n", back, k);
+    printf("%zu of %zu rules came back as records of the file, but for the case of access letters\n", back, k);
     return back == k;
 }
 

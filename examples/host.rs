@@ -157,7 +157,7 @@ mod balqirven {
         fn bq_line_to_record(line: Bytes, line_n: usize, out: *mut u8, out_n: usize) -> Length;
     }
 
-    /// A refusal, by 01's number; what each means, include/balqirven.h says.
+    /// A refusal, by its number; what each means, include/balqirven.h says.
     #[derive(Clone, Copy, Debug, PartialEq, Eq)]
     pub struct Refused(pub u8);
 
@@ -492,7 +492,7 @@ fn back_to_records(t: &Tables, file: &[u8]) -> Option<()> {
         }
         k += 1;
     }
-    println!("{back} of {k} rules came back as records of the file, but for capital letters");
+    println!("{back} of {k} rules came back as records of the file, but for the case of access letters");
     (back == k).then_some(())
 }
 

@@ -8,7 +8,7 @@
  * are the host's duty, since no callee can test them:
  *   - a pointer is not NULL, also where its length is 0, and that many elements can be read there (and written, where the call takes it
  *     without const); a pointer to 64-bit words is a multiple of 8;
- *   - parts that one call gets do not overlap, unless it gets both with const;
+ *   - parts and buffers that one call gets do not overlap, unless it gets both with const: so nothing is turned in place;
  *   - nobody else writes a part during a call.
  * No call keeps a pointer. No call allocates, prints, or waits.
  *
@@ -21,7 +21,8 @@
  *    1  BQ_TOO_LONG               a line or a write has over 600 bytes
  *    2  BQ_WRONG_FIELDS           wrong number of fields: not 3 (line), not 4 (change), under 2 (mapping), none (override list)
  *    3  BQ_BAD_LABEL              a label is not well formed
- *    4  BQ_BAD_ACCESS             an access field has a byte that is not allowed there
+ *    4  BQ_BAD_ACCESS             an access field has a byte that is not allowed there; an access byte of an old record is neither a dash nor
+ *                                 the letter of its place
  *    5  BQ_SAME_LABELS            subject equals object
  *    6  BQ_LABELS_FULL            more new labels than free label places
  *    7  BQ_RULES_FULL             256 rules are stored, and the pair has none
@@ -274,12 +275,14 @@ bq_written bq_label_check(const uint8_t *labels, size_t labels_len, const uint8_
 
 /* An old record as a rule line in the listing's form, with its newline, at the front of `out`; BQ_LONGEST_FIXED_LINE bytes are enough for any. The
  * five access bytes are r w x a t in this order, each the letter of its place in either case or a dash. Both label places are judged before
- * either label. The line, turned back by bq_line_to_record, is the same record, but for its letters, now small. Refusals: 14 3 4 5 12. */
+ * either label. The line, turned back by bq_line_to_record, is the same record but for its access letters, now in lower case; labels keep every
+ * byte. Refusals: 14 3 4 5 12. */
 bq_length bq_record_to_line(const uint8_t *record, size_t record_len, uint8_t *out, size_t out_len);
 
-/* A rule line, with or without one closing newline, as an old record at the front of `out`: BQ_FIXED_RECORD bytes. A label is never cut: one over 23
- * bytes is refused with 15. A line without fields is refused with 2; a second newline is a byte of its field. The record, turned back by
- * bq_record_to_line, is the listing's form of the line. Refusals: 1 2 3 4 5 15 12. */
+/* A rule line, with or without one closing newline, as an old record at the front of `out`: BQ_FIXED_RECORD bytes. That newline does not count among
+ * the 600 bytes; any other is a byte of its field, or a field of its own behind a blank. A line without fields is refused with 2. A label is never
+ * cut: one over 23 bytes is refused with 15, and so is a b. The record, turned back by bq_record_to_line, is the listing's form of the line.
+ * Refusals: 1 2 3 4 5 15 12. */
 bq_length bq_line_to_record(const uint8_t *line, size_t line_len, uint8_t *out, size_t out_len);
 
 #ifdef __cplusplus

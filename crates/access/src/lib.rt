@@ -46,10 +46,8 @@ const HAT: u8 = b'^';
 
 const STAR: u8 = b'*';
 
-// The bits of r and x, and of b.
+// The bits of r and x.
 const READ_EXECUTE: u8 = 40;
-
-const BRING_UP: u8 = 1;
 
 // Whether a label is one byte, that one. Labels with a rule of their own are known by their bytes: a lent table may hold others in places
 // 0 to 2.
@@ -166,7 +164,7 @@ fn by_table(
     };
     let modes = entries[store::MODES_FROM + k];
     if wanted & modes == wanted {
-        return Answer::Granted(6, BRING_UP & modes == BRING_UP);
+        return Answer::Granted(6, modes::BRING_UP & modes == modes::BRING_UP);
     }
     denied(entries, words, s, Denial::AnyOther, capable)
 }

@@ -162,10 +162,6 @@ pub record ExportedCalls : Type 0 where
   pub label-by-number : Promise label.ended label-reads.Asked label-reads.Learnt
       (λ κs a r l. (r ≡ partShown (fourth a) (length (labelGiven (lent a) (fourth a))) (labelAnswer (lent a) (fourth a)))
       × (take (r .length) (drop (r .start) (now (first a))) ≡ labelGiven (lent a) (fourth a)) × (l ≡ (tt, (tt, (tt, (tt, tt))))))
-  -- the very part of the lent labels, as a host in Rattle gets it: its bytes, and where it points
-  pub label-part : Promise label-part.ended label-part-reads.Asked label-part-reads.Learnt
-      (λ κs a r l. (now r ≡ labelGiven (lent a) (fourth a)) × PartFrom r (first a) (labelFrom (labelAnswer (lent a) (fourth a)) (fourth a))
-      × (l ≡ (tt, (tt, (tt, (tt, tt))))))
   -- an old record as a rule line, and a rule line as an old record, at the front of the lent buffer
   pub record-to-line : Promise record-to-line.ended record-to-line-reads.Asked record-to-line-reads.Learnt
       (λ κs a r l. (r ≡ outputShown (textAnswer (lineFrom (now (first a))) (now (second a))))
@@ -173,3 +169,7 @@ pub record ExportedCalls : Type 0 where
   pub line-to-record : Promise line-to-record.ended line-to-record-reads.Asked line-to-record-reads.Learnt
       (λ κs a r l. (r ≡ outputShown (textAnswer (recordFrom (now (first a))) (now (second a))))
       × (second l ≡ textOut (recordFrom (now (first a))) (now (second a))) × (first l ≡ tt))
+  -- the very part of the lent labels, as a host in Rattle gets it: its bytes, and where it points
+  pub label-part : Promise label-part.ended label-part-reads.Asked label-part-reads.Learnt
+      (λ κs a r l. (now r ≡ labelGiven (lent a) (fourth a)) × PartFrom r (first a) (labelFrom (labelAnswer (lent a) (fourth a)) (fourth a))
+      × (l ≡ (tt, (tt, (tt, (tt, tt))))))

@@ -13,7 +13,7 @@ use Rattle.store.specs.Table.{Table, fresh, labelLimit, ruleLimit, mappingLimit
 use Rattle.reports.specs.Report.{countLimit, freshLoader}
 use Rattle.load.specs.Loader.{Load, ready, endAfter}
 use Rattle.rule_text.specs.RuleText.{longestRule}
-use Rattle.fixed_load.specs.Records.{recordLabel, recordSize}
+use Rattle.fixed_load.specs.Records.{recordLabel, labelPlace, recordSize}
 use Rattle.access.specs.declared.Denial.the-variants.{StarSubject, AnyOther}
 use Rattle.access.specs.declared.Answer.the-variants as answer
 use Rattle.lookups.specs.declared.Lookup.the-variants as lookup
@@ -62,10 +62,11 @@ pub record NumbersOf01 : Type 0 where
   pub found : (k : ℕ) → searchShown (label.Number k) ≡ record { kind = 0; number = 0; label = k }
   pub none : searchShown label.Nothing ≡ record { kind = 1; number = 0; label = 0 }
   pub search-refused : (n : ℕ) → searchShown (label.Refused n) ≡ record { kind = 2; number = n; label = 0 }
-  -- a listed rule: its length, or refused
+  -- a text written to a lent output, as a listed rule is: its length, or refused
   pub listed : (k : ℕ) → outputShown (output.Length k) ≡ record { refused = false; number = 0; length = k }
   pub not-listed : (n : ℕ) → outputShown (output.Refused n) ≡ record { refused = true; number = n; length = 0 }
 
--- what 02 adds, request by request. One: the refusals 14 and 15; the most bytes of a label in an old record, and the bytes of the record
+-- what 02 adds, request by request. One: the refusals 14 and 15; the most bytes of a label in an old record, the bytes of a label's place, and those
+-- of the record
 pub record NumbersOf02 : Type 0 where
-  pub old-records : (refusal.badRecord ∷ refusal.notInARecord ∷ recordLabel ∷ recordSize ∷ []) ≡ 14 ∷ 15 ∷ 23 ∷ 53 ∷ []
+  pub old-records : (refusal.badRecord ∷ refusal.notInARecord ∷ recordLabel ∷ labelPlace ∷ recordSize ∷ []) ≡ 14 ∷ 15 ∷ 23 ∷ 24 ∷ 53 ∷ []

@@ -287,7 +287,7 @@ endsInSpace (b ∷ c ∷ bs) = endsInSpace (c ∷ bs)
 abbrev pub badPlace : List ℕ → Bool
 badPlace place = allSpaces place || (byteAfterSpace place || not (endsInSpace place))
 
--- access byte k, from 0, is none of its own: the letter of its place, either case, and a dash
+-- access byte k, from 0, is none of those that its place may have
 abbrev pub otherByte : List ℕ → ℕ → List ℕ → Bool
 otherByte access k own = not (oneOf own (getD access k 0))
 
@@ -307,7 +307,7 @@ recordSubject r = placeLabel (subjectPlace r)
 abbrev pub recordObject : List ℕ → List ℕ
 recordObject r = placeLabel (objectPlace r)
 
--- of the record: a length other than 53 or a bad label place, and then as of a line. The line is written in the listing's form
+-- of the record: a length other than 53 or a bad label place; then its labels, its access bytes, and the line, which is written in the listing's form
 abbrev pub recordFaults : List ℕ → List ℕ → List Fault
 recordFaults r out =
     refusal.badRecord when (not (eqb (length r) recordSize) || (badPlace (subjectPlace r) || badPlace (objectPlace r)))

@@ -27,7 +27,7 @@ use Rattle.output.specs.Output.{Text, text, refused, textAnswer, textOut}
 use Rattle.output.proofs.Laws.{length-answered}
 use Rattle.rule_text.specs.RuleText.{lineOf, textOf}
 use Rattle.rule_text.proofs.Laws.{noNewline, label-word, text-plain, text-says}
-use Rattle.fixed_load.specs.Records.{labelPlace, subjectPlace, objectPlace, accessBytes, spaces, filled, placeLabel, isPlace, fiveLetters, inOwnPlaces, isRecord, saidBy, recordSays, ofRule, listed, lineFrom, withoutNewline, inPlaces, recordOf, fitsARecord, ifItFits, recordFrom, lowerCase, lowered, recordSize, OneLine, ListingForm, BackByCalls, OldRecords}
+use Rattle.fixed_load.specs.Records.{labelPlace, subjectPlace, objectPlace, accessBytes, spaces, filled, placeLabel, isPlace, fiveLetters, inOwnPlaces, isRecord, saidBy, recordSays, ofRule, listed, lineFrom, withoutNewline, inPlaces, recordOf, fitsARecord, ifItFits, recordFrom, lowerCase, lowered, recordSize, OneLine, listingLine, InForm, BackByCalls, OldRecords}
 use Rattle.fixed_load.proofs.Laws.{filled-length, Place, place-is}
 
 -- ---- the access bytes of a record
@@ -381,15 +381,34 @@ line-fitted : (l t : List ℕ) → recordFrom l ≡ text t → Fitted (ruleOf (w
 unfolding recordFrom
 line-fitted l t e = fitted (ruleOf (withoutNewline l)) t (rule-sound (withoutNewline l)) e
 
-line-and-back : (l t : List ℕ) → recordFrom l ≡ text t → ListingForm (ruleOf (withoutNewline l)) (lineFrom t)
-unfolding recordFrom lineFrom
-line-and-back l t e = by-said (ruleOf (withoutNewline l)) e (ap listed (line-fitted l t e .says))
+-- a text made of what is said is made of a rule
+in-form :
+    (made : List ℕ → List ℕ → ℕ → Text) (form : List ℕ → List ℕ → ℕ → List ℕ) (x : Said) (t : List ℕ) →
+    ((s o : List ℕ) (m : ℕ) → made s o m ≡ text t → text t ≡ text (form s o m)) →
+    ofRule made x ≡ text t →
+    InForm form x (text t)
+in-form made form said.skipped t f e = let z : _≡_ {A = ℕ} 0 1 = cc in absurd (omega arith)
+in-form made form (said.refused n) t f e = let z : _≡_ {A = ℕ} 0 1 = cc in absurd (omega arith)
+in-form made form (said.change s o a d) t f e = let z : _≡_ {A = ℕ} 0 1 = cc in absurd (omega arith)
+in-form made form (said.rule s o m) t f e = record { subject = s; object = o; modes = m; rule = refl; written = f s o m e }
+
+line-form : (r t : List ℕ) → lineFrom r ≡ text t → InForm listingLine (recordSays r) (text t)
+unfolding lineFrom
+line-form r t e = in-form (λ s o m. text (listingLine s o m)) listingLine (recordSays r) t (λ s o m q. sym q) e
+
+record-form : (l t : List ℕ) → recordFrom l ≡ text t → InForm recordOf (ruleOf (withoutNewline l)) (text t)
+unfolding recordFrom
+record-form l t e = in-form ifItFits recordOf (ruleOf (withoutNewline l)) t (λ s o m q. by-test s o m (fitsARecord s o m) q) e
   where
-    by-said : (x : Said) → ofRule ifItFits x ≡ text t → lineFrom t ≡ listed x → ListingForm x (lineFrom t)
-    by-said said.skipped e q = let z : _≡_ {A = ℕ} 0 1 = cc in absurd (omega arith)
-    by-said (said.refused n) e q = let z : _≡_ {A = ℕ} 0 1 = cc in absurd (omega arith)
-    by-said (said.change s o a d) e q = let z : _≡_ {A = ℕ} 0 1 = cc in absurd (omega arith)
-    by-said (said.rule s o m) e q = record { subject = s; object = o; modes = m; rule = refl; form = q }
+    by-test : (s o : List ℕ) (m : ℕ) (b : Bool) → cond b (text (recordOf s o m)) (refused 15) ≡ text t → text t ≡ text (recordOf s o m)
+    by-test s o m true q = sym q
+    by-test s o m false q = let z : _≡_ {A = ℕ} 0 1 = cc in absurd (omega arith)
+
+line-and-back : (l t : List ℕ) → recordFrom l ≡ text t → InForm listingLine (ruleOf (withoutNewline l)) (lineFrom t)
+unfolding lineFrom
+line-and-back l t e =
+    let f = record-form l t e in
+    record { subject = f .subject; object = f .object; modes = f .modes; rule = f .rule; written = ap listed (line-fitted l t e .says ∙ f .rule) }
 
 -- ---- the same by calls
 
@@ -412,6 +431,8 @@ unfolding lineFrom recordSays isRecord isPlace placeLabel filled inOwnPlaces rec
 old-records =
     record {
       says = says-record;
+      line-form = line-form;
+      record-form = record-form;
       record-and-back = record-and-back;
       by-calls = back-by-calls;
       line-and-back = line-and-back;

@@ -44,7 +44,7 @@ objectPlace r = take labelPlace (drop labelPlace r)
 abbrev pub accessBytes : List ℕ → List ℕ
 accessBytes r = drop accessFrom r
 
--- a label at the left of its place, filled with spaces
+-- n spaces; and a label at the left of its place, filled with spaces
 abbrev pub spaces : ℕ → List ℕ
 spaces zero = []
 spaces (suc n) = space ∷ spaces n
@@ -66,7 +66,7 @@ isPlace p = leb 1 (length (placeLabel p)) && (leb (length (placeLabel p)) record
 abbrev pub fiveLetters : List Letter
 fiveLetters = take 5 letters
 
--- the access bytes are these letters in their own places, either case, or a dash: each byte is allowed where only the letter of its place is
+-- the access bytes are these letters in their own places: byte k is letter k, either case, or a dash, as in an access field that allows this letter alone
 unfoldable pub inOwnPlaces : List Letter → List ℕ → Bool
 inOwnPlaces ls [] = true
 inOwnPlaces [] (b ∷ bs) = false
@@ -75,7 +75,8 @@ inOwnPlaces (l ∷ ls) (b ∷ bs) = allowedByte (l .bit) true b && inOwnPlaces l
 abbrev pub recordAccess : List ℕ → Access
 recordAccess access = cond (inOwnPlaces fiveLetters access) (Modes (modesOf access)) Bad
 
--- ---- what a record says: it is none, then as in a line a label is not well formed, an access byte is not allowed, subject equals object; or a rule
+-- ---- what a record says: it is no record (14); then, in the order of a line, a label is not well formed (3), an access byte is not allowed (4), subject equals
+-- object (5); or a rule
 
 unfoldable pub isRecord : List ℕ → Bool
 unfolding isPlace
@@ -90,15 +91,20 @@ recordSays r = cond (isRecord r) (saidBy (placeLabel (subjectPlace r)) (placeLab
 
 -- ---- a record to a line, in the listing's form
 
--- a text made of a rule that is said, or the refusal; a line without a field, which is skipped where rule text is loaded, has the wrong number of fields here
+-- a text made of a rule that is said, or the refusal. A line without a field, which is skipped where rule text is loaded, has the wrong number of fields here;
+-- neither a record nor a line of rule text says a change
 abbrev pub ofRule : (List ℕ → List ℕ → ℕ → Text) → Said → Text
 ofRule made said.skipped = refused wrongFields
 ofRule made (said.refused n) = refused n
 ofRule made (said.rule s o m) = made s o m
 ofRule made (said.change s o a d) = refused wrongFields
 
+-- a rule in the listing's form
+abbrev pub listingLine : List ℕ → List ℕ → ℕ → List ℕ
+listingLine s o m = textOf s o (modesText m)
+
 abbrev pub listed : Said → Text
-listed x = ofRule (λ s o m. text (textOf s o (modesText m))) x
+listed x = ofRule (λ s o m. text (listingLine s o m)) x
 
 unfoldable pub lineFrom : List ℕ → Text
 unfolding recordSays
@@ -147,13 +153,13 @@ pub record OneLine (t : List ℕ) (says : Said) : Type 0 where
   pub ended : t ≡ line ++ (newline ∷ [])
   pub rule : ruleOf line ≡ says
 
--- what is said is a rule, and a text is the listing's form of it
-pub record ListingForm (says : Said) (x : Text) : Type 0 where
+-- what is said is a rule, and a text is this rule in a form
+pub record InForm (form : List ℕ → List ℕ → ℕ → List ℕ) (says : Said) (x : Text) : Type 0 where
   pub subject : List ℕ
   pub object : List ℕ
   pub modes : ℕ
   pub rule : says ≡ said.rule subject object modes
-  pub form : x ≡ text (textOf subject object (modesText modes))
+  pub written : x ≡ text (form subject object modes)
 
 -- the record r turned into a line in one lent output, and the bytes that were written there, as many as were answered, turned back in another, which has
 -- room for a record
@@ -165,11 +171,14 @@ BackByCalls r out back n =
 pub record OldRecords : Type 0 where
   -- what an accepted record says is the rule whose record it is, but for the case of its access letters
   pub says : (r s o : List ℕ) (m : ℕ) → recordSays r ≡ said.rule s o m → lowered r ≡ recordOf s o m
+  -- the line of an accepted record is what it says in the listing's form; the record of an accepted line is what that says as a record
+  pub line-form : (r t : List ℕ) → lineFrom r ≡ text t → InForm listingLine (recordSays r) (text t)
+  pub record-form : (l t : List ℕ) → recordFrom l ≡ text t → InForm recordOf (ruleOf (withoutNewline l)) (text t)
   -- an accepted record turned there and back is the same but for its access letters, now in lower case: as texts, and as a host calls it
   pub record-and-back : (r t : List ℕ) → lineFrom r ≡ text t → recordFrom t ≡ text (lowered r)
   pub by-calls : (r out back : List ℕ) (n : ℕ) → textAnswer (lineFrom r) out ≡ output.Length n → recordSize ≤ length back → BackByCalls r out back n
   -- an accepted line turned there and back is the listing's form of that line
-  pub line-and-back : (l t : List ℕ) → recordFrom l ≡ text t → ListingForm (ruleOf (withoutNewline l)) (lineFrom t)
+  pub line-and-back : (l t : List ℕ) → recordFrom l ≡ text t → InForm listingLine (ruleOf (withoutNewline l)) (lineFrom t)
   -- the text of an accepted record is one line, which says when it is loaded what the record says
   pub loaded : (r t : List ℕ) → lineFrom r ≡ text t → OneLine t (recordSays r)
   -- a record has 53 bytes, and its line at most 54

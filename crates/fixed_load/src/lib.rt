@@ -14,21 +14,16 @@ ghost use Rattle.fixed_load.specs.Records.{labelPlace, recordAccess, fiv
 ghost use Rattle.fixed_load.specs.Within.{placed};
 
 // The most bytes of a label in a record, the bytes of a label's place, where the access bytes begin, and the bytes of the record.
-pub const RECORD_LABEL: usize = 23;
+const RECORD_LABEL: usize = 23;
 
 const LABEL_PLACE: usize = 24;
 
 const ACCESS_FROM: usize = 48;
 
-pub const RECORD_SIZE: usize = 53;
+const RECORD_SIZE: usize = 53;
 
-// How many access bytes there are, and the bit of the first one, r: the bits of the letters go down by halves in the order of their places.
+// How many access bytes there are.
 const ACCESS_BYTES: usize = 5;
-
-const FIRST_BIT: u8 = 32;
-
-// The letter that has no place there: b.
-const BRING_UP: u8 = 1;
 
 // How many bytes the label at the left of a place has; nothing where the place is all spaces, has another byte after a space or doesn't end in a
 // space.
@@ -62,7 +57,7 @@ fn read_access(access: &[u8]) -> Access
     ensures { λ r. ⌜ r ≡ recordAccess (now (access .entry)) ⌝ }
 {
     let mut modes = 0;
-    let mut bit = FIRST_BIT;
+    let mut bit = modes::READ;
     let mut i = 0;
     while i < ACCESS_BYTES {
         let Access::Modes(letter) = modes::read_modes(&access[i..i + 1], bit, true) else {
@@ -75,12 +70,13 @@ fn read_access(access: &[u8]) -> Access
     Access::Modes(modes)
 }
 
-// Writes modes as access bytes from index `at`, each the letter of its place or a dash. Who calls it has made sure that there is room for ten.
+// Writes modes as access bytes from index `at`, each the letter of its place or a dash. Who calls it has made sure that there is room for ten, since
+// `write_modes` wants room for six from the fifth of them on too.
 fn write_access(out: &mut [u8], at: usize, modes: u8)
     requires { ⌜ (at + 10 ≤ length (now out)) × (modes < 64) ⌝ }
     ensures { λ _. ⌜ now (out .exit) ≡ written (now (out .entry)) at (inPlaces fiveLetters modes) ⌝ }
 {
-    let mut bit = FIRST_BIT;
+    let mut bit = modes::READ;
     let mut i = 0;
     while i < ACCESS_BYTES {
         modes::write_modes(out, at + i, modes & bit);
@@ -160,9 +156,10 @@ fn put_record(out: &mut [u8], subject: &[u8], object: &[u8], modes: u8) -> Outpu
     if RECORD_LABEL < object.len() {
         return Output::Refused(refusals::NOT_IN_A_RECORD);
     }
-    if modes & BRING_UP != 0 {
+    if modes & modes::BRING_UP != 0 {
         return Output::Refused(refusals::NOT_IN_A_RECORD);
     }
+    // 53 bytes, and as many more as `write_access` wants.
     let mut text = [alphabet::SPACE; 58];
     search::copy_at(&mut text, 0, subject);
     search::copy_at(&mut text, LABEL_PLACE, object);

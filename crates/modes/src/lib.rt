@@ -49,6 +49,11 @@ pub const CHANGE_LETTERS: u8 = 62;
 
 pub const REQUEST_LETTERS: u8 = 60;
 
+// The first letter, r, and the last, b: the bits go down by halves in the order of the letters.
+pub const READ: u8 = 32;
+
+pub const BRING_UP: u8 = 1;
+
 // What reading an access field answers: its modes, or that it has a byte not allowed there.
 pub enum Access {
     Modes(u8),
