@@ -27,7 +27,7 @@ use Rattle.output.specs.Output.{Text, text, refused, textAnswer, textOut}
 use Rattle.output.proofs.Laws.{length-answered}
 use Rattle.rule_text.specs.RuleText.{lineOf, textOf}
 use Rattle.rule_text.proofs.Laws.{noNewline, label-word, text-plain, text-says}
-use Rattle.fixed_load.specs.Records.{labelPlace, subjectPlace, objectPlace, accessBytes, spaces, filled, placeLabel, isPlace, fiveLetters, inOwnPlaces, isRecord, saidBy, recordSays, ofRule, listed, lineFrom, withoutNewline, inPlaces, recordOf, fitsARecord, ifItFits, recordFrom, lowerCase, lowered, recordSize, OneLine, listingLine, InForm, BackByCalls, OldRecords}
+use Rattle.fixed_load.specs.Records.{labelPlace, subjectPlace, objectPlace, accessBytes, spaces, filled, placeLabel, isPlace, fiveLetters, inOwnPlaces, isRecord, saidBy, recordSays, ofRule, listed, lineFrom, withoutNewline, inPlaces, recordOf, fitsARecord, ifItFits, recordFrom, lowerCase, lowered, recordSize, accessFrom, Parts, OneLine, listingLine, InForm, BackByCalls, OldRecords}
 use Rattle.fixed_load.proofs.Laws.{filled-length, Place, place-is}
 
 -- ---- the access bytes of a record
@@ -423,6 +423,23 @@ back-by-calls r out back n e h =
     let same : v .bytes ≡ lowered r = cc in
     (ap (λ (x : Text). textAnswer x back) made ∙ answered, ap (λ (x : Text). textOut x back) made ∙ v .front ∙ ap (λ (x : List ℕ). x ++ drop recordSize back) same)
 
+-- ---- what stands where in a record
+
+parts : (s o a : List ℕ) → length s ≡ labelPlace → length o ≡ labelPlace → length a ≡ 5 → Parts (s ++ (o ++ a)) s o a
+parts s o a h i j =
+    let r = s ++ (o ++ a) in
+    let behind : drop labelPlace r ≡ o ++ a = drop-at s (o ++ a) labelPlace h in
+    let first : subjectPlace r ≡ s = take-at s (o ++ a) labelPlace h in
+    let second : objectPlace r ≡ o = ap (take labelPlace) behind ∙ take-at o a labelPlace i in
+    let third : accessBytes r ≡ a = sym (drop-drop labelPlace labelPlace r) ∙ ap (drop labelPlace) behind ∙ drop-at o a labelPlace i in
+    let front : take accessFrom r ≡ s ++ o = take-add labelPlace labelPlace r ∙ ap (λ (x : List ℕ). x ++ objectPlace r) first ∙ ap (λ (x : List ℕ). s ++ x) second in
+    record {
+      subject = first;
+      object = second;
+      access = third;
+      lower = ap (λ (x : List ℕ). x ++ map lowerCase (accessBytes r)) front ∙ ap (λ (x : List ℕ). (s ++ o) ++ map lowerCase x) third ∙ append-assoc s o (map lowerCase a);
+    }
+
 -- ---- THE CLAIM
 
 -- the two examples are computed
@@ -430,6 +447,8 @@ pub old-records : OldRecords
 unfolding lineFrom recordSays isRecord isPlace placeLabel filled inOwnPlaces recordFrom withoutNewline recordOf fitsARecord sameBytes all wellFormed labelByte isBlank fields allowedByte bitOf modesOf readModes modesText ruleOf ruleBy textOf
 old-records =
     record {
+      parts = parts;
+      letters = refl;
       says = says-record;
       line-form = line-form;
       record-form = record-form;
@@ -442,6 +461,8 @@ old-records =
       one-newline = one-newline;
       no-newline = no-newline;
       no-byte = refl;
+      another = (refl, refl);
+      counted = (refl, refl);
       example = refl;
       example-back = refl;
     }

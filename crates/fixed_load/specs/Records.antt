@@ -146,6 +146,13 @@ lowerCase b = cond (leb 65 b && leb b 90) (b + 32) b
 abbrev pub lowered : List ℕ → List ℕ
 lowered r = take accessFrom r ++ map lowerCase (accessBytes r)
 
+-- what stands where in a record; in lower case nothing but its access bytes can change
+pub record Parts (r s o a : List ℕ) : Type 0 where
+  pub subject : subjectPlace r ≡ s
+  pub object : objectPlace r ≡ o
+  pub access : accessBytes r ≡ a
+  pub lower : lowered r ≡ s ++ (o ++ map lowerCase a)
+
 -- a text that is one line of rule text, and what it says when it is loaded
 pub record OneLine (t : List ℕ) (says : Said) : Type 0 where
   pub line : List ℕ
@@ -169,6 +176,9 @@ BackByCalls r out back n =
     × (textOut (recordFrom (take n (textOut (lineFrom r) out))) back ≡ lowered r ++ drop recordSize back)
 
 pub record OldRecords : Type 0 where
+  -- a record is two 24-byte labels and five access bytes
+  pub parts : (s o a : List ℕ) → length s ≡ 24 → length o ≡ 24 → length a ≡ 5 → Parts (s ++ (o ++ a)) s o a
+  pub letters : map lowerCase (ascii "rwxatRWXAT-") ≡ ascii "rwxatrwxat-"
   -- what an accepted record says is the rule whose record it is, but for the case of its access letters
   pub says : (r s o : List ℕ) (m : ℕ) → recordSays r ≡ said.rule s o m → lowered r ≡ recordOf s o m
   -- the line of an accepted record is what it says in the listing's form; the record of an accepted line is what that says as a record
@@ -188,6 +198,9 @@ pub record OldRecords : Type 0 where
   pub one-newline : (l : List ℕ) → withoutNewline (l ++ (newline ∷ [])) ≡ l
   pub no-newline : (l : List ℕ) (b : ℕ) → isNewline b ≡ false → withoutNewline (l ++ (b ∷ [])) ≡ l ++ (b ∷ [])
   pub no-byte : withoutNewline [] ≡ []
+  -- another is a byte of its field; the closing one does not count among the 600 bytes
+  pub another : (recordFrom (ascii "A B r\n\n") ≡ refused 4) × (recordFrom (ascii "A B r \n\n") ≡ refused 2)
+  pub counted : (recordFrom (spaces 600 ++ (newline ∷ [])) ≡ refused 2) × (recordFrom (spaces 601) ≡ refused 1)
   -- one each way, byte by byte
   pub example : lineFrom (ascii "Probe-North             Store                   Rw-aT") ≡ text (ascii "Probe-North Store rwat\n")
   pub example-back : recordFrom (ascii " Store  ^ xR-") ≡ text (ascii "Store                   ^                       r-x--")
