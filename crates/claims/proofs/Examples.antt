@@ -6,7 +6,7 @@ use mathlib.Core.Logic.{_↔_}
 use lib.Dec.{eqb}
 use borrow.Author.Tests.{eqb-true, eq-eqb}
 use Rattle.search.specs.Search.{first, all, put}
-use Rattle.search.specs.Bytes.{ascii, sameBytes}
+use Rattle.search.specs.Bytes.{sameBytes}
 use Rattle.search.proofs.Laws.{and-both}
 use Rattle.alphabet.specs.Alphabet.{isBlank, labelByte, wellFormed, fields}
 use Rattle.modes.specs.Modes.{bitOf, allowedByte, modesOf, readModes}

@@ -9,7 +9,7 @@ use Rattle.search.specs.Bytes.{ascii}
 use Rattle.refusals.specs.Refusals as refusal
 use Rattle.alphabet.specs.Alphabet.{labelLongest, lineLimit}
 use Rattle.numbers.specs.Categories.{levelLimit, isLevel, categoryLimit, isCategory, noCategories, withCategory}
-use Rattle.store.specs.Table.{Table, fresh, labelLimit, ruleLimit, mappingLimit, onlycapLimit}
+use Rattle.store.specs.Table.{fresh, labelLimit, ruleLimit, mappingLimit, onlycapLimit}
 use Rattle.reports.specs.Report.{countLimit, freshLoader}
 use Rattle.load.specs.Loader.{Load, ready, endAfter}
 use Rattle.rule_text.specs.RuleText.{longestRule}
@@ -19,7 +19,6 @@ use Rattle.access.specs.declared.Answer.the-variants as answer
 use Rattle.lookups.specs.declared.Lookup.the-variants as lookup
 use Rattle.lookups.specs.declared.Label.the-variants as label
 use Rattle.output.specs.declared.Output.the-variants as output
-use Rattle.answers.specs.declared.Shown.{Shown}
 use Rattle.answers.specs.Answers.{shown, lookupShown, searchShown, outputShown}
 use Rattle.store.specs.Pairs.{no-rule, modesSoFar}
 

@@ -25,7 +25,7 @@ use Rattle.output.specs.Output.{putAnswer, textAnswer}
 use Rattle.output.specs.declared.Output.{Output}
 use Rattle.output.specs.declared.Output.the-variants as l
 use Rattle.rule_text.specs.RuleText.{textOf}
-use Rattle.fixed_load.specs.Records.{subjectPlace, objectPlace, accessBytes, spaces, filled, placeLabel, isPlace, fiveLetters, inOwnPlaces, isRecord, saidBy, recordSays, ofRule, listed, lineFrom, withoutNewline, inPlaces, recordOf, fitsARecord, ifItFits, recordFrom}
+use Rattle.fixed_load.specs.Records.{subjectPlace, objectPlace, accessBytes, spaces, filled, placeLabel, isPlace, fiveLetters, inOwnPlaces, isRecord, saidBy, recordSays, ofRule, asLine, lineFrom, withoutNewline, inPlaces, recordOf, fitsARecord, ifItFits, recordFrom}
 use Rattle.fixed_load.proofs.Laws.{filled-length}
 use Rattle.fixed_load.proofs.Back.{own-byte}
 use Rattle.faults.specs.Faults.{Fault, _when_, Refusal, none, by, firstFault, Refuses, badLabels, badBytes, allSpaces, byteAfterSpace, endsInSpace, badPlace, badAccessBytes, recordFaults, hasB, overRecordLabel, toRecordFieldFaults, lineToRecordFaults}
@@ -273,7 +273,7 @@ partFaults s o access out =
     ∷ []
 
 part-first :
-    (s o access out : List ℕ) → length access ≡ 5 → answered-by out (listed (saidBy s o access)) ≡ firstFault (partFaults s o access out)
+    (s o access out : List ℕ) → length access ≡ 5 → answered-by out (asLine (saidBy s o access)) ≡ firstFault (partFaults s o access out)
 part-first s o access out five = rw (access-tested access five) (by-tests (wellFormed s) (wellFormed o) (badAccessBytes access))
   where
     given : List ℕ
@@ -281,13 +281,13 @@ part-first s o access out five = rw (access-tested access five) (by-tests (wellF
 
     by-same :
         (b : Bool) →
-        answered-by out (listed (cond b (said.refused 5) (said.rule s o (modesOf access)))) ≡ cond b (by 5) (cond (ltb (length out) (length given)) (by 12) none)
+        answered-by out (asLine (cond b (said.refused 5) (said.rule s o (modesOf access)))) ≡ cond b (by 5) (cond (ltb (length out) (length given)) (by 12) none)
     by-same true = refl
     by-same false = text-first given out
 
     by-tests :
         (a b c : Bool) →
-        answered-by out (listed (cond (a && b) (ruleWith s o (cond (not c) (Modes (modesOf access)) Bad)) (said.refused 3)))
+        answered-by out (asLine (cond (a && b) (ruleWith s o (cond (not c) (Modes (modesOf access)) Bad)) (said.refused 3)))
         ≡ cond (not a || not b) (by 3) (cond c (by 4) (cond (sameBytes s o) (by 5) (cond (ltb (length out) (length given)) (by 12) none)))
     by-tests false b c = refl
     by-tests true false c = refl
@@ -307,7 +307,7 @@ record-first r out = by-size (eqb (length r) 53) refl
     by-places :
         (p q : Bool) →
         length (accessBytes r) ≡ 5 →
-        answered-by out (listed (cond (not p && not q) (saidBy s o (accessBytes r)) (said.refused 14)))
+        answered-by out (asLine (cond (not p && not q) (saidBy s o (accessBytes r)) (said.refused 14)))
         ≡ cond (p || q) (by 14) (firstFault (partFaults s o (accessBytes r) out))
     by-places true q five = refl
     by-places false true five = refl
@@ -316,7 +316,7 @@ record-first r out = by-size (eqb (length r) 53) refl
     by-size :
         (b : Bool) →
         eqb (length r) 53 ≡ b →
-        answered-by out (listed (cond (b && (isPlace (subjectPlace r) && isPlace (objectPlace r))) (saidBy s o (accessBytes r)) (said.refused 14)))
+        answered-by out (asLine (cond (b && (isPlace (subjectPlace r) && isPlace (objectPlace r))) (saidBy s o (accessBytes r)) (said.refused 14)))
         ≡ cond (not b || (badPlace (subjectPlace r) || badPlace (objectPlace r))) (by 14) (firstFault (partFaults s o (accessBytes r) out))
     by-size false e = refl
     by-size true e =

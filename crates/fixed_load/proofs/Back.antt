@@ -27,7 +27,7 @@ use Rattle.output.specs.Output.{Text, text, refused, textAnswer, textOut}
 use Rattle.output.proofs.Laws.{length-answered}
 use Rattle.rule_text.specs.RuleText.{lineOf, textOf}
 use Rattle.rule_text.proofs.Laws.{noNewline, label-word, text-plain, text-says}
-use Rattle.fixed_load.specs.Records.{labelPlace, subjectPlace, objectPlace, accessBytes, spaces, filled, placeLabel, isPlace, fiveLetters, inOwnPlaces, isRecord, saidBy, recordSays, ofRule, listed, lineFrom, withoutNewline, inPlaces, recordOf, fitsARecord, ifItFits, recordFrom, lowerCase, lowered, recordSize, accessFrom, Parts, OneLine, listingLine, InForm, BackByCalls, OldRecords}
+use Rattle.fixed_load.specs.Records.{recordLabel, labelPlace, subjectPlace, objectPlace, accessBytes, spaces, filled, placeLabel, isPlace, fiveLetters, inOwnPlaces, isRecord, saidBy, recordSays, ofRule, asLine, lineFrom, withoutNewline, inPlaces, recordOf, fitsARecord, ifItFits, recordFrom, lowerCase, lowered, recordSize, accessFrom, Parts, OneLine, listingLine, InForm, BackByCalls, OldRecords}
 use Rattle.fixed_load.proofs.Laws.{filled-length, Place, place-is}
 
 -- ---- the access bytes of a record
@@ -157,9 +157,9 @@ place-label : (l : List ℕ) → wellFormed l ≡ true → placeLabel (filled l)
 unfolding filled
 place-label l e = label-ends l (labelPlace - length l) (label-word l e .unblank)
 
-filled-place : (l : List ℕ) → wellFormed l ≡ true → length l ≤ 23 → isPlace (filled l) ≡ true
+filled-place : (l : List ℕ) → wellFormed l ≡ true → length l ≤ recordLabel → isPlace (filled l) ≡ true
 unfolding isPlace
-filled-place l e h = rw (place-label l e, le-leb 1 (length l) (formed-is l e .0), le-leb (length l) 23 h) (same-refl (filled l))
+filled-place l e h = rw (place-label l e, le-leb 1 (length l) (formed-is l e .0), le-leb (length l) recordLabel h) (same-refl (filled l))
 
 -- ---- a closing newline
 
@@ -201,7 +201,7 @@ record Made (s o a t : List ℕ) : Type 0 where
   says : saidBy s o a ≡ rule s o (modesOf a)
   made : t ≡ textOf s o (modesText (modesOf a))
 
-made-of : (s o a t : List ℕ) → listed (saidBy s o a) ≡ text t → Made s o a t
+made-of : (s o a t : List ℕ) → asLine (saidBy s o a) ≡ text t → Made s o a t
 made-of s o a t = by-test (wellFormed s) refl (wellFormed o) refl (inOwnPlaces fiveLetters a) refl
   where
     by-test :
@@ -211,11 +211,11 @@ made-of s o a t = by-test (wellFormed s) refl (wellFormed o) refl (inOwnPlaces f
         wellFormed o ≡ y →
         (z : Bool) →
         inOwnPlaces fiveLetters a ≡ z →
-        listed (cond (x && y) (ruleWith s o (cond z (Modes (modesOf a)) Bad)) (said.refused 3)) ≡ text t →
+        asLine (cond (x && y) (ruleWith s o (cond z (Modes (modesOf a)) Bad)) (said.refused 3)) ≡ text t →
         Made s o a t
     by-test true p true q true i e = by-same (sameBytes s o) refl e
       where
-        by-same : (w : Bool) → sameBytes s o ≡ w → listed (cond w (said.refused 5) (rule s o (modesOf a))) ≡ text t → Made s o a t
+        by-same : (w : Bool) → sameBytes s o ≡ w → asLine (cond w (said.refused 5) (rule s o (modesOf a))) ≡ text t → Made s o a t
         by-same true k e = let z : _≡_ {A = ℕ} 0 1 = cc in absurd (omega arith)
         by-same false k e = record { taken = record { subject = p; object = q; apart = k }; own = i; says = rw (p, q, i, k); made = cc }
     by-test true p true q false i e = let z : _≡_ {A = ℕ} 0 1 = cc in absurd (omega arith)
@@ -232,22 +232,22 @@ accepted : (r t : List ℕ) → lineFrom r ≡ text t → Accepted r t
 unfolding lineFrom recordSays
 accepted r t e = by-test (isRecord r) refl e
   where
-    by-test : (x : Bool) → isRecord r ≡ x → listed (cond x (saidBy (subjectIn r) (objectIn r) (accessBytes r)) (said.refused 14)) ≡ text t → Accepted r t
+    by-test : (x : Bool) → isRecord r ≡ x → asLine (cond x (saidBy (subjectIn r) (objectIn r) (accessBytes r)) (said.refused 14)) ≡ text t → Accepted r t
     by-test true q e = let m = made-of (subjectIn r) (objectIn r) (accessBytes r) t e in record { whole = q; made = m; says = rw q (m .says) }
     by-test false q e = let z : _≡_ {A = ℕ} 0 1 = cc in absurd (omega arith)
 
 -- it has 53 bytes, and its places are its labels, filled
 record Whole (r : List ℕ) : Type 0 where
-  long : length r ≡ 53
+  long : length r ≡ recordSize
   subject : Place (subjectPlace r)
   object : Place (objectPlace r)
 
 whole-is : (r : List ℕ) → isRecord r ≡ true → Whole r
 unfolding isRecord
 whole-is r e =
-    let h = and-both (eqb (length r) 53) (isPlace (subjectPlace r) && isPlace (objectPlace r)) e in
+    let h = and-both (eqb (length r) recordSize) (isPlace (subjectPlace r) && isPlace (objectPlace r)) e in
     let i = and-both (isPlace (subjectPlace r)) (isPlace (objectPlace r)) (h .1) in
-    record { long = eqb-true (length r) 53 (h .0); subject = place-is (subjectPlace r) (i .0); object = place-is (objectPlace r) (i .1) }
+    record { long = eqb-true (length r) recordSize (h .0); subject = place-is (subjectPlace r) (i .0); object = place-is (objectPlace r) (i .1) }
 
 -- its line: one, at most 54 bytes long, which says the rule
 module _ (r t : List ℕ) (e : lineFrom r ≡ text t) where
@@ -261,7 +261,7 @@ module _ (r t : List ℕ) (e : lineFrom r ≡ text t) where
   known = six-letters .no-other (accessBytes r)
 
   again : Again (accessBytes r)
-  again = access-again (accessBytes r) (omega (arith, length-drop 48 r, whole .long)) (this .made .own)
+  again = access-again (accessBytes r) (omega (arith, length-drop accessFrom r, whole .long)) (this .made .own)
 
   line : List ℕ
   line = lineOf (subjectIn r) (objectIn r) (modesText (modesIn r))
@@ -287,13 +287,13 @@ module _ (r t : List ℕ) (e : lineFrom r ≡ text t) where
   -- and the record of that rule: the same in lower case
   fits : fitsARecord (subjectIn r) (objectIn r) (modesIn r) ≡ true
   unfolding fitsARecord
-  fits = rw (le-leb (length (subjectIn r)) 23 (whole .subject .short), le-leb (length (objectIn r)) 23 (whole .object .short)) (again .no-b)
+  fits = rw (le-leb (length (subjectIn r)) recordLabel (whole .subject .short), le-leb (length (objectIn r)) recordLabel (whole .object .short)) (again .no-b)
 
   lower-again : recordOf (subjectIn r) (objectIn r) (modesIn r) ≡ lowered r
   unfolding recordOf
   lower-again =
       rw (← whole .subject .is, ← whole .object .is, again .lower)
-      (sym (append-assoc (subjectPlace r) (objectPlace r) (map lowerCase (accessBytes r))) ∙ ap (λ (x : List ℕ). x ++ map lowerCase (accessBytes r)) (sym (take-add 24 24 r)))
+      (sym (append-assoc (subjectPlace r) (objectPlace r) (map lowerCase (accessBytes r))) ∙ ap (λ (x : List ℕ). x ++ map lowerCase (accessBytes r)) (sym (take-add labelPlace labelPlace r)))
 
   record-and-back : recordFrom t ≡ text (lowered r)
   unfolding recordFrom line
@@ -307,7 +307,7 @@ module _ (r t : List ℕ) (e : lineFrom r ≡ text t) where
 says-record : (r s o : List ℕ) (m : ℕ) → recordSays r ≡ said.rule s o m → lowered r ≡ recordOf s o m
 unfolding lineFrom
 says-record r s o m e =
-    let q : lineFrom r ≡ text (textOf s o (modesText m)) = ap listed e in
+    let q : lineFrom r ≡ text (textOf s o (modesText m)) = ap asLine e in
     let same : said.rule s o m ≡ rule (subjectIn r) (objectIn r) (modesIn r) = sym e ∙ accepted r (textOf s o (modesText m)) q .says in
     let a : s ≡ subjectIn r = cc in
     let b : o ≡ objectIn r = cc in
@@ -318,37 +318,37 @@ says-record r s o m e =
 
 -- of a rule that fits: 53 bytes, which say the rule
 module _ (s o : List ℕ) (m : ℕ) (taken : Taken s o) (known : m < 64) (fit : fitsARecord s o m ≡ true) where
-  fit-is : (length s ≤ 23) × (length o ≤ 23) × (not (has m bringUpLetter) ≡ true)
+  fit-is : (length s ≤ recordLabel) × (length o ≤ recordLabel) × (not (has m bringUpLetter) ≡ true)
   unfolding fitsARecord
   fit-is =
-      let h = and-both (leb (length s) 23) (leb (length o) 23 && not (has m bringUpLetter)) fit in
-      let i = and-both (leb (length o) 23) (not (has m bringUpLetter)) (h .1) in
-      (leb-true (length s) 23 (h .0), leb-true (length o) 23 (i .0), i .1)
+      let h = and-both (leb (length s) recordLabel) (leb (length o) recordLabel && not (has m bringUpLetter)) fit in
+      let i = and-both (leb (length o) recordLabel) (not (has m bringUpLetter)) (h .1) in
+      (leb-true (length s) recordLabel (h .0), leb-true (length o) recordLabel (i .0), i .1)
 
-  long-subject : length (filled s) ≡ 24
+  long-subject : length (filled s) ≡ labelPlace
   long-subject = filled-length s (fit-is .0)
 
-  long-object : length (filled o) ≡ 24
+  long-object : length (filled o) ≡ labelPlace
   long-object = filled-length o (fit-is .1)
 
-  record-long : length (recordOf s o m) ≡ 53
+  record-long : length (recordOf s o m) ≡ recordSize
   unfolding recordOf
   record-long = omega (arith, length-append (filled s) (filled o ++ inPlaces fiveLetters m), length-append (filled o) (inPlaces fiveLetters m), long-subject, long-object)
 
   -- its parts, and so what it says
   subject-part : subjectPlace (recordOf s o m) ≡ filled s
   unfolding recordOf
-  subject-part = take-at (filled s) _ 24 long-subject
+  subject-part = take-at (filled s) _ labelPlace long-subject
 
-  behind : drop 24 (recordOf s o m) ≡ filled o ++ inPlaces fiveLetters m
+  behind : drop labelPlace (recordOf s o m) ≡ filled o ++ inPlaces fiveLetters m
   unfolding recordOf
-  behind = drop-at (filled s) _ 24 long-subject
+  behind = drop-at (filled s) _ labelPlace long-subject
 
   object-part : objectPlace (recordOf s o m) ≡ filled o
-  object-part = ap (take 24) behind ∙ take-at (filled o) _ 24 long-object
+  object-part = ap (take labelPlace) behind ∙ take-at (filled o) _ labelPlace long-object
 
   access-part : accessBytes (recordOf s o m) ≡ inPlaces fiveLetters m
-  access-part = sym (drop-drop 24 24 (recordOf s o m)) ∙ ap (drop 24) behind ∙ drop-at (filled o) _ 24 long-object
+  access-part = sym (drop-drop labelPlace labelPlace (recordOf s o m)) ∙ ap (drop labelPlace) behind ∙ drop-at (filled o) _ labelPlace long-object
 
   whole-again : isRecord (recordOf s o m) ≡ true
   unfolding isRecord
@@ -364,7 +364,7 @@ module _ (s o : List ℕ) (m : ℕ) (taken : Taken s o) (known : m < 64) (fit : 
 
 -- its record has 53 bytes, and says what the line says
 record Fitted (x : Said) (t : List ℕ) : Type 0 where
-  long : length t ≡ 53
+  long : length t ≡ recordSize
   says : recordSays t ≡ x
 
 fitted : (x : Said) (t : List ℕ) → Sound x → ofRule ifItFits x ≡ text t → Fitted x t
@@ -408,7 +408,7 @@ line-and-back : (l t : List ℕ) → recordFrom l ≡ text t → InForm listingL
 unfolding lineFrom
 line-and-back l t e =
     let f = record-form l t e in
-    record { subject = f .subject; object = f .object; modes = f .modes; rule = f .rule; written = ap listed (line-fitted l t e .says ∙ f .rule) }
+    record { subject = f .subject; object = f .object; modes = f .modes; rule = f .rule; written = ap asLine (line-fitted l t e .says ∙ f .rule) }
 
 -- ---- the same by calls
 

@@ -22,7 +22,7 @@ use Rattle.modes.specs.declared.Letter.{Letter}
 use Rattle.modes.specs.declared.Access.{Access}
 use Rattle.modes.specs.declared.Access.the-variants.{Modes, Bad}
 use Rattle.modes.proofs.Laws.{noLetter, letterAt, below, joined}
-use Rattle.fixed_load.specs.Records.{recordLabel, labelPlace, spaces, filled, placeLabel, isPlace, fiveLetters, inOwnPlaces, recordAccess, withoutNewline, inPlaces, recordSize, recordOf, fitsARecord, ifItFits, subjectPlace, objectPlace, accessBytes, isRecord, saidBy, recordSays, ofRule, listed, lineFrom, recordFrom}
+use Rattle.fixed_load.specs.Records.{recordLabel, labelPlace, spaces, filled, placeLabel, isPlace, fiveLetters, inOwnPlaces, recordAccess, withoutNewline, inPlaces, recordSize, recordOf, fitsARecord, ifItFits, subjectPlace, objectPlace, accessBytes, isRecord, saidBy, recordSays, ofRule, asLine, lineFrom, recordFrom}
 use Rattle.alphabet.specs.Within.{faultOf}
 use Rattle.alphabet.proofs.Laws.{fault-formed, fault-unformed}
 use Rattle.lines.specs.Lines as said
@@ -455,7 +455,7 @@ module _ (r : List ℕ) where
         -- the labels, as they stand in the record
         pub from-places :
             (s o access : List ℕ) → s ≡ take n r → o ≡ take k (drop labelPlace r) → access ≡ accessBytes r →
-            lineFrom r ≡ listed (saidBy s o access)
+            lineFrom r ≡ asLine (saidBy s o access)
         unfolding lineFrom recordSays isRecord
         from-places s o access a b c =
             let h = is-placed (subjectPlace r) n at-n in

@@ -103,12 +103,12 @@ ofRule made (said.change s o a d) = refused wrongFields
 abbrev pub listingLine : List ℕ → List ℕ → ℕ → List ℕ
 listingLine s o m = textOf s o (modesText m)
 
-abbrev pub listed : Said → Text
-listed x = ofRule (λ s o m. text (listingLine s o m)) x
+abbrev pub asLine : Said → Text
+asLine x = ofRule (λ s o m. text (listingLine s o m)) x
 
 unfoldable pub lineFrom : List ℕ → Text
 unfolding recordSays
-lineFrom r = listed (recordSays r)
+lineFrom r = asLine (recordSays r)
 
 -- ---- a line to a record
 

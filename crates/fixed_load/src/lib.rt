@@ -10,7 +10,7 @@ ghost use lib.ListN.{length};
 ghost use Rattle.search.specs.Bytes.{written};
 ghost use Rattle.alphabet.specs.Alphabet.{labelLongest};
 ghost use Rattle.output.specs.Output.{textAnswer, textOut};
-ghost use Rattle.fixed_load.specs.Records.{labelPlace, recordAccess, fiveLetters, saidBy, listed, lineFrom, withoutNewline, inPlaces, ifItFits, recordFrom, OldRecords};
+ghost use Rattle.fixed_load.specs.Records.{labelPlace, recordAccess, fiveLetters, saidBy, asLine, lineFrom, withoutNewline, inPlaces, ifItFits, recordFrom, OldRecords};
 ghost use Rattle.fixed_load.specs.Within.{placed};
 
 // The most bytes of a label in a record, the bytes of a label's place, where the access bytes begin, and the bytes of the record.
@@ -88,8 +88,8 @@ fn write_access(out: &mut [u8], at: usize, modes: u8)
 // A rule by its two labels and its access bytes as a line, in the listing's form, at the front of `out`; or refused with 3, 4, 5 or 12.
 fn put_line(out: &mut [u8], subject: &[u8], object: &[u8], access: &[u8]) -> Output
     requires { ⌜ (length (now subject) ≤ labelLongest) × (length (now object) ≤ labelLongest) × (length (now access) ≡ 5) ⌝ }
-    ensures { λ r. ⌜ r ≡ textAnswer (listed (saidBy (now (subject .entry)) (now (object .entry)) (now (access .entry)))) (now (out .entry)) ⌝ }
-    ensures { λ _. ⌜ now (out .exit) ≡ textOut (listed (saidBy (now (subject .entry)) (now (object .entry)) (now (access .entry)))) (now (out .entry)) ⌝ }
+    ensures { λ r. ⌜ r ≡ textAnswer (asLine (saidBy (now (subject .entry)) (now (object .entry)) (now (access .entry)))) (now (out .entry)) ⌝ }
+    ensures { λ _. ⌜ now (out .exit) ≡ textOut (asLine (saidBy (now (subject .entry)) (now (object .entry)) (now (access .entry)))) (now (out .entry)) ⌝ }
 {
     let Found::Nothing = alphabet::label_fault(subject) else {
         return Output::Refused(refusals::BAD_LABEL);

@@ -15,7 +15,7 @@ use Rattle.modes.proofs.Laws.{text-long}
 use Rattle.output.specs.Output.{putAnswer, putOut}
 use Rattle.output.proofs.Laws.{front-is}
 use Rattle.rule_text.specs.RuleText.{textOf}
-use Rattle.fixed_load.specs.Records.{recordAccess, saidBy, listed}
+use Rattle.fixed_load.specs.Records.{recordAccess, saidBy, asLine}
 use Rattle.fixed_load.proofs.Laws.{as-answered, bad-subject, bad-object, bad-access, by-labels}
 use borrow.Author.Needs.{needs}
 use Rattle.fixed_load.proofs.put_line.Statement.{statement}
@@ -78,7 +78,7 @@ returns c =
     let l = c .before .before in
     let a = l .before .before .before .before .before .args in
     as-answered _ _ (a .out .now)
-    (ap listed (bad-subject (a .subject .now) (a .object .now) (a .access .now) (c .enum-told2 .given .0 .0) (sym (l .label-fault .ensures) ∙ c .enum-told2 .given .1)))
+    (ap asLine (bad-subject (a .subject .now) (a .object .now) (a .access .now) (c .enum-told2 .given .0 .0) (sym (l .label-fault .ensures) ∙ c .enum-told2 .given .1)))
 
 label-fault-requires-2 : tie.Need-label-fault-requires-2
 label-fault-requires-2 c κs = search needs
@@ -94,7 +94,7 @@ returns-2 c =
     let l = c .before .before in
     let a = start (l .before) .args in
     as-answered _ _ (a .out .now)
-    (ap listed (bad-object (a .subject .now) (a .object .now) (a .access .now) (subject-formed (l .before)) (c .enum-told4 .given .0 .0) (sym (l .label-fault2 .ensures) ∙ c .enum-told4 .given .1)))
+    (ap asLine (bad-object (a .subject .now) (a .object .now) (a .access .now) (subject-formed (l .before)) (c .enum-told4 .given .0 .0) (sym (l .label-fault2 .ensures) ∙ c .enum-told4 .given .1)))
 
 read-access-requires : tie.Need-read-access-requires
 read-access-requires c κs = search needs
@@ -111,7 +111,7 @@ returns-3 c =
     let f = r .before in
     let a = start (f .before .before .before) .args in
     as-answered _ _ (a .out .now)
-    (ap listed (bad-access (a .subject .now) (a .object .now) (a .access .now) (subject-formed (f .before .before .before)) (object-formed f) (sym (r .read-access .ensures) ∙ c .enum-told5 .given .1)))
+    (ap asLine (bad-access (a .subject .now) (a .object .now) (a .access .now) (subject-formed (f .before .before .before)) (object-formed f) (sym (r .read-access .ensures) ∙ c .enum-told5 .given .1)))
 
 same-bytes-requires : tie.Need-same-bytes-requires
 same-bytes-requires c κs = search needs
@@ -119,7 +119,7 @@ same-bytes-requires c κs = search needs
 returns-4 : tie.Need-returns-4
 returns-4 c =
     let k = c .before .before in
-    as-answered _ _ (begun k .args .out .now) (ap listed (says k true (sym (c .before .same-bytes .ensures) ∙ c .if1 .taken)))
+    as-answered _ _ (begun k .args .out .now) (ap asLine (says k true (sym (c .before .same-bytes .ensures) ∙ c .if1 .taken)))
 
 slice-aggregate-write-modes : tie.Need-slice-aggregate-write-modes
 slice-aggregate-write-modes c = search needs
@@ -153,7 +153,7 @@ returns-5 c =
     let w = p .before .before .before .before .before in
     let k = known w in
     let a = begun k .args in
-    let e = as-answered _ _ (a .out .now) (ap listed (says k false (sym (w .before .before .before .same-bytes .ensures) ∙ w .before .before .if1 .left))) in (
+    let e = as-answered _ _ (a .out .now) (ap asLine (says k false (sym (w .before .before .before .same-bytes .ensures) ∙ w .before .before .if1 .left))) in (
       p .put-text .ensures .0 ∙ ap (λ (x : List ℕ). putAnswer (textOf (a .subject .now) (a .object .now) x) (a .out .now)) (text w) ∙ e .0,
       p .put-text .ensures .1 ∙ ap (λ (x : List ℕ). putOut (textOf (a .subject .now) (a .object .now) x) (a .out .now)) (text w) ∙ e .1,
     )
