@@ -23,7 +23,7 @@ use Rattle.grown.proofs.Relisted.{loads-back}
 
 module _ (st : Store) (undamaged : undamagedOf st ≡ true) where
   -- two labels of at most 255 bytes, at most 6 letters, two spaces and a newline
-  short : (k : ℕ) → k < length (tableOf st .rules) → length (textNumbered st k) ≤ longestRule
+  pub short : (k : ℕ) → k < length (tableOf st .rules) → length (textNumbered st k) ≤ longestRule
   unfolding textOf
   short k h =
       let i : k < getD (st .words) 1 0 = omega (arith, entries-length (ruleAt (st .entries)) (getD (st .words) 1 0)) in
@@ -43,7 +43,7 @@ module _ (st : Store) (undamaged : undamagedOf st ≡ true) where
         let z : 0 + length (textNumbered st k) ≡ length (textNumbered st k) = omega arith in
         rw (undamaged, lt-ltb k (length (tableOf st .rules)) h) (fits-out (textNumbered st k) out fits ∙ ap (λ (n : ℕ). textNumbered st k ++ drop n out) z)
 
-    put : front (listAnswer st k out) (listOut st k out) ≡ textNumbered st k
+    pub put : front (listAnswer st k out) (listOut st k out) ≡ textNumbered st k
     put = rw (answered, written-there) (take-append-seam (textNumbered st k) _)
 
   module _ (buffers : ℕ → List ℕ) (room : (k : ℕ) → longestRule ≤ length (buffers k)) where
@@ -60,9 +60,10 @@ module _ (st : Store) (undamaged : undamagedOf st ≡ true) where
     unfolding listing
     whole = from (length (tableOf st .rules)) 0 (omega arith)
 
-  ends : (out : List ℕ) → listAnswer st (length (tableOf st .rules)) out ≡ l.Refused 13
+  -- from the number after the last on there is no rule
+  pub past : (k : ℕ) (out : List ℕ) → length (tableOf st .rules) ≤ k → listAnswer st k out ≡ l.Refused 13
   unfolding listAnswer ruleGiven
-  ends out = rw (undamaged, le-ltb (length (tableOf st .rules)) (length (tableOf st .rules)) (omega arith))
+  past k out h = rw (undamaged, le-ltb k (length (tableOf st .rules)) h)
 
   pub by-number : ListedByNumber st
   by-number =
@@ -71,6 +72,6 @@ module _ (st : Store) (undamaged : undamagedOf st ≡ true) where
         written = written-there;
         enough = short;
         whole = whole;
-        ends = ends;
+        ends = λ out. past (length (tableOf st .rules)) out (omega arith);
         loads-back = λ buffers room grown. subst (LoadsBack (tableOf st)) (sym (whole buffers room)) (loads-back (tableOf st) (grown-sane grown));
       }

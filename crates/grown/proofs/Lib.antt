@@ -4,3 +4,4 @@ pub mod Pairs
 pub mod Order
 pub mod Relisted
 pub mod ByNumber
+pub mod Numbered

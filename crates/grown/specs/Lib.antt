@@ -3,3 +3,4 @@ pub mod Sane
 pub mod Pairs
 pub mod Order
 pub mod Relisted
+pub mod Numbered

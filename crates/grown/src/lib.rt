@@ -4,7 +4,8 @@ ghost use mathlib.Core.Path.{_≡_};
 ghost use mathlib.Core.Bool.{Bool, true, false};
 ghost use mathlib.Core.List.{List};
 ghost use mathlib.Core.Logic.{_↔_};
-ghost use Prim.Native.Nat.{ℕ};
+ghost use lib.ListN.{length};
+ghost use Prim.Native.Nat.{ℕ, _≤_};
 ghost use Rattle.store.specs.Table.{Table, labelIn};
 ghost use Rattle.store.specs.Layout.{Store, tableOf, undamagedOf};
 ghost use Rattle.lines.specs.Lines.{rule, change, ruleOf, changeOf};
@@ -12,12 +13,14 @@ ghost use Rattle.writes.specs.Writes.{judged, changed};
 ghost use Rattle.store.specs.Judged.{is-accepted, tableAfter};
 ghost use Rattle.store.specs.Pairs.{modesBetween, modesSoFar};
 ghost use Rattle.access.specs.Access.{effective};
+ghost use Rattle.rule_text.specs.RuleText.{longestRule};
 ghost use Rattle.listing.specs.Listing.{listing};
 ghost use Rattle.grown.specs.Grown.{Grown};
 ghost use Rattle.grown.specs.Sane.{Sane};
 ghost use Rattle.grown.specs.Pairs.{SoundTable, Triple, ChangeText, hasRoom, isAccepted, SetsPair};
 ghost use Rattle.grown.specs.Order.{Asks, ByFirst};
 ghost use Rattle.grown.specs.Relisted.{LoadsBack, ListedByNumber};
+ghost use Rattle.grown.specs.Numbered.{OnlyNumbers, FindsListed};
 
 // What holds of every grown table.
 pub fn grown_is_sane()
@@ -78,4 +81,12 @@ pub fn demand_2_listing_loads_back()
 // The listing is what the listing call itself writes, asked for the rules' numbers in turn; so that loads back.
 pub fn demand_2_listed_by_number_loads_back()
     ensures { λ _. ⌜ ((st : Store) → undamagedOf st ≡ true → ListedByNumber st) ⌝ }
+{}
+
+// 02, Two: the rule search compares only numbers, and isn't begun where a label has none. In a grown table it finds the rule that the listing call
+// writes with these two labels, into any buffer that is long enough for every rule, and none exactly when there is none.
+pub fn number_search_finds_the_listed_rule()
+    ensures { λ _. ⌜ ((t : Table) → OnlyNumbers t) ⌝ }
+    ensures { λ _. ⌜ ((st : Store) (out s o : List ℕ) → undamagedOf st ≡ true → Grown (tableOf st) → longestRule ≤ length out →
+        FindsListed st out s o) ⌝ }
 {}
