@@ -1,18 +1,22 @@
 -- Laws of the searches. Assumes nothing.
 use mathlib.Core.Path.{_≡_, refl, sym, ap, _∙_}
-use mathlib.Core.Bool.{Bool, true, false, _||_}
-use mathlib.Core.List.{List, _∷_}
+use mathlib.Core.Bool.{Bool, true, false, cond}
+use mathlib.Core.List.{List, [], _∷_, _++_}
 use Prim.Native.Nat.{ℕ, zero, suc, _+_, _*_, _-_, _<_, _≤_}
+use native.Mathlib.Numerals.{add-one}
 use native.Mathlib.Omega.{arith}
 use lib.Dec.{eqb, ltb}
-use borrow.Author.Tests.{eq-eqb, ltb-true, ltb-false}
+use borrow.Author.Tests.{eq-eqb, eqb-true, eqb-false, ltb-true, ltb-false, lt-ltb, le-ltb}
 use lib.ListN.{length, take, drop, getD, length-drop}
 use lib.Seq.{take-take, getD-take, getD-drop, length-take-le, drop-cons}
 use Rattle.search.specs.Bytes.{sameBytes}
-use Rattle.search.proofs.Laws.{no, same-equal}
-use Rattle.store.specs.Table.{isPair}
-use Rattle.store.specs.Layout.{labelAt, ruleAt}
-use Rattle.places.specs.Within.{Unlike, NoPair, wordAt, NoWord, NotHeld}
+use Rattle.search.specs.Search.{first, placeOf, entries as listed}
+use Rattle.search.specs.Within.{wordAt}
+use Rattle.search.specs.declared.Found.{Found}
+use Rattle.search.specs.declared.Found.the-variants.{At, Nothing}
+use Rattle.search.proofs.Laws.{no, same-equal, first-is, first-before, first-fails, first-append, first-snoc, first-last, last-entry, entries-length, entries-at, found-at, found-none}
+use Rattle.store.specs.Layout.{labelAt}
+use Rattle.places.specs.Within.{Unlike, NoWord, NotHeld}
 
 -- ---- a label told by its length and its last byte
 
@@ -112,31 +116,78 @@ no-word-one t offset word i h k above below =
     let same : k ≡ i = omega arith in
     ap (λ (x : ℕ). eqb (wordAt t (x * 256 + offset)) word) same ∙ h
 
--- places counted from the first of them
-pub no-word-from : (t : List ℕ) (offset word from n : ℕ) → ((k : ℕ) → k < n → eqb (wordAt t ((from + k) * 256 + offset)) word ≡ false) → NoWord t offset word from (from + n)
-no-word-from t offset word from n h k above below =
-    let same : k ≡ from + (k - from) = omega arith in
-    ap (λ (x : ℕ). eqb (wordAt t (x * 256 + offset)) word) same ∙ h (k - from) (omega arith)
+-- the same where the second run of places begins no later than the first ends
+pub no-word-join : (t : List ℕ) (offset word from i m j : ℕ) → m ≤ i → NoWord t offset word from i → NoWord t offset word m j → NoWord t offset word from j
+no-word-join t offset word from i m j meets before here = no-word-more t offset word from i j before (λ k h. here k (omega arith))
 
--- ---- a pair sought in blocks of 32 places
+-- ---- the lowest place that passes a test, or the last
 
-pub or-false : (a b : Bool) → (a || b) ≡ false → (a ≡ false) × (b ≡ false)
-or-false true b e = (e, absurd (no (sym e)))
-or-false false b e = (refl, e)
+module _ {A : Type 0} (p : A → Bool) (f : ℕ → A) (last : ℕ) where
+  abbrev lowest : ℕ → ℕ
+  lowest n = placeOf (first p (listed f n)) last
 
--- past one block more
-pub no-pair-more : (s o : ℕ) (e : List ℕ) (b : ℕ) → NoPair s o e 0 (b * 32) → NoPair s o e (b * 32) 32 → NoPair s o e 0 ((b + 1) * 32)
-no-pair-more s o e b before here k h = by-test (ltb k (b * 32)) refl
-  where
-    by-test : (t : Bool) → ltb k (b * 32) ≡ t → isPair s o (ruleAt e (0 + k)) ≡ false
-    by-test true q = before k (ltb-true k (b * 32) q)
-    by-test false q =
-        let past = ltb-false k (b * 32) q in
-        let same : 0 + k ≡ b * 32 + (k - b * 32) = omega arith in
-        ap (λ (j : ℕ). isPair s o (ruleAt e j)) same ∙ here (k - b * 32) (omega arith)
+  -- one place more
+  pub lowest-more : (i low here : ℕ) → i ≤ last → low ≡ lowest i → here ≡ cond (p (f i)) i last → cond (ltb low here) low here ≡ lowest (i + 1)
+  lowest-more i low here inside is next = by-case (first p (listed f i)) refl (p (f i)) refl
+    where
+      more : first p (listed f (i + 1)) ≡ first p (listed f i ++ (f i ∷ []))
+      more = rw add-one (ap (first p) (last-entry f f i (f i) (λ k h. refl) refl))
 
--- the same by the places' own numbers
-pub no-pair-at : (s o : ℕ) (e : List ℕ) {n : ℕ} → NoPair s o e 0 n → (k : ℕ) → k < n → isPair s o (ruleAt e k) ≡ false
-no-pair-at s o e none k h =
-    let same : k ≡ 0 + k = omega arith in
-    ap (λ (j : ℕ). isPair s o (ruleAt e j)) same ∙ none k h
+      here-is : (b : Bool) → p (f i) ≡ b → here ≡ cond b i last
+      here-is b q = next ∙ ap (λ (t : Bool). cond t i last) q
+
+      above : (k : ℕ) → k < i → (b : Bool) → here ≡ cond b i last → k < here
+      above k h true e = omega arith
+      above k h false e = omega arith
+
+      by-case : (r : Found) → first p (listed f i) ≡ r → (b : Bool) → p (f i) ≡ b → cond (ltb low here) low here ≡ lowest (i + 1)
+      by-case (At k) e b q =
+          let low-is : low ≡ k = is ∙ ap (λ (r : Found). placeOf r last) e in
+          let below : k < i = omega (arith, first-is p (f 0) (listed f i) k e .0, entries-length f i) in
+          let t = lt-ltb low here (omega (arith, above k below b (here-is b q))) in
+          rw (t, more ∙ first-append p (listed f i) (f i ∷ []) k e) low-is
+      by-case Nothing e true q =
+          let low-is : low ≡ last = is ∙ ap (λ (r : Found). placeOf r last) e in
+          let t = le-ltb low here (omega (arith, here-is true q)) in
+          rw (t, more ∙ first-last p (listed f i) (f i) e q, entries-length f i) (here-is true q)
+      by-case Nothing e false q =
+          let low-is : low ≡ last = is ∙ ap (λ (r : Found). placeOf r last) e in
+          let t = le-ltb low here (omega (arith, here-is false q)) in
+          rw (t, more ∙ first-snoc p (listed f i) (f i) q ∙ e) (here-is false q)
+
+  -- no place before it passes, of those that were looked at
+  before-lowest : (m k : ℕ) → k < m → k < lowest m → p (f k) ≡ false
+  before-lowest m k h below = sym (ap p (entries-at f (f 0) m k h)) ∙ by-case (first p (listed f m)) refl below
+    where
+      by-case : (r : Found) → first p (listed f m) ≡ r → k < placeOf r last → p (getD (listed f m) k (f 0)) ≡ false
+      by-case (At j) e b = first-before p (f 0) (listed f m) j e k b
+      by-case Nothing e b = first-fails p (f 0) (listed f m) e k (omega (arith, entries-length f m))
+
+  -- and it passes, unless it is the last
+  pub at-lowest : (m low : ℕ) → low ≡ lowest m → (low ≡ last → ⊥) → p (f low) ≡ true
+  at-lowest m low is other = by-case (first p (listed f m)) refl
+    where
+      by-case : (r : Found) → first p (listed f m) ≡ r → p (f low) ≡ true
+      by-case (At j) e =
+          let h = first-is p (f 0) (listed f m) j e in
+          let low-is : low ≡ j = is ∙ ap (λ (r : Found). placeOf r last) e in
+          ap (λ (k : ℕ). p (f k)) low-is ∙ sym (ap p (entries-at f (f 0) m j (omega (arith, h .0, entries-length f m)))) ∙ h .1
+      by-case Nothing e = absurd (other (is ∙ ap (λ (r : Found). placeOf r last) e))
+
+  -- what that says of the first n of them
+  module _ (n m low : ℕ) (within : n ≤ m) (is : low ≡ lowest m) where
+    pub lowest-none : n ≤ low → first p (listed f n) ≡ Nothing
+    lowest-none h = found-none p f n (λ k b. before-lowest m k (omega arith) (omega arith))
+
+    pub lowest-found : low < n → p (f low) ≡ true → first p (listed f n) ≡ At low
+    lowest-found h here = found-at p f n low h (λ k b. before-lowest m k (omega arith) (omega arith)) here
+
+    pub lowest-fails : n ≤ low + 1 → p (f low) ≡ false → first p (listed f n) ≡ Nothing
+    lowest-fails h here = found-none p f n by-place
+      where
+        by-place : (k : ℕ) → k < n → p (f k) ≡ false
+        by-place k b = by-test (eqb k low) refl
+          where
+            by-test : (t : Bool) → eqb k low ≡ t → p (f k) ≡ false
+            by-test true q = ap (λ (j : ℕ). p (f j)) (eqb-true k low q) ∙ here
+            by-test false q = before-lowest m k (omega arith) (omega (arith, eqb-false k low q))

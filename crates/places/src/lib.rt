@@ -2,18 +2,22 @@
 // Nothing is changed.
 use search::Found;
 ghost use mathlib.Core.Path.{_≡_};
-ghost use mathlib.Core.Bool.{false};
+ghost use mathlib.Core.Bool.{cond};
 ghost use mathlib.Core.List.{List, _∷_};
 ghost use Prim.Native.Nat.{ℕ, _+_, _<_, _≤_};
+ghost use lib.Dec.{ltb};
 ghost use lib.ListN.{length, getD};
 ghost use Rattle.search.specs.Within.{countAfter};
 ghost use Rattle.search.specs.Search.{first, placeOf, entries as listed};
 ghost use Rattle.search.specs.Bytes.{sameBytes};
 ghost use Rattle.store.specs.Table.{isPair, names, noPlace, labelLimit, ruleLimit, mappingLimit};
-ghost use Rattle.store.specs.Layout.{labelsSize, modesFrom, mappedFrom, labelAt, ruleAt, mappingAt};
+ghost use Rattle.store.specs.Layout.{labelsSize, placeSize, modesFrom, mappedFrom, labelAt, ruleAt, mappingAt};
 ghost use Rattle.store.specs.Within.{entered};
 ghost use Rattle.places.specs.Places.{labelStart, PartFrom};
-ghost use Rattle.places.specs.Within.{Unlike, NoPair, wordAt, NoWord, NotHeld};
+ghost use Rattle.places.specs.Within.{Unlike, NoWord, NotHeld, lastRule};
+
+// The last place that a rule can have.
+const LAST_RULE: u8 = 255;
 
 // The very part of the label store that holds label k. Who calls it has tested the store.
 pub fn label_at(labels: &[u8], k: usize) -> &[u8]
@@ -36,7 +40,7 @@ fn last_byte(label: &[u8]) -> u8
 }
 
 // The next place from an index on, of the first `count`, that has a label of length n with this last byte, or one past them: for labels of
-// fewer than four bytes. Its contract speaks of the places that it passes alone, as do those of the four that follow: the place that it stops at is
+// fewer than four bytes. Its contract speaks of the places that it passes alone, as do those of the five that follow: the place that it stops at is
 // compared whole. Who calls it has tested the store and the length.
 fn next_short(labels: &[u8], from: usize, count: usize, n: usize, last: u8) -> usize
     requires { ⌜ (length (now labels) ≡ labelsSize) × (from ≤ labelLimit) × (count ≤ labelLimit) × (n ≤ 255) ⌝ }
@@ -54,54 +58,64 @@ fn next_short(labels: &[u8], from: usize, count: usize, n: usize, last: u8) -> u
     i
 }
 
-// Four bytes from an index on as one number, which the compiler reads at once. Who calls it has made sure that there are four.
-fn word_at(bytes: &[u8], at: usize) -> u32
-    requires { ⌜ at + 4 ≤ length (now bytes) ⌝ }
-    ensures { λ r. ⌜ r ≡ wordAt (now (bytes .entry)) at ⌝ }
+// The first of two places from an index on that has this word at that offset, or one past them. Each place has a test and an exit of its own:
+// the processor guesses wrong once for a label, and not twice as where a test tells which eight and another which of them. Who calls it has
+// tested the store.
+fn of_two(labels: &[u8], from: usize, offset: usize, word: u32) -> usize
+    requires { ⌜ (length (now labels) ≡ labelsSize) × (from + 2 ≤ labelLimit) × (offset + 4 ≤ placeSize) ⌝ }
+    ensures { λ r. ⌜ (from ≤ r) × (r ≤ from + 2) × NoWord (now (labels .entry)) offset word from r ⌝ }
 {
-    let low = bytes[at] as u32 + bytes[at + 1] as u32 * 256;
-    low + bytes[at + 2] as u32 * 65536 + bytes[at + 3] as u32 * 16777216
-}
-
-// Whether one of the eight places from an index on has this word at that offset. It reads all of them, so that nothing is done between them.
-// Its contract speaks of "no" alone: after a "yes" they are looked at one by one. Who calls it has tested the store.
-fn eight_have(labels: &[u8], from: usize, offset: usize, word: u32) -> bool
-    requires { ⌜ (length (now labels) ≡ labelsSize) × (from ≤ 56) × (offset ≤ 252) ⌝ }
-    ensures { λ r. ⌜ (r ≡ false → NoWord (now (labels .entry)) offset word from (from + 8)) ⌝ }
-{
-    let mut any = false;
-    let mut i = 0;
-    while i < 8 {
-        any = any | (word_at(labels, (from + i) * store::LABEL_PLACE + offset) == word);
-        i += 1;
+    let at = from * store::LABEL_PLACE + offset;
+    if search::word_at(labels, at) == word {
+        return from;
     }
-    any
+    if search::word_at(labels, at + store::LABEL_PLACE) == word {
+        return from + 1;
+    }
+    from + 2
 }
 
-// An index up to which no place from another on has this word at that offset: the first eight places that may have it, or fewer than eight
-// that are left of the first `count`. Who calls it has tested the store.
-fn pass_eights(labels: &[u8], from: usize, count: usize, offset: usize, word: u32) -> usize
-    requires { ⌜ (length (now labels) ≡ labelsSize) × (from ≤ labelLimit) × (count ≤ labelLimit) × (offset ≤ 252) ⌝ }
+// The same of four places.
+fn of_four(labels: &[u8], from: usize, offset: usize, word: u32) -> usize
+    requires { ⌜ (length (now labels) ≡ labelsSize) × (from + 4 ≤ labelLimit) × (offset + 4 ≤ placeSize) ⌝ }
+    ensures { λ r. ⌜ (from ≤ r) × (r ≤ from + 4) × NoWord (now (labels .entry)) offset word from r ⌝ }
+{
+    let k = of_two(labels, from, offset, word);
+    if k < from + 2 {
+        return k;
+    }
+    of_two(labels, from + 2, offset, word)
+}
+
+// The same of eight places.
+fn of_eight(labels: &[u8], from: usize, offset: usize, word: u32) -> usize
+    requires { ⌜ (length (now labels) ≡ labelsSize) × (from + 8 ≤ labelLimit) × (offset + 4 ≤ placeSize) ⌝ }
+    ensures { λ r. ⌜ (from ≤ r) × (r ≤ from + 8) × NoWord (now (labels .entry)) offset word from r ⌝ }
+{
+    let k = of_four(labels, from, offset, word);
+    if k < from + 4 {
+        return k;
+    }
+    of_four(labels, from + 4, offset, word)
+}
+
+// The next place from an index on, of the first `count`, that has this word at that offset, or one that is not of these: eight at a time, of
+// which some may stand past the count, and what is left before it one by one. Who calls it has tested the store.
+fn next_with(labels: &[u8], from: usize, count: usize, offset: usize, word: u32) -> usize
+    requires { ⌜ (length (now labels) ≡ labelsSize) × (from ≤ labelLimit) × (count ≤ labelLimit) × (offset + 4 ≤ placeSize) ⌝ }
     ensures { λ r. ⌜ (from ≤ r) × NoWord (now (labels .entry)) offset word from r ⌝ }
 {
+    let eights = (count + 7) / 8 * 8;
     let mut i = from;
-    while i + 8 <= count {
-        if eight_have(labels, i, offset, word) {
-            return i;
+    while i + 8 <= eights {
+        let k = of_eight(labels, i, offset, word);
+        if k < i + 8 {
+            return k;
         }
         i += 8;
     }
-    i
-}
-
-// The next place from an index on, of the first `count`, that has this word at that offset, or one past them. Who calls it has tested the store.
-fn next_with(labels: &[u8], from: usize, count: usize, offset: usize, word: u32) -> usize
-    requires { ⌜ (length (now labels) ≡ labelsSize) × (from ≤ labelLimit) × (count ≤ labelLimit) × (offset ≤ 252) ⌝ }
-    ensures { λ r. ⌜ (from ≤ r) × NoWord (now (labels .entry)) offset word from r ⌝ }
-{
-    let mut i = pass_eights(labels, from, count, offset, word);
     while i < count {
-        if word_at(labels, i * store::LABEL_PLACE + offset) == word {
+        if search::word_at(labels, i * store::LABEL_PLACE + offset) == word {
             return i;
         }
         i += 1;
@@ -119,7 +133,7 @@ fn next_like(labels: &[u8], from: usize, count: usize, label: &[u8]) -> usize
     if n < 4 {
         return next_short(labels, from, count, n, last_byte(label));
     }
-    next_with(labels, from, count, n - 3, word_at(label, n - 4))
+    next_with(labels, from, count, n - 3, search::word_at(label, n - 4))
 }
 
 // The number of a label among the first `count`: the first that has its bytes. Who calls it has tested the store.
@@ -145,51 +159,56 @@ pub fn find_label(labels: &[u8], count: usize, label: &[u8]) -> Found
     Found::Nothing
 }
 
-// Whether one of the 32 places from an index on holds the pair. It reads all of them, stored or not, so that the compiler can take many at a
-// time. Its contract speaks of "no" alone: after a "yes" they are looked at one by one. Who calls it has tested the store.
-fn block_holds(entries: &[u8], from: usize, subject: u8, object: u8) -> bool
-    requires { ⌜ (modesFrom + ruleLimit ≤ length (now entries)) × (from ≤ 224) ⌝ }
-    ensures { λ r. ⌜ (r ≡ false → NoPair subject object (now (entries .entry)) from 32) ⌝ }
+// The smaller of two numbers.
+fn smaller(a: u8, b: u8) -> u8
+    ensures { λ r. ⌜ r ≡ cond (ltb a b) a b ⌝ }
 {
-    let mut any = false;
+    if a < b { a } else { b }
+}
+
+// A place where it holds what is sought, and the last place of a rule where not.
+fn place_if(holds: bool, place: u8) -> u8
+    ensures { λ r. ⌜ r ≡ cond holds place lastRule ⌝ }
+{
+    if holds { place } else { LAST_RULE }
+}
+
+// The first of `limit` places that holds the pair, or the last place of a rule where none does. It reads all of them, stored or not, with no
+// exit, so that the compiler can take many at a time and nothing is guessed. Who calls it has tested the store.
+fn lowest_pair(entries: &[u8], limit: usize, subject: u8, object: u8) -> u8
+    requires { ⌜ (modesFrom + ruleLimit ≤ length (now entries)) × (limit ≤ ruleLimit) ⌝ }
+    ensures { λ r. ⌜ r ≡ placeOf (first (isPair subject object) (listed (ruleAt (now (entries .entry))) limit)) lastRule ⌝ }
+{
+    let mut low = LAST_RULE;
     let mut i = 0;
-    while i < 32 {
-        let at = from + i;
-        any = any | ((entries[at] == subject) & (entries[store::OBJECTS_FROM + at] == object));
+    while i < limit {
+        let holds = (entries[i] == subject) & (entries[store::OBJECTS_FROM + i] == object);
+        low = smaller(low, place_if(holds, i as u8));
         i += 1;
     }
-    any
+    low
 }
 
-// An index before which no place holds the pair: the first block of 32 that may hold it, or where the blocks of the stored ones
-// end. Its contract speaks of the places before it alone: from there on they are looked at one by one. Who calls it has tested the store.
-fn pass_blocks(entries: &[u8], count: usize, subject: u8, object: u8) -> usize
-    requires { ⌜ (modesFrom + ruleLimit ≤ length (now entries)) × (count ≤ ruleLimit) ⌝ }
-    ensures { λ r. ⌜ NoPair subject object (now (entries .entry)) 0 r ⌝ }
-{
-    let mut block = 0;
-    while block * 32 < count {
-        if block_holds(entries, block * 32, subject, object) {
-            return block * 32;
-        }
-        block += 1;
-    }
-    block * 32
-}
-
-// The place of a pair's rule among the first `count`: only numbers are compared. Who calls it has tested the store.
+// The place of a pair's rule among the first `count`: only numbers are compared, 32 places at a time, of which some may stand past the count.
+// The last place of a rule is looked at once more, since it is also the answer where no place holds the pair. Who calls it has tested the store.
 pub fn find_pair(entries: &[u8], count: usize, subject: u8, object: u8) -> Found
     requires { ⌜ (modesFrom + ruleLimit ≤ length (now entries)) × (count ≤ ruleLimit) ⌝ }
     ensures { λ r. ⌜ r ≡ first (isPair subject object) (listed (ruleAt (now (entries .entry))) count) ⌝ }
 {
-    let mut i = pass_blocks(entries, count, subject, object);
-    while i < count {
-        if (entries[i] == subject) & (entries[store::OBJECTS_FROM + i] == object) {
-            return Found::At(i);
-        }
-        i += 1;
+    let low = lowest_pair(entries, (count + 31) / 32 * 32, subject, object);
+    let k = low as usize;
+    if count <= k {
+        return Found::Nothing;
     }
-    Found::Nothing
+    if low == LAST_RULE {
+        if entries[k] != subject {
+            return Found::Nothing;
+        }
+        if entries[store::OBJECTS_FROM + k] != object {
+            return Found::Nothing;
+        }
+    }
+    Found::At(k)
 }
 
 // The number of an entry that is there or takes the next place, and how many entries there then are.

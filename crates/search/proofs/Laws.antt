@@ -3,15 +3,15 @@ use mathlib.Core.Path.{_≡_, refl, sym, ap, _∙_}
 use mathlib.Core.Bool.{Bool, true, false, cond, not, _&&_, _||_, and-false, and-true}
 use mathlib.Core.List.{List, [], _∷_, _++_, append-assoc, append-nil, map}
 use mathlib.Core.Logic.{_↔_, _⊎_, inl, inr, ⊎-elim}
-use Prim.Native.Nat.{ℕ, zero, suc, _+_, _<_, _≤_, suc-le-suc}
+use Prim.Native.Nat.{ℕ, zero, suc, _+_, _-_, _<_, _≤_, suc-le-suc}
 use native.Mathlib.Nat.{le-of-suc-le-suc, eq-or-lt-of-le}
 use native.Mathlib.Numerals.{add-one}
 use native.Mathlib.Omega.{arith}
-use lib.Dec.{eqb}
-use borrow.Author.Tests.{eqb-true, eqb-false, eq-eqb, ne-eqb}
+use lib.Dec.{eqb, ltb}
+use borrow.Author.Tests.{eqb-true, eqb-false, eq-eqb, ne-eqb, ltb-true, ltb-false}
 use lib.ListN.{length, take, drop, getD, set, length-append, length-take, length-drop, length-set, length-map, List·getD-append}
-use lib.Seq.{drop-cons, drop-drop, drop-append-add, take-at, set-split, getD-at, getD-set-same, getD-set-other, length-take-le}
-use Rattle.search.specs.Within.{countAfter}
+use lib.Seq.{drop-cons, drop-drop, drop-append-add, take-at, set-split, getD-at, getD-set-same, getD-set-other, length-take-le, ext-getD}
+use Rattle.search.specs.Within.{countAfter, wordAt, wordsDiffer, secondFour, thirdFour}
 use Rattle.search.specs.Search.{first, all, put, placeOf, entries, later}
 use Rattle.search.specs.Bytes.{sameBytes, written}
 use Rattle.search.specs.declared.Found.{Found}
@@ -25,6 +25,18 @@ no e = let z : _≡_ {A = ℕ} 0 1 = cc in omega arith
 pub and-both : (a b : Bool) → (a && b) ≡ true → (a ≡ true) × (b ≡ true)
 and-both true b e = (refl, e)
 and-both false b e = (e, absurd (no e))
+
+pub or-false : (a b : Bool) → (a || b) ≡ false → (a ≡ false) × (b ≡ false)
+or-false true b e = (e, absurd (no (sym e)))
+or-false false b e = (refl, e)
+
+-- two numbers and two others, neither of which differ
+pub neither-differs : (p q r s : ℕ) → (not (eqb p q) || not (eqb r s)) ≡ false → (p ≡ q) × (r ≡ s)
+neither-differs p q r s e = let h = or-false _ _ e in (eqb-true p q (by-test (eqb p q) (h .0)), eqb-true r s (by-test (eqb r s) (h .1)))
+  where
+    by-test : (t : Bool) → not t ≡ false → t ≡ true
+    by-test true e = refl
+    by-test false e = sym e
 
 pub and-assoc : (a b c : Bool) → (a && (b && c)) ≡ ((a && b) && c)
 and-assoc true b c = refl
@@ -87,16 +99,27 @@ same-equal (x ∷ xs) (y ∷ ys) e =
     let q = same-equal xs ys (h .1) in
     cc
 
--- two strings that differ at one of two places are not equal
-pub same-ends : (a b : List ℕ) (k m : ℕ) → (not (eqb (getD a k 0) (getD b k 0)) || not (eqb (getD a m 0) (getD b m 0))) ≡ true → sameBytes a b ≡ false
-same-ends a b k m e = by-test (sameBytes a b) refl
+-- two strings are not equal where one of two numbers differs that equal strings have in common
+pub differ : (a b : List ℕ) (p q r s : ℕ) → (a ≡ b → p ≡ q) → (a ≡ b → r ≡ s) → (not (eqb p q) || not (eqb r s)) ≡ true → sameBytes a b ≡ false
+differ a b p q r s one other e = by-test (sameBytes a b) refl
   where
-    by-test : (t : Bool) → sameBytes a b ≡ t → sameBytes a b ≡ false
-    by-test true q =
-        let f : eqb (getD a k 0) (getD b k 0) ≡ true = eq-eqb _ _ (ap (λ (l : List ℕ). getD l k 0) (same-equal a b q)) in
-        let g : eqb (getD a m 0) (getD b m 0) ≡ true = eq-eqb _ _ (ap (λ (l : List ℕ). getD l m 0) (same-equal a b q)) in
+    by-test : (t : Bool) → sameBytes a b ≡ t → t ≡ false
+    by-test true h =
+        let f : eqb p q ≡ true = eq-eqb p q (one (same-equal a b h)) in
+        let g : eqb r s ≡ true = eq-eqb r s (other (same-equal a b h)) in
         absurd (no (rw (f, g) at e))
-    by-test false q = q
+    by-test false h = refl
+
+-- where one of two is empty, their lengths decide
+pub same-empty : (a b : List ℕ) → (eqb (length a) 0 || eqb (length b) 0) ≡ true → eqb (length a) (length b) ≡ sameBytes a b
+unfolding sameBytes
+same-empty [] [] e = refl
+same-empty [] (y ∷ ys) e = ne-eqb 0 (suc (length ys)) (λ q. omega arith)
+same-empty (x ∷ xs) [] e = ne-eqb (suc (length xs)) 0 (λ q. omega arith)
+same-empty (x ∷ xs) (y ∷ ys) e =
+    let f = ne-eqb (suc (length xs)) 0 (λ q. omega arith) in
+    let g = ne-eqb (suc (length ys)) 0 (λ q. omega arith) in
+    absurd (no (rw (f, g) at e))
 
 pub same-sym : (a b : List ℕ) → sameBytes a b ≡ sameBytes b a
 unfolding sameBytes
@@ -104,6 +127,82 @@ same-sym [] [] = refl
 same-sym [] (y ∷ ys) = refl
 same-sym (x ∷ xs) [] = refl
 same-sym (x ∷ xs) (y ∷ ys) = rw (eqb-sym x y, same-sym xs ys)
+
+-- ---- bytes compared as words
+
+-- words that are equal have equal bytes
+word-bytes :
+    (a b : List ℕ) (i : ℕ) →
+    ((k : ℕ) → getD a k 0 ≤ 255) →
+    ((k : ℕ) → getD b k 0 ≤ 255) →
+    wordAt a i ≡ wordAt b i →
+    (j : ℕ) →
+    i ≤ j →
+    j < i + 4 →
+    getD a j 0 ≡ getD b j 0
+unfolding wordAt
+word-bytes a b i small small′ e j above below = by-tests (eqb j i) refl (eqb j (i + 1)) refl (eqb j (i + 2)) refl
+  where
+    each : (getD a i 0 ≡ getD b i 0) × (getD a (i + 1) 0 ≡ getD b (i + 1) 0) × (getD a (i + 2) 0 ≡ getD b (i + 2) 0) × (getD a (i + 3) 0 ≡ getD b (i + 3) 0)
+    each = omega (arith, e, small i, small (i + 1), small (i + 2), small (i + 3), small′ i, small′ (i + 1), small′ (i + 2), small′ (i + 3))
+
+    at : (k : ℕ) → j ≡ k → getD a k 0 ≡ getD b k 0 → getD a j 0 ≡ getD b j 0
+    at k q p = ap (λ (x : ℕ). getD a x 0) q ∙ p ∙ sym (ap (λ (x : ℕ). getD b x 0) q)
+
+    by-tests : (p : Bool) → eqb j i ≡ p → (q : Bool) → eqb j (i + 1) ≡ q → (r : Bool) → eqb j (i + 2) ≡ r → getD a j 0 ≡ getD b j 0
+    by-tests true p q q′ r r′ = at i (eqb-true j i p) (each .0)
+    by-tests false p true q r r′ = at (i + 1) (eqb-true j (i + 1) q) (each .1)
+    by-tests false p false q true r = at (i + 2) (eqb-true j (i + 2) r) (each .2)
+    by-tests false p false q false r = at (i + 3) (omega (arith, eqb-false j i p, eqb-false j (i + 1) q, eqb-false j (i + 2) r)) (each .3)
+
+-- what holds in each of the four fours holds at every index of a string of at most 16 bytes
+pub covered :
+    (P : ℕ → Type 0) (n : ℕ) →
+    n ≤ 16 →
+    ((i : ℕ) → i < 4 → P i) →
+    ((i : ℕ) → secondFour n ≤ i → i < secondFour n + 4 → P i) →
+    ((i : ℕ) → thirdFour n ≤ i → i < thirdFour n + 4 → P i) →
+    ((i : ℕ) → n - 4 ≤ i → i < n - 4 + 4 → P i) →
+    (i : ℕ) →
+    i < n →
+    P i
+covered P n short one two three four i h = by-tests (ltb i 4) refl (ltb i (n - 4)) refl (ltb i 8) refl
+  where
+    by-tests : (x : Bool) → ltb i 4 ≡ x → (y : Bool) → ltb i (n - 4) ≡ y → (z : Bool) → ltb i 8 ≡ z → P i
+    by-tests true x y y′ z z′ = one i (ltb-true i 4 x)
+    by-tests false x false y z z′ = let from = ltb-false i (n - 4) y in four i from (omega arith)
+    by-tests false x true y true z =
+        let from = ltb-false i 4 x in
+        let before = ltb-true i (n - 4) y in
+        let low = ltb-true i 8 z in
+        two i (omega arith) (omega arith)
+    by-tests false x true y false z =
+        let from = ltb-false i 8 z in
+        let before = ltb-true i (n - 4) y in
+        three i (omega arith) (omega arith)
+
+-- strings that differ in a word are not equal
+pub words-apart : (a b : List ℕ) (i j : ℕ) → wordsDiffer a b i j ≡ true → sameBytes a b ≡ false
+unfolding wordsDiffer
+words-apart a b i j = differ a b _ _ _ _ (ap (λ (l : List ℕ). wordAt l i)) (ap (λ (l : List ℕ). wordAt l j))
+
+-- and strings of one length, at most 16, are equal where they differ in none of the four fours
+pub words-same :
+    (a b : List ℕ) →
+    length a ≡ length b →
+    length a ≤ 16 →
+    ((k : ℕ) → getD a k 0 ≤ 255) →
+    ((k : ℕ) → getD b k 0 ≤ 255) →
+    wordsDiffer a b 0 (length a - 4) ≡ false →
+    wordsDiffer a b (secondFour (length a)) (thirdFour (length a)) ≡ false →
+    sameBytes a b ≡ true
+unfolding wordsDiffer
+words-same a b same most small small′ outer inner =
+    let ends = neither-differs _ _ _ _ outer in
+    let middle = neither-differs _ _ _ _ inner in
+    let at : (i : ℕ) → wordAt a i ≡ wordAt b i → (j : ℕ) → i ≤ j → j < i + 4 → getD a j 0 ≡ getD b j 0 = λ i e. word-bytes a b i small small′ e in
+    let bytes = covered (λ (j : ℕ). getD a j 0 ≡ getD b j 0) (length a) most (λ j h. at 0 (ends .0) j (omega arith) (omega arith)) (at _ (middle .0)) (at _ (middle .1)) (at _ (ends .1)) in
+    ap (sameBytes a) (sym (ext-getD 0 a b same bytes)) ∙ same-refl a
 
 -- ---- a byte string written over another
 
@@ -227,6 +326,26 @@ first-before p d (x ∷ xs) i e k h = by-test (p x) refl (first p xs) (first-bef
     by-test false q f ih i e zero h = q
     by-test false q (At j) ih i e (suc k) h = let z : i ≡ suc j = cc in ih j refl k (omega arith)
     by-test false q Nothing ih i e (suc k) h = let z : _≡_ {A = ℕ} 0 1 = cc in absurd (omega arith)
+
+-- where nothing is found every entry fails
+pub first-fails : {A : Type 0} (p : A → Bool) (d : A) (l : List A) → first p l ≡ Nothing → (k : ℕ) → k < length l → p (getD l k d) ≡ false
+unfolding first
+first-fails p d [] e k h = absurd (omega arith)
+first-fails p d (x ∷ xs) e k h = by-test (p x) refl (first p xs) (first-fails p d xs) e k h
+  where
+    by-test :
+        (b : Bool) →
+        p x ≡ b →
+        (f : Found) →
+        (f ≡ Nothing → (k : ℕ) → k < length xs → p (getD xs k d) ≡ false) →
+        cond b (At zero) (later f) ≡ Nothing →
+        (k : ℕ) →
+        k < suc (length xs) →
+        p (getD (x ∷ xs) k d) ≡ false
+    by-test true q f ih e k h = let z : _≡_ {A = ℕ} 0 1 = cc in absurd (omega arith)
+    by-test false q (At j) ih e k h = let z : _≡_ {A = ℕ} 0 1 = cc in absurd (omega arith)
+    by-test false q Nothing ih e zero h = q
+    by-test false q Nothing ih e (suc k) h = ih refl k (le-of-suc-le-suc h)
 
 -- an entry that fails the test, put last, changes no search
 pub first-snoc : {A : Type 0} (p : A → Bool) (l : List A) (x : A) → p x ≡ false → first p (l ++ (x ∷ [])) ≡ first p l
