@@ -16,7 +16,7 @@ use Rattle.search.specs.declared.Found.{Found}
 use Rattle.search.specs.declared.Found.the-variants.{At, Nothing}
 use Rattle.search.proofs.Laws.{no, same-equal, first-is, first-before, first-fails, first-append, first-snoc, first-last, last-entry, entries-length, entries-at, found-at, found-none}
 use Rattle.store.specs.Layout.{labelAt}
-use Rattle.places.specs.Within.{Unlike, NoWord, NotHeld}
+use Rattle.places.specs.Within.{Unlike, NoWord, NotHeld, FirstHeld}
 
 -- ---- a label told by its length and its last byte
 
@@ -120,6 +120,19 @@ no-word-one t offset word i h k above below =
 pub no-word-join : (t : List ℕ) (offset word from i m j : ℕ) → m ≤ i → NoWord t offset word from i → NoWord t offset word m j → NoWord t offset word from j
 no-word-join t offset word from i m j meets before here = no-word-more t offset word from i j before (λ k h. here k (omega arith))
 
+-- ---- a label sought where another was found
+
+-- a place of the first n
+pub found-below : {A : Type 0} (p : A → Bool) (f : ℕ → A) (n k : ℕ) → first p (listed f n) ≡ At k → k < n
+found-below p f n k e = omega (arith, first-is p (f 0) (listed f n) k e .0, entries-length f n)
+
+-- what a search for any label answers is the first place that holds what it holds
+pub first-held : (t : List ℕ) (n : ℕ) (l : List ℕ) (r : Found) → r ≡ first (sameBytes l) (listed (labelAt t) n) → FirstHeld t n r
+first-held t n l r is k at =
+    let e = sym is ∙ at in
+    let here = sym (ap (sameBytes l) (entries-at (labelAt t) (labelAt t 0) n k (found-below (sameBytes l) (labelAt t) n k e))) ∙ first-is (sameBytes l) (labelAt t 0) (listed (labelAt t) n) k e .1 in
+    ap (λ (x : List ℕ). first (sameBytes x) (listed (labelAt t) n)) (sym (same-equal l (labelAt t k) here)) ∙ e
+
 -- ---- the lowest place that passes a test, or the last
 
 module _ {A : Type 0} (p : A → Bool) (f : ℕ → A) (last : ℕ) where
@@ -143,7 +156,7 @@ module _ {A : Type 0} (p : A → Bool) (f : ℕ → A) (last : ℕ) where
       by-case : (r : Found) → first p (listed f i) ≡ r → (b : Bool) → p (f i) ≡ b → cond (ltb low here) low here ≡ lowest (i + 1)
       by-case (At k) e b q =
           let low-is : low ≡ k = is ∙ ap (λ (r : Found). placeOf r last) e in
-          let below : k < i = omega (arith, first-is p (f 0) (listed f i) k e .0, entries-length f i) in
+          let below = found-below p f i k e in
           let t = lt-ltb low here (omega (arith, above k below b (here-is b q))) in
           rw (t, more ∙ first-append p (listed f i) (f i ∷ []) k e) low-is
       by-case Nothing e true q =
@@ -171,7 +184,7 @@ module _ {A : Type 0} (p : A → Bool) (f : ℕ → A) (last : ℕ) where
       by-case (At j) e =
           let h = first-is p (f 0) (listed f m) j e in
           let low-is : low ≡ j = is ∙ ap (λ (r : Found). placeOf r last) e in
-          ap (λ (k : ℕ). p (f k)) low-is ∙ sym (ap p (entries-at f (f 0) m j (omega (arith, h .0, entries-length f m)))) ∙ h .1
+          ap (λ (k : ℕ). p (f k)) low-is ∙ sym (ap p (entries-at f (f 0) m j (found-below p f m j e))) ∙ h .1
       by-case Nothing e = absurd (other (is ∙ ap (λ (r : Found). placeOf r last) e))
 
   -- what that says of the first n of them

@@ -5,8 +5,11 @@ use lib.Dec.{eqb}
 use mathlib.Core.Bool.{false, _&&_}
 use mathlib.Core.Path.{_≡_}
 use mathlib.Core.List.{List}
+use Rattle.search.specs.Search.{first, entries}
 use Rattle.search.specs.Bytes.{sameBytes}
 use Rattle.search.specs.Within.{wordAt}
+use Rattle.search.specs.declared.Found.{Found}
+use Rattle.search.specs.declared.Found.the-variants.{At}
 use Rattle.store.specs.Table.{labelLimit}
 use Rattle.store.specs.Layout.{placeSize, labelAt}
 
@@ -21,6 +24,10 @@ NoWord labels offset word from to = (k : ℕ) → from ≤ k → k < to → eqb 
 -- no place from an index on, before another, holds the label
 abbrev pub NotHeld : List ℕ → List ℕ → ℕ → ℕ → Type 0
 NotHeld labels label from to = (k : ℕ) → from ≤ k → k < to → k < labelLimit → sameBytes label (labelAt labels k) ≡ false
+
+-- a place that was found is the first, of those that are stored, that holds what it holds
+abbrev pub FirstHeld : List ℕ → ℕ → Found → Type 0
+FirstHeld labels count hint = (k : ℕ) → hint ≡ At k → first (sameBytes (labelAt labels k)) (entries (labelAt labels) count) ≡ At k
 
 -- the last place that a rule can have
 abbrev pub lastRule : ℕ

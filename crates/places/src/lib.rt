@@ -14,7 +14,7 @@ ghost use Rattle.store.specs.Table.{isPair, names, noPlace, labelLimit, ruleLim
 ghost use Rattle.store.specs.Layout.{labelsSize, placeSize, modesFrom, mappedFrom, labelAt, ruleAt, mappingAt};
 ghost use Rattle.store.specs.Within.{entered};
 ghost use Rattle.places.specs.Places.{labelStart, PartFrom};
-ghost use Rattle.places.specs.Within.{Unlike, NoWord, NotHeld, lastRule};
+ghost use Rattle.places.specs.Within.{Unlike, NoWord, NotHeld, FirstHeld, lastRule};
 
 // The last place that a rule can have.
 const LAST_RULE: u8 = 255;
@@ -157,6 +157,21 @@ pub fn find_label(labels: &[u8], count: usize, label: &[u8]) -> Found
         i = k + 1;
     }
     Found::Nothing
+}
+
+// The same, where a search for another label, often the same one, has been made: the place that it answered is compared first. Who calls it has
+// tested the store and has that answer.
+pub fn find_label_hinted(labels: &[u8], count: usize, label: &[u8], hint: Found) -> Found
+    requires { ⌜ (length (now labels) ≡ labelsSize) × (count ≤ labelLimit) × FirstHeld (now labels) count hint ⌝ }
+    ensures { λ r. ⌜ r ≡ first (sameBytes (now (label .entry))) (listed (labelAt (now (labels .entry))) count) ⌝ }
+{
+    if let Found::At(k) = hint {
+        let hinted = label_at(labels, k);
+        if search::same_bytes(label, hinted) {
+            return hint;
+        }
+    }
+    find_label(labels, count, label)
 }
 
 // The smaller of two numbers.
