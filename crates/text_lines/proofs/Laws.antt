@@ -1,14 +1,14 @@
 -- Laws of the lines of a text: its bytes before a newline, and the line from an index on. Assumes nothing.
 use mathlib.Core.Path.{_≡_, refl, sym, ap, _∙_, subst}
-use mathlib.Core.Bool.{Bool, true, false}
+use mathlib.Core.Bool.{Bool, true, false, _||_, or-true, or-false}
 use mathlib.Core.List.{List, [], _∷_, _++_}
 use Prim.Native.Nat.{ℕ, zero, suc, _+_, _-_, _<_, _≤_}
 use native.Mathlib.Numerals.{add-one}
 use native.Mathlib.Omega.{arith}
-use lib.Dec.{eqb}
-use borrow.Author.Tests.{eqb-true, eqb-false, eq-eqb, ne-eqb}
+use lib.Dec.{eqb, ltb}
+use borrow.Author.Tests.{ltb-true, ltb-false, eqb-true, eqb-false, lt-ltb, le-ltb, eq-eqb, ne-eqb}
 use lib.ListN.{length, take, drop, getD, length-drop, take-append-drop, drop-of-length-le}
-use lib.Seq.{drop-cons, drop-drop, take-add, take-all}
+use lib.Seq.{drop-cons, drop-drop, getD-drop, take-add, take-all}
 use Rattle.text_lines.specs.Within.{beforeNewline, NoNewline}
 
 -- ---- bytes with no newline
@@ -49,6 +49,54 @@ newline-behind text i h e =
 pub newline-none : (text : List ℕ) (i : ℕ) → length text ≤ i → beforeNewline (drop i text) ≡ 0
 unfolding beforeNewline
 newline-none text i h = ap beforeNewline (drop-of-length-le text {i = i} h)
+
+-- a newline at an index is the first one or behind it; another byte is not the first one
+newline-upto : (run : List ℕ) (k : ℕ) → k < length run → getD run k 0 ≡ 10 → beforeNewline run ≤ k
+newline-upto [] k h q = absurd (omega arith)
+newline-upto (b ∷ bs) zero h q = omega (arith, newline-here b bs q)
+newline-upto (b ∷ bs) (suc k) h q =
+    let ih = newline-upto bs k (omega arith) q in
+    newline-or b (λ e. omega (arith, newline-here b bs e)) (λ e. omega (arith, newline-later b bs e, ih))
+
+newline-other : (run : List ℕ) (k : ℕ) → k < length run → (getD run k 0 ≡ 10 → ⊥) → beforeNewline run ≡ k → ⊥
+newline-other [] k h q z = absurd (omega arith)
+newline-other (b ∷ bs) zero h q z = omega (arith, newline-later b bs q)
+newline-other (b ∷ bs) (suc k) h q z =
+    newline-or b (λ e. omega (arith, newline-here b bs e)) (λ e. newline-other bs k (omega arith) q (omega (arith, z, newline-later b bs e)))
+
+-- whether the first newline from `at` on is among n bytes, and one more
+pub newline-among : (text : List ℕ) (at n : ℕ) → at + n < length text → ltb (beforeNewline (drop at text)) (n + 1) ≡ (ltb (beforeNewline (drop at text)) n || eqb (getD text (at + n) 0) 10)
+newline-among text at n h = rw (← getD-drop at text n 0) (newline-or (getD run n 0) here other)
+  where
+    run : List ℕ
+    run = drop at text
+
+    before : ℕ
+    before = beforeNewline run
+
+    within : n < length run
+    within = omega (arith, length-drop at text)
+
+    here : getD run n 0 ≡ 10 → ltb before (n + 1) ≡ (ltb before n || eqb (getD run n 0) 10)
+    here e = rw (eq-eqb (getD run n 0) 10 e, lt-ltb before (n + 1) (omega (arith, newline-upto run n within e)), or-true (ltb before n))
+
+    by-test : (before ≡ n → ⊥) → (t : Bool) → ltb before n ≡ t → ltb before (n + 1) ≡ t
+    by-test z true e = lt-ltb before (n + 1) (omega (arith, ltb-true before n e))
+    by-test z false e = le-ltb before (n + 1) (omega (arith, z, ltb-false before n e))
+
+    other : (getD run n 0 ≡ 10 → ⊥) → ltb before (n + 1) ≡ (ltb before n || eqb (getD run n 0) 10)
+    other e = rw (ne-eqb (getD run n 0) 10 e, or-false (ltb before n)) (by-test (newline-other run n within e) (ltb before n) refl)
+
+-- where none of n bytes is a newline, the first one is that of the bytes behind them
+pub newline-past : (text : List ℕ) (at n : ℕ) → at + n ≤ length text → ltb (beforeNewline (drop at text)) n ≡ false → beforeNewline (drop at text) ≡ n + beforeNewline (drop (at + n) text)
+newline-past text at n h e = rw (← drop-drop n at text) (passed (drop at text) n (omega (arith, length-drop at text)) (ltb-false _ n e))
+  where
+    passed : (run : List ℕ) (k : ℕ) → k ≤ length run → k ≤ beforeNewline run → beforeNewline run ≡ k + beforeNewline (drop k run)
+    passed run zero h m = omega arith
+    passed [] (suc k) h m = absurd (omega arith)
+    passed (b ∷ bs) (suc k) h m =
+        newline-or b (λ e. absurd (omega (arith, m, newline-here b bs e)))
+        (λ e. let z = newline-later b bs e in omega (arith, z, passed bs k (omega arith) (omega (arith, m, z))))
 
 pub run-first : (b : ℕ) (bs : List ℕ) → NoNewline (b ∷ bs) → b ≡ 10 → ⊥
 run-first b bs e q = omega (arith, newline-here b bs q)
