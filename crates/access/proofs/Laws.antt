@@ -5,28 +5,28 @@ use mathlib.Core.List.{List, [], _∷_, _++_}
 use Prim.Native.Nat.{ℕ, zero, suc, _+_, _<_, _≤_}
 use native.Mathlib.Omega.{arith}
 use lib.Dec.{eqb}
-use lib.ListN.{length, getD}
-use borrow.Author.Tests.{eq-eqb, ne-eqb}
+use lib.ListN.{length, getD, take}
+use borrow.Author.Tests.{eqb-true, eqb-false, eq-eqb, ne-eqb}
 use Rattle.search.specs.Search.{first, all, later, entries, placeOf}
 use Rattle.search.specs.Bytes.{sameBytes}
 use Rattle.search.specs.declared.Found.{Found}
 use Rattle.search.specs.declared.Found.the-variants.{At, Nothing}
-use Rattle.search.proofs.Laws.{no, and-both, entries-length, entries-at, first-is}
+use Rattle.search.proofs.Laws.{no, not-so, and-both, same-refl, same-equal, entries-length, entries-at, first-is}
 use Rattle.alphabet.specs.Alphabet.{wellFormed}
 use Rattle.modes.specs.Modes.{readModes, requestLetters}
 use Rattle.modes.specs.declared.Access.the-variants.{Modes}
 use Rattle.store.specs.declared.Rule.{Rule}
 use Rattle.store.specs.Table.{Table, labelIn, isPair}
 use Rattle.store.specs.Layout.{store, tableOf, ruleAt}
-use Rattle.access.specs.SevenRules.{holds, bringUp, Clause, rule6, rule7, firstOf, sevenRules}
+use Rattle.access.specs.SevenRules.{holds, bringUp, Clause, rule7, firstOf, sevenRules}
 use Rattle.store.specs.Pairs.{ruleBetween, has-modes, modesFound, modesBetween}
 use Rattle.access.specs.Access.{onList, effective, denied, answered, decide, answer}
-use Rattle.access.specs.Within.{labelRules, tableRules, byTable}
+use Rattle.access.specs.Within.{markRules, numberRules, sameLabel, rulingOf}
 use Rattle.access.specs.declared.Denial.{Denial}
 use Rattle.access.specs.declared.Denial.the-variants.{AnyOther}
 use Rattle.access.specs.declared.Verdict.{Verdict}
 use Rattle.access.specs.declared.Verdict.the-variants.{Grants, Denies, Undecided}
-use Rattle.access.specs.declared.Answer.the-variants.{Granted}
+use Rattle.access.specs.declared.Ruling.{Ruling}
 
 -- ---- a label of one byte
 
@@ -116,27 +116,59 @@ first-then (l ∷ ls) rest e =
     by-test false v h ih = ih
 
 module _ (t : Table) (s o : List ℕ) (wanted : ℕ) (capable : Bool) where
-  pub decide-is : (v : Verdict) → firstOf (labelRules s o wanted) ≡ v → decide t s o wanted capable ≡ answered (effective t (labelIn t s) capable) (after v (firstOf (tableRules s o (modesBetween t s o) wanted)))
-  unfolding decide
-  decide-is v e = rw (first-then (labelRules s o wanted) (tableRules s o (modesBetween t s o) wanted) refl, e)
+  pub decide-is : (v : Verdict) → firstOf (markRules s o wanted) ≡ v → decide t s o wanted capable ≡ answered (effective t (labelIn t s) capable) (after v (rulingOf t s o wanted .verdict))
+  unfolding decide rulingOf
+  decide-is v e = rw (first-then (markRules s o wanted) (numberRules s o (modesBetween t s o) wanted) refl, e)
 
-  -- rules 6 and 7, by the place of the pair's rule
-  pub table-none : ruleBetween t (labelIn t s) (labelIn t o) ≡ Nothing → byTable t s o wanted capable ≡ denied (effective t (labelIn t s) capable) AnyOther
-  unfolding byTable modesBetween
-  table-none e = rw e
+-- ---- rules 5 to 7, by numbers
 
-  module _ (k : ℕ) (there : ruleBetween t (labelIn t s) (labelIn t o) ≡ At k) (m : ℕ) (is : modesFound (t .rules) (At k) ≡ has-modes m) where
-    pair : modesBetween t s o ≡ has-modes m
-    unfolding modesBetween
-    pair = ap (modesFound (t .rules)) there ∙ is
+-- labels that were sought in one list have the same number exactly where they are equal; where neither has one the bytes tell
+pub same-numbers : (ls : List (List ℕ)) (s o : List ℕ) (f g : Found) → f ≡ first (sameBytes s) ls → g ≡ first (sameBytes o) ls → sameLabel s o f g ≡ sameBytes s o
+same-numbers ls s o (At i) (At j) p q = by-test (eqb i j) refl
+  where
+    by-test : (b : Bool) → eqb i j ≡ b → b ≡ sameBytes s o
+    by-test true e =
+        let x = same-equal s (getD ls i []) (first-is (sameBytes s) [] ls i (sym p) .1) in
+        let y = same-equal o (getD ls j []) (first-is (sameBytes o) [] ls j (sym q) .1) in
+        let z : s ≡ o = x ∙ ap (λ (n : ℕ). getD ls n []) (eqb-true i j e) ∙ sym y in
+        sym (ap (λ (l : List ℕ). sameBytes l o) z ∙ same-refl o)
+    by-test false e =
+        sym (not-so (sameBytes s o) (λ h.
+        let z : At i ≡ At j = p ∙ ap (λ (l : List ℕ). first (sameBytes l) ls) (same-equal s o h) ∙ sym q in
+        let w : i ≡ j = cc in
+        eqb-false i j e w))
+same-numbers ls s o (At i) Nothing p q =
+    sym (not-so (sameBytes s o) (λ h. let z : At i ≡ Nothing = p ∙ ap (λ (l : List ℕ). first (sameBytes l) ls) (same-equal s o h) ∙ sym q in let w : _≡_ {A = ℕ} 0 1 = cc in omega arith))
+same-numbers ls s o Nothing (At j) p q =
+    sym (not-so (sameBytes s o) (λ h. let z : Nothing ≡ At j = p ∙ ap (λ (l : List ℕ). first (sameBytes l) ls) (same-equal s o h) ∙ sym q in let w : _≡_ {A = ℕ} 0 1 = cc in omega arith))
+same-numbers ls s o Nothing Nothing p q = refl
 
-    pub table-grants : holds wanted m ≡ true → byTable t s o wanted capable ≡ Granted 6 (bringUp m)
-    unfolding byTable
-    table-grants e = rw (pair, e)
+-- what each of the three says, with the subject's number
+abbrev pub ruling : Verdict → Found → Ruling
+ruling v f = record { verdict = v; subject = f }
 
-    pub table-denies : holds wanted m ≡ false → byTable t s o wanted capable ≡ denied (effective t (labelIn t s) capable) AnyOther
-    unfolding byTable
-    table-denies e = rw (pair, e)
+module _ (t : Table) (s o : List ℕ) (wanted : ℕ) (f : Found) (p : f ≡ labelIn t s) where
+  pub ruling-same : sameBytes s o ≡ true → ruling (Grants 5 false) f ≡ rulingOf t s o wanted
+  unfolding rulingOf
+  ruling-same e = rw (p, e)
+
+  module _ (apart : sameBytes s o ≡ false) where
+    pub ruling-none : ruleBetween t (labelIn t s) (labelIn t o) ≡ Nothing → ruling (Denies AnyOther) f ≡ rulingOf t s o wanted
+    unfolding rulingOf modesBetween
+    ruling-none e = rw (p, apart, e)
+
+    module _ (k : ℕ) (there : ruleBetween t (labelIn t s) (labelIn t o) ≡ At k) (m : ℕ) (is : modesFound (t .rules) (At k) ≡ has-modes m) where
+      pair : modesBetween t s o ≡ has-modes m
+      unfolding modesBetween
+      pair = ap (modesFound (t .rules)) there ∙ is
+
+      pub ruling-grants : holds wanted m ≡ true → ruling (Grants 6 (bringUp m)) f ≡ rulingOf t s o wanted
+      unfolding rulingOf
+      ruling-grants e = rw (p, apart, pair, e)
+
+      pub ruling-denies : holds wanted m ≡ false → ruling (Denies AnyOther) f ≡ rulingOf t s o wanted
+      unfolding rulingOf
+      ruling-denies e = rw (p, apart, pair, e)
 
 -- ---- override, and where a rule stands, look at no label of the store
 
@@ -147,6 +179,16 @@ module _ (l e w : List ℕ) where
 
   pub denied-same : (s s′ : Found) (capable : Bool) (by : Denial) → s ≡ s′ → denied (effective (tableOf (store [] e w)) s capable) by ≡ denied (effective (tableOf (store l e w)) s′ capable) by
   denied-same s s′ capable by q = rw (effective-same s capable, q)
+
+  pub answered-same :
+      (s o : List ℕ) (wanted : ℕ) (capable : Bool) (r : Ruling) →
+      r ≡ rulingOf (tableOf (store l e w)) s o wanted →
+      answered (effective (tableOf (store [] e w)) (r .subject) capable) (r .verdict)
+      ≡ answered (effective (tableOf (store l e w)) (labelIn (tableOf (store l e w)) s) capable) (rulingOf (tableOf (store l e w)) s o wanted .verdict)
+  unfolding rulingOf
+  answered-same s o wanted capable r q =
+      ap (λ (z : Ruling). answered (effective (tableOf (store [] e w)) (z .subject) capable) (z .verdict)) q
+      ∙ rw (effective-same (labelIn (tableOf (store l e w)) s) capable)
 
   pub between-same : (s s′ o o′ : Found) → s ≡ s′ → o ≡ o′ → ruleBetween (tableOf (store [] e w)) s o ≡ ruleBetween (tableOf (store l e w)) s′ o′
   between-same s s′ o o′ p q = rw (p, q) (by-case s′ o′)
@@ -182,7 +224,7 @@ first-says d (l ∷ ls) k e = by-test (l .applies) (first (λ (m : Clause). m .a
 -- the seventh applies to every question, so none is left undecided
 pub all-decided : (t : Table) (s o : List ℕ) (wanted : ℕ) → decides (firstOf (sevenRules t s o wanted)) ≡ true
 all-decided t s o wanted =
-    let six : List Clause = labelRules s o wanted ++ (rule6 (modesBetween t s o) wanted ∷ []) in
+    let six : List Clause = take 6 (sevenRules t s o wanted) in
     ap decides (first-then six (rule7 ∷ []) refl) ∙ then-decides (firstOf six)
   where
     then-decides : (v : Verdict) → decides (after v (Denies AnyOther)) ≡ true

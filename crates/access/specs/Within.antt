@@ -1,23 +1,33 @@
--- What the functions within the crate say: the seven rules in the two parts that the code looks at one after the other. No public contract
--- names these. Assumes nothing.
+-- What the functions within the crate say: the seven rules in the two parts that the code looks at one after the other, and equal labels by their
+-- numbers (02, Two). No public contract names these. Assumes nothing.
 use Prim.Native.Nat.{ℕ}
-use mathlib.Core.Bool.{Bool}
+use mathlib.Core.Bool.{Bool, false}
 use mathlib.Core.List.{List}
 use lib.ListN.{take, drop}
+use lib.Dec.{eqb}
+use Rattle.search.specs.Bytes.{sameBytes}
+use Rattle.search.specs.declared.Found.{Found}
+use Rattle.search.specs.declared.Found.the-variants.{At, Nothing}
 use Rattle.store.specs.Table.{Table, labelIn}
-use Rattle.access.specs.SevenRules.{Clause, rulesFor, firstOf}
 use Rattle.store.specs.Pairs.{PairModes, no-rule, modesBetween}
-use Rattle.access.specs.Access.{effective, answered}
-use Rattle.access.specs.declared.Answer.{Answer}
+use Rattle.access.specs.SevenRules.{Clause, rulesFor, firstOf}
+use Rattle.access.specs.declared.Ruling.{Ruling}
 
--- 1 to 5 look at the two labels and the request alone, whatever the pair's modes are
-abbrev pub labelRules : List ℕ → List ℕ → ℕ → List Clause
-labelRules s o wanted = take 5 (rulesFor s o no-rule wanted)
+-- 1 to 4 know _ ^ and * by their bytes, and look at the request; at no table
+abbrev pub markRules : List ℕ → List ℕ → ℕ → List Clause
+markRules s o wanted = take 4 (rulesFor s o no-rule wanted)
 
--- 6 and 7 look at the pair's modes and the request
-abbrev pub tableRules : List ℕ → List ℕ → PairModes → ℕ → List Clause
-tableRules s o pair wanted = drop 5 (rulesFor s o pair wanted)
+-- 5 to 7 compare the two labels, and look at the pair's modes and the request
+abbrev pub numberRules : List ℕ → List ℕ → PairModes → ℕ → List Clause
+numberRules s o pair wanted = drop 4 (rulesFor s o pair wanted)
 
--- the answer where 1 to 5 say nothing
-unfoldable pub byTable : Table → List ℕ → List ℕ → ℕ → Bool → Answer
-byTable t s o wanted capable = answered (effective t (labelIn t s) capable) (firstOf (tableRules s o (modesBetween t s o) wanted))
+-- whether two labels are equal, by the numbers that were found for them: their bytes are compared where neither has one
+abbrev pub sameLabel : List ℕ → List ℕ → Found → Found → Bool
+sameLabel s o (At i) (At j) = eqb i j
+sameLabel s o (At i) Nothing = false
+sameLabel s o Nothing (At j) = false
+sameLabel s o Nothing Nothing = sameBytes s o
+
+-- what 5 to 7 say, and the subject's number, which override needs too
+unfoldable pub rulingOf : Table → List ℕ → List ℕ → ℕ → Ruling
+rulingOf t s o wanted = record { verdict = firstOf (numberRules s o (modesBetween t s o) wanted); subject = labelIn t s }

@@ -30,6 +30,12 @@ pub enum Verdict {
     Undecided,
 }
 
+// What rules 5 to 7 say, and the number that was found for the subject.
+pub struct Ruling {
+    pub verdict: Verdict,
+    pub subject: Found,
+}
+
 // The answer to a question: granted, with the rule's number and whether rule 6 found the bring-up mode; denied, with the rule that denies;
 // granted by override, with the rule that would have denied; refused, with its number.
 pub enum Answer {
@@ -60,9 +66,9 @@ fn is_mark(label: &[u8], mark: u8) -> bool
     label[0] == mark
 }
 
-// Rules 1 to 5, the first that applies.
-fn by_labels(subject: &[u8], object: &[u8], wanted: u8) -> Verdict
-    ensures { λ r. ⌜ r ≡ rules.firstOf (within.labelRules (now (subject .entry)) (now (object .entry)) wanted) ⌝ }
+// Rules 1 to 4, the first that applies: the only ones that look at what the bytes of a label are.
+fn by_marks(subject: &[u8], object: &[u8], wanted: u8) -> Verdict
+    ensures { λ r. ⌜ r ≡ rules.firstOf (within.markRules (now (subject .entry)) (now (object .entry)) wanted) ⌝ }
 {
     if is_mark(subject, STAR) {
         return Verdict::Denies(Denial::StarSubject);
@@ -76,14 +82,27 @@ fn by_labels(subject: &[u8], object: &[u8], wanted: u8) -> Verdict
     if is_mark(object, STAR) {
         return Verdict::Grants(4, false);
     }
-    if search::same_bytes(subject, object) {
-        return Verdict::Grants(5, false);
-    }
     Verdict::Undecided
 }
 
-// Where the rule of two labels that were sought stands: only numbers are compared, and nothing where a label has none. Who calls it has
-// tested the store.
+// Whether two labels are equal, by the numbers that were found for them: their bytes are compared only where neither has one.
+fn same_label(subject: &[u8], object: &[u8], s: Found, o: Found) -> bool
+    ensures { λ r. ⌜ r ≡ within.sameLabel (now (subject .entry)) (now (object .entry)) s o ⌝ }
+{
+    let Found::At(i) = s else {
+        let Found::Nothing = o else {
+            return false;
+        };
+        return search::same_bytes(subject, object);
+    };
+    let Found::At(j) = o else {
+        return false;
+    };
+    i == j
+}
+
+// The rule search: where the rule of two labels that were sought stands. It is lent no label, so that only numbers are compared, and it is not
+// begun where a label has none. Who calls it has tested the store.
 fn find_rule(entries: &[u8], words: &[u64], subject: Found, object: Found) -> Found
     requires { ⌜ (modesFrom + ruleLimit ≤ length (now entries)) × (setsFrom ≤ length (now words)) × Counts (now words) ⌝ }
     requires { ⌜ (placeOf subject 0 < labelLimit) × (placeOf object 0 < labelLimit) ⌝ }
@@ -143,30 +162,62 @@ fn denied(entries: &[u8], words: &[u64], subject: Found, by: Denial, capable: bo
     Answer::Denied(by)
 }
 
-// Rules 6 and 7, and override: each label is looked up once. Who calls it has tested the store.
-fn by_table(
+// The answer by what the rules say. Who calls it has tested the store.
+fn answered(
+    entries: &[u8],
+    words: &[u64],
+    subject: Found,
+    verdict: Verdict,
+    capable: bool,
+) -> Answer
+    requires { ⌜ (onlycapFrom + onlycapLimit ≤ length (now entries)) × (setsFrom ≤ length (now words)) × Counts (now words) ⌝ }
+    ensures { λ r. ⌜ r ≡ access.answered (access.effective (tableOf (store [] (now (entries .entry)) (now (words .entry)))) subject capable) verdict ⌝ }
+{
+    match verdict {
+        Verdict::Grants(rule, b) => Answer::Granted(rule, b),
+        Verdict::Denies(by) => denied(entries, words, subject, by, capable),
+        Verdict::Undecided => denied(entries, words, subject, Denial::AnyOther, capable),
+    }
+}
+
+// Rules 5 to 7, by numbers: each label is looked up once. Who calls it has tested the store.
+fn by_numbers(
     labels: &[u8],
     entries: &[u8],
     words: &[u64],
     subject: &[u8],
     object: &[u8],
     wanted: u8,
-    capable: bool,
-) -> Answer
+) -> Ruling
     requires { ⌜ Sizes (now labels) (now entries) (now words) × Counts (now words) ⌝ }
-    ensures { λ r. ⌜ r ≡ within.byTable (tableOf (lent labels entries words)) (now (subject .entry)) (now (object .entry)) wanted capable ⌝ }
+    ensures { λ r. ⌜ r ≡ within.rulingOf (tableOf (lent labels entries words)) (now (subject .entry)) (now (object .entry)) wanted ⌝ }
 {
     let count = words[store::LABEL_COUNT] as usize;
     let s = places::find_label(labels, count, subject);
     let o = places::find_label(labels, count, object);
+    if same_label(subject, object, s, o) {
+        return Ruling {
+            verdict: Verdict::Grants(5, false),
+            subject: s,
+        };
+    }
     let Found::At(k) = find_rule(entries, words, s, o) else {
-        return denied(entries, words, s, Denial::AnyOther, capable);
+        return Ruling {
+            verdict: Verdict::Denies(Denial::AnyOther),
+            subject: s,
+        };
     };
     let modes = entries[store::MODES_FROM + k];
     if wanted & modes == wanted {
-        return Answer::Granted(6, modes::BRING_UP & modes == modes::BRING_UP);
+        return Ruling {
+            verdict: Verdict::Grants(6, modes::BRING_UP & modes == modes::BRING_UP),
+            subject: s,
+        };
     }
-    denied(entries, words, s, Denial::AnyOther, capable)
+    Ruling {
+        verdict: Verdict::Denies(Denial::AnyOther),
+        subject: s,
+    }
 }
 
 // The first of the seven rules that applies decides. Who calls it has tested the store.
@@ -182,13 +233,18 @@ fn decide(
     requires { ⌜ Sizes (now labels) (now entries) (now words) × Counts (now words) ⌝ }
     ensures { λ r. ⌜ r ≡ access.decide (tableOf (lent labels entries words)) (now (subject .entry)) (now (object .entry)) wanted capable ⌝ }
 {
-    match by_labels(subject, object, wanted) {
+    match by_marks(subject, object, wanted) {
         Verdict::Grants(rule, b) => Answer::Granted(rule, b),
         Verdict::Denies(by) => {
             let s = places::find_label(labels, words[store::LABEL_COUNT] as usize, subject);
             denied(entries, words, s, by, capable)
         }
-        Verdict::Undecided => by_table(labels, entries, words, subject, object, wanted, capable),
+        Verdict::Undecided => {
+            let ruling = by_numbers(labels, entries, words, subject, object, wanted);
+            let s = ruling.subject;
+            let verdict = ruling.verdict;
+            answered(entries, words, s, verdict, capable)
+        }
     }
 }
 

@@ -1,19 +1,17 @@
--- `access::decide` meets its contract: what rules 1 to 5 leave open rules 6 and 7 decide. Assumes nothing.
+-- `access::decide` meets its contract: what rules 1 to 4 leave open rules 5 to 7 decide. Assumes nothing.
 use mathlib.Core.Path.{_≡_, sym, _∙_}
 use Rattle.store.specs.Table.{Table, labelIn}
 use Rattle.store.specs.Layout.{store, tableOf}
-use Rattle.access.specs.SevenRules.{firstOf}
-use Rattle.store.specs.Pairs.{modesBetween}
 use Rattle.access.specs.Access.{answered, effective, decide}
-use Rattle.access.specs.Within.{tableRules, byTable}
+use Rattle.access.specs.Within.{rulingOf}
 use Rattle.access.specs.declared.Verdict.{Verdict}
-use Rattle.access.proofs.Laws.{after, denied-same, decide-is}
+use Rattle.access.proofs.Laws.{after, denied-same, answered-same, decide-is}
 use borrow.Author.Needs.{needs}
 use Rattle.access.proofs.decide.Statement.{statement}
 use Rattle.access.proofs.decide.Tie as tie
 
--- the definition, by what rules 1 to 5 say
-module _ (c : tie.After-by-labels) where
+-- the definition, by what rules 1 to 4 say
+module _ (c : tie.After-by-marks) where
   abbrev S : tie.Start
   S = c .before .before .before .before .before .before
 
@@ -22,13 +20,13 @@ module _ (c : tie.After-by-labels) where
 
   decides :
       (v : Verdict) →
-      c .by-labels .result ≡ v →
+      c .by-marks .result ≡ v →
       decide T (S .args .subject .now) (S .args .object .now) (S .args .wanted) (S .args .capable)
-      ≡ answered (effective T (labelIn T (S .args .subject .now)) (S .args .capable)) (after v (firstOf (tableRules (S .args .subject .now) (S .args .object .now) (modesBetween T (S .args .subject .now) (S .args .object .now)) (S .args .wanted))))
-  decides v e = decide-is T (S .args .subject .now) (S .args .object .now) (S .args .wanted) (S .args .capable) v (sym (c .by-labels .ensures) ∙ e)
+      ≡ answered (effective T (labelIn T (S .args .subject .now)) (S .args .capable)) (after v (rulingOf T (S .args .subject .now) (S .args .object .now) (S .args .wanted) .verdict))
+  decides v e = decide-is T (S .args .subject .now) (S .args .object .now) (S .args .wanted) (S .args .capable) v (sym (c .by-marks .ensures) ∙ e)
 
-by-labels-requires : tie.Need-by-labels-requires
-by-labels-requires c κs = search needs
+by-marks-requires : tie.Need-by-marks-requires
+by-marks-requires c κs = search needs
 
 enum-known-rule : tie.Need-enum-known-rule
 enum-known-rule c = search needs
@@ -48,8 +46,11 @@ denied-requires c κs = search needs
 enum-told : tie.Need-enum-told
 enum-told c = search needs
 
-by-table-requires : tie.Need-by-table-requires
-by-table-requires c κs = search needs
+by-numbers-requires : tie.Need-by-numbers-requires
+by-numbers-requires c κs = search needs
+
+answered-requires : tie.Need-answered-requires
+answered-requires c κs = search needs
 
 returns : tie.Need-returns
 returns c = sym (decides (c .before .before .before) _ (c .before .rule .given .1))
@@ -63,21 +64,26 @@ returns-2 c =
     ∙ sym (decides d _ (c .before .before .before .before .by .given .1))
 
 returns-3 : tie.Need-returns-3
-unfolding byTable
-returns-3 c = c .by-table .ensures ∙ sym (decides (c .before .before .before) _ (c .before .enum-told .given .1))
+returns-3 c =
+    let d = c .before .before .before .before in
+    let a = S d .args in
+    c .answered .ensures
+    ∙ answered-same (a .labels .now) (a .entries .now) (a .words .now) (a .subject .now) (a .object .now) (a .wanted) (a .capable) (c .before .by-numbers .result) (c .before .by-numbers .ensures)
+    ∙ sym (decides d _ (c .before .before .enum-told .given .1))
 
 pub decide-spec : {M : Type 1} → statement M
 decide-spec =
     tie.close
     (tie.spec
-    by-labels-requires
+    by-marks-requires
     enum-known-rule
     enum-known-by
     shared-slice-read-find-label
     find-label-requires
     denied-requires
     enum-told
-    by-table-requires
+    by-numbers-requires
+    answered-requires
     returns
     returns-2
     returns-3)

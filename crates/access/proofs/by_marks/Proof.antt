@@ -1,4 +1,4 @@
--- `access::by_labels` meets its contract: it makes the tests of rules 1 to 5 in their order. Assumes nothing.
+-- `access::by_marks` meets its contract: it makes the tests of rules 1 to 4 in their order. Assumes nothing.
 use mathlib.Core.Path.{_≡_, sym, _∙_}
 use mathlib.Core.Bool.{false, _&&_}
 use borrow.Author.Needs.{needs}
@@ -6,8 +6,8 @@ use Rattle.search.specs.Bytes.{sameBytes}
 use Rattle.store.specs.Table.{floor, hat, star}
 use Rattle.access.specs.SevenRules.{onlyReadExecute}
 use Rattle.access.proofs.Laws.{and-with}
-use Rattle.access.proofs.by_labels.Statement.{statement}
-use Rattle.access.proofs.by_labels.Tie as tie
+use Rattle.access.proofs.by_marks.Statement.{statement}
+use Rattle.access.proofs.by_marks.Tie as tie
 
 -- what each test that was passed says
 not-1 : (c : tie.Else1) → sameBytes (c .before .before .before .before .args .subject .now) star ≡ false
@@ -51,25 +51,14 @@ returns-4 c =
     let e = d .before .before in
     rw (not-1 (e .before .before), not-2 e, not-3 d, sym (c .before .is-mark4 .ensures) ∙ c .if4 .taken)
 
-same-bytes-requires : tie.Need-same-bytes-requires
-same-bytes-requires c κs = search needs
-
 returns-5 : tie.Need-returns-5
 returns-5 c =
-    let d = c .before .before in
-    let e = d .before .before in
+    let e = c .before .before in
     let f = e .before .before in
-    rw (not-1 (f .before .before), not-2 f, not-3 e, not-4 d, sym (c .before .same-bytes .ensures) ∙ c .if5 .taken)
+    rw (not-1 (f .before .before), not-2 f, not-3 e, not-4 c)
 
-returns-6 : tie.Need-returns-6
-returns-6 c =
-    let d = c .before .before in
-    let e = d .before .before in
-    let f = e .before .before in
-    rw (not-1 (f .before .before), not-2 f, not-3 e, not-4 d, sym (c .before .same-bytes .ensures) ∙ c .if5 .left)
-
-pub by-labels-spec : {M : Type 1} → statement M
-by-labels-spec =
+pub by-marks-spec : {M : Type 1} → statement M
+by-marks-spec =
     tie.close
     (tie.spec
     is-mark-requires
@@ -80,6 +69,4 @@ by-labels-spec =
     returns-3
     is-mark-requires-4
     returns-4
-    same-bytes-requires
-    returns-5
-    returns-6)
+    returns-5)
