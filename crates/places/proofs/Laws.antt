@@ -133,7 +133,7 @@ first-held t n l r is k at =
     let here = sym (ap (sameBytes l) (entries-at (labelAt t) (labelAt t 0) n k (found-below (sameBytes l) (labelAt t) n k e))) ∙ first-is (sameBytes l) (labelAt t 0) (listed (labelAt t) n) k e .1 in
     ap (λ (x : List ℕ). first (sameBytes x) (listed (labelAt t) n)) (sym (same-equal l (labelAt t k) here)) ∙ e
 
--- ---- the lowest place that passes a test, or the last
+-- ---- the lowest place that passes a test, or a number that stands for none
 
 module _ {A : Type 0} (p : A → Bool) (f : ℕ → A) (last : ℕ) where
   abbrev lowest : ℕ → ℕ
@@ -176,7 +176,7 @@ module _ {A : Type 0} (p : A → Bool) (f : ℕ → A) (last : ℕ) where
       by-case (At j) e b = first-before p (f 0) (listed f m) j e k b
       by-case Nothing e b = first-fails p (f 0) (listed f m) e k (omega (arith, entries-length f m))
 
-  -- and it passes, unless it is the last
+  -- and it passes, unless it is the number that stands for none
   pub at-lowest : (m low : ℕ) → low ≡ lowest m → (low ≡ last → ⊥) → p (f low) ≡ true
   at-lowest m low is other = by-case (first p (listed f m)) refl
     where
@@ -187,20 +187,22 @@ module _ {A : Type 0} (p : A → Bool) (f : ℕ → A) (last : ℕ) where
           ap (λ (k : ℕ). p (f k)) low-is ∙ sym (ap p (entries-at f (f 0) m j (found-below p f m j e))) ∙ h .1
       by-case Nothing e = absurd (other (is ∙ ap (λ (r : Found). placeOf r last) e))
 
-  -- what that says of the first n of them
-  module _ (n m low : ℕ) (within : n ≤ m) (is : low ≡ lowest m) where
-    pub lowest-none : n ≤ low → first p (listed f n) ≡ Nothing
-    lowest-none h = found-none p f n (λ k b. before-lowest m k (omega arith) (omega arith))
-
-    pub lowest-found : low < n → p (f low) ≡ true → first p (listed f n) ≡ At low
-    lowest-found h here = found-at p f n low h (λ k b. before-lowest m k (omega arith) (omega arith)) here
-
-    pub lowest-fails : n ≤ low + 1 → p (f low) ≡ false → first p (listed f n) ≡ Nothing
-    lowest-fails h here = found-none p f n by-place
-      where
-        by-place : (k : ℕ) → k < n → p (f k) ≡ false
-        by-place k b = by-test (eqb k low) refl
-          where
-            by-test : (t : Bool) → eqb k low ≡ t → p (f k) ≡ false
-            by-test true q = ap (λ (j : ℕ). p (f j)) (eqb-true k low q) ∙ here
-            by-test false q = before-lowest m k (omega arith) (omega (arith, eqb-false k low q))
+-- places before an index, and those of the block that begins there: none of them passes before the block's lowest
+pub none-before-lowest :
+    {A : Type 0} (p : A → Bool) (f : ℕ → A) (last from m low n : ℕ) →
+    ((k : ℕ) → k < from → p (f k) ≡ false) →
+    low ≡ placeOf (first p (listed (λ i. f (from + i)) m)) last →
+    n ≤ from + m →
+    n ≤ from + low →
+    (k : ℕ) →
+    k < n →
+    p (f k) ≡ false
+none-before-lowest p f last from m low n before is inside under k h = by-test (ltb k from) refl
+  where
+    by-test : (c : Bool) → ltb k from ≡ c → p (f k) ≡ false
+    by-test true q = before k (ltb-true k from q)
+    by-test false q =
+        let above = ltb-false k from q in
+        let there : from + (k - from) ≡ k = omega arith in
+        let under-lowest : k - from < placeOf (first p (listed (λ i. f (from + i)) m)) last = omega arith in
+        ap (λ (j : ℕ). p (f j)) (sym there) ∙ before-lowest p (λ i. f (from + i)) last m (k - from) (omega arith) under-lowest

@@ -29,6 +29,9 @@ NotHeld labels label from to = (k : ℕ) → from ≤ k → k < to → k < label
 abbrev pub FirstHeld : List ℕ → ℕ → Found → Type 0
 FirstHeld labels count hint = (k : ℕ) → hint ≡ At k → first (sameBytes (labelAt labels k)) (entries (labelAt labels) count) ≡ At k
 
--- the last place that a rule can have
-abbrev pub lastRule : ℕ
-lastRule = 255
+-- how many places of rules are looked at in one go, and what stands for no place among them
+abbrev pub block : ℕ
+block = 64
+
+abbrev pub noneInBlock : ℕ
+noneInBlock = 255

@@ -14,10 +14,12 @@ ghost use Rattle.store.specs.Table.{isPair, names, noPlace, labelLimit, ruleLim
 ghost use Rattle.store.specs.Layout.{labelsSize, placeSize, modesFrom, mappedFrom, labelAt, ruleAt, mappingAt};
 ghost use Rattle.store.specs.Within.{entered};
 ghost use Rattle.places.specs.Places.{labelStart, PartFrom};
-ghost use Rattle.places.specs.Within.{Unlike, NoWord, NotHeld, FirstHeld, lastRule};
+ghost use Rattle.places.specs.Within.{Unlike, NoWord, NotHeld, FirstHeld, block, noneInBlock};
 
-// The last place that a rule can have.
-const LAST_RULE: u8 = 255;
+// How many places of rules are looked at in one go, and what stands for no place among them.
+const BLOCK: usize = 64;
+
+const NO_PLACE: u8 = 255;
 
 // The very part of the label store that holds label k. Who calls it has tested the store.
 pub fn label_at(labels: &[u8], k: usize) -> &[u8]
@@ -181,49 +183,50 @@ fn smaller(a: u8, b: u8) -> u8
     if a < b { a } else { b }
 }
 
-// A place where it holds what is sought, and the last place of a rule where not.
+// A place where it holds what is sought, and what stands for none where not.
 fn place_if(holds: bool, place: u8) -> u8
-    ensures { λ r. ⌜ r ≡ cond holds place lastRule ⌝ }
+    ensures { λ r. ⌜ r ≡ cond holds place noneInBlock ⌝ }
 {
-    if holds { place } else { LAST_RULE }
+    if holds { place } else { NO_PLACE }
 }
 
-// The first of `limit` places that holds the pair, or the last place of a rule where none does. It reads all of them, stored or not, with no
-// exit, so that the compiler can take many at a time and nothing is guessed. Who calls it has tested the store.
-fn lowest_pair(entries: &[u8], limit: usize, subject: u8, object: u8) -> u8
-    requires { ⌜ (modesFrom + ruleLimit ≤ length (now entries)) × (limit ≤ ruleLimit) ⌝ }
-    ensures { λ r. ⌜ r ≡ placeOf (first (isPair subject object) (listed (ruleAt (now (entries .entry))) limit)) lastRule ⌝ }
+// The first of a block of places that holds the pair, counted from the block's first, or what stands for none. It reads all of them, stored or
+// not, with no exit, so that the compiler can take many at a time and nothing is guessed. Who calls it has tested the store.
+fn lowest_pair(entries: &[u8], from: usize, subject: u8, object: u8) -> u8
+    requires { ⌜ (modesFrom + ruleLimit ≤ length (now entries)) × (from + block ≤ ruleLimit) ⌝ }
+    ensures { λ r. ⌜ r ≡ placeOf (first (isPair subject object) (listed (λ i. ruleAt (now (entries .entry)) (from + i)) block)) noneInBlock ⌝ }
 {
-    let mut low = LAST_RULE;
+    let mut low = NO_PLACE;
     let mut i = 0;
-    while i < limit {
-        let holds = (entries[i] == subject) & (entries[store::OBJECTS_FROM + i] == object);
+    while i < BLOCK {
+        let at = from + i;
+        let holds = (entries[at] == subject) & (entries[store::OBJECTS_FROM + at] == object);
         low = smaller(low, place_if(holds, i as u8));
         i += 1;
     }
     low
 }
 
-// The place of a pair's rule among the first `count`: only numbers are compared, 32 places at a time, of which some may stand past the count.
-// The last place of a rule is looked at once more, since it is also the answer where no place holds the pair. Who calls it has tested the store.
+// The place of a pair's rule among the first `count`: only numbers are compared, a block of places at a time, of which some may stand past the
+// count. Who calls it has tested the store.
 pub fn find_pair(entries: &[u8], count: usize, subject: u8, object: u8) -> Found
     requires { ⌜ (modesFrom + ruleLimit ≤ length (now entries)) × (count ≤ ruleLimit) ⌝ }
     ensures { λ r. ⌜ r ≡ first (isPair subject object) (listed (ruleAt (now (entries .entry))) count) ⌝ }
 {
-    let low = lowest_pair(entries, (count + 31) / 32 * 32, subject, object);
-    let k = low as usize;
-    if count <= k {
-        return Found::Nothing;
-    }
-    if low == LAST_RULE {
-        if entries[k] != subject {
+    let mut passed = 0;
+    while passed * BLOCK < count {
+        let from = passed * BLOCK;
+        let low = lowest_pair(entries, from, subject, object) as usize;
+        if low < BLOCK {
+            let k = from + low;
+            if k < count {
+                return Found::At(k);
+            }
             return Found::Nothing;
         }
-        if entries[store::OBJECTS_FROM + k] != object {
-            return Found::Nothing;
-        }
+        passed += 1;
     }
-    Found::At(k)
+    Found::Nothing
 }
 
 // The number of an entry that is there or takes the next place, and how many entries there then are.

@@ -1,104 +1,99 @@
--- `places::find_pair` meets its contract: the lowest place of the pair is its rule's, unless it is past the count or the last and holds another pair. Assumes nothing.
-use Prim.Native.Nat.{ℕ, _+_}
+-- `places::find_pair` meets its contract: no place of a block that was passed holds the pair, and of the next block the lowest is its rule's, unless it
+-- stands past the count. Assumes nothing.
+use Prim.Native.Nat.{ℕ, _+_, _*_, _-_, _<_, _≤_}
 use mathlib.Core.Path.{_≡_, sym}
-use mathlib.Core.Bool.{true, false, and-false}
-use mathlib.Core.List.{List}
+use mathlib.Core.Bool.{Bool, false}
 use borrow.Author.Needs.{needs}
-use borrow.Author.Tests.{eq-eqb, ne-eqb}
 use native.Mathlib.Omega.{arith}
-use lib.Dec.{eqb}
-use lib.ListN.{getD}
+use Rattle.search.proofs.Laws.{found-at, found-none}
+use Rattle.store.specs.declared.Rule.{Rule}
 use Rattle.store.specs.Table.{isPair}
 use Rattle.store.specs.Layout.{ruleAt}
-use Rattle.places.specs.Within.{lastRule}
-use Rattle.places.proofs.Laws.{at-lowest, lowest-none, lowest-found, lowest-fails}
+use Rattle.places.specs.Within.{block, noneInBlock}
+use Rattle.places.proofs.Laws.{at-lowest, none-before-lowest}
 use Rattle.places.proofs.find_pair.Statement.{statement}
 use Rattle.places.proofs.find_pair.Tie as tie
 
--- whether a place holds the pair, by its two numbers
-module _ (s o : ℕ) (e : List ℕ) (k : ℕ) where
-  other-subject : (getD e k 0 ≡ s → ⊥) → isPair s o (ruleAt e k) ≡ false
-  unfolding isPair ruleAt
-  other-subject h = rw (ne-eqb (getD e k 0) s h)
+abbrev Inv-loop : tie.InvT-loop
+Inv-loop entries count subject object passed₀ passed = (passed ≤ 4) × ((k : ℕ) → k < passed * block → isPair subject object (ruleAt entries k) ≡ false)
 
-  other-object : (getD e (256 + k) 0 ≡ o → ⊥) → isPair s o (ruleAt e k) ≡ false
-  unfolding isPair ruleAt
-  other-object h = rw (ne-eqb (getD e (256 + k) 0) o h) (and-false (eqb (getD e k 0) s))
+abbrev μ-loop : tie.MeasureT-loop
+μ-loop entries count subject object passed₀ passed = 4 - passed
 
-  both : getD e k 0 ≡ s → getD e (256 + k) 0 ≡ o → isPair s o (ruleAt e k) ≡ true
-  unfolding isPair ruleAt
-  both h i = rw (eq-eqb (getD e k 0) s h, eq-eqb (getD e (256 + k) 0) o i)
+loop-holds : tie.Need-loop-holds Inv-loop μ-loop
+loop-holds c = (omega arith, λ k h. absurd (omega arith))
 
-add-lowest-pair : tie.Need-add-lowest-pair
-add-lowest-pair c = search needs
+mul-loop : tie.Need-mul-loop Inv-loop μ-loop
+mul-loop c = omega arith
 
-mul-lowest-pair : tie.Need-mul-lowest-pair
-mul-lowest-pair c = search needs
+mul-from : tie.Need-mul-from Inv-loop μ-loop
+mul-from c = omega arith
 
-lowest-pair-requires : tie.Need-lowest-pair-requires
+lowest-pair-requires : tie.Need-lowest-pair-requires Inv-loop μ-loop
 lowest-pair-requires c κs = search needs
 
-cast-k : tie.Need-cast-k
-cast-k c = search needs
+cast-low : tie.Need-cast-low Inv-loop μ-loop
+cast-low c = search needs
 
-returns : tie.Need-returns
+-- of the places before the lowest of the block, none holds the pair
+module _ (c : tie.After-lowest-pair Inv-loop μ-loop) where
+  abbrev from : ℕ
+  from = c .before .before .loop .passed * block
+
+  abbrev low : ℕ
+  low = c .lowest-pair .result
+
+  abbrev holds : Rule → Bool
+  holds = let a = c .before .before .before .before .args in isPair (a .subject) (a .object)
+
+  abbrev at : ℕ → Rule
+  at = ruleAt (c .before .before .before .before .args .entries .now)
+
+  passed : (n : ℕ) → n ≤ from + block → n ≤ from + low → (k : ℕ) → k < n → holds (at k) ≡ false
+  passed n = none-before-lowest holds at noneInBlock from block low n (c .before .before .loop .inv .1) (c .lowest-pair .ensures)
+
+add-k : tie.Need-add-k Inv-loop μ-loop
+add-k c = omega arith
+
+returns : tie.Need-returns Inv-loop μ-loop
 returns c =
-    let r = c .before in
-    let a = r .before .before .args in
-    sym (lowest-none (isPair (a .subject) (a .object)) (ruleAt (a .entries .now)) lastRule (a .count) _ (r .lowest-pair .result) (omega arith) (r .lowest-pair .ensures) (omega arith))
+    let l = c .before .before in
+    sym
+    (found-at (holds l) (at l) _ (from l + low l) (omega arith) (passed l (from l + low l) (omega arith) (omega arith))
+    (at-lowest (holds l) (λ (i : ℕ). at l (from l + i)) noneInBlock block (low l) (l .lowest-pair .ensures) (λ e. omega arith)))
 
-shared-slice-read-if3 : tie.Need-shared-slice-read-if3
-shared-slice-read-if3 c = search needs
-
-returns-2 : tie.Need-returns-2
+returns-2 : tie.Need-returns-2 Inv-loop μ-loop
 returns-2 c =
-    let r = c .before .before .before .before in
-    let a = r .before .before .args in
-    let k = r .lowest-pair .result in
-    sym (lowest-fails (isPair (a .subject) (a .object)) (ruleAt (a .entries .now)) lastRule (a .count) _ k (omega arith) (r .lowest-pair .ensures) (omega arith) (other-subject (a .subject) (a .object) (a .entries .now) k (c .if3 .taken)))
+    let l = c .before .before in
+    sym (found-none (holds l) (at l) _ (passed l _ (omega arith) (omega arith)))
 
-add-if4 : tie.Need-add-if4
-add-if4 c = search needs
+add-passed : tie.Need-add-passed Inv-loop μ-loop
+add-passed c = omega arith
 
-shared-slice-read-if4 : tie.Need-shared-slice-read-if4
-shared-slice-read-if4 c = search needs
+loop-less : tie.Need-loop-less Inv-loop μ-loop
+loop-less c = omega arith
 
-returns-3 : tie.Need-returns-3
-returns-3 c =
-    let r = c .before .before .before .before .before .before in
-    let a = r .before .before .args in
-    let k = r .lowest-pair .result in
-    sym (lowest-fails (isPair (a .subject) (a .object)) (ruleAt (a .entries .now)) lastRule (a .count) _ k (omega arith) (r .lowest-pair .ensures) (omega arith) (other-object (a .subject) (a .object) (a .entries .now) k (c .if4 .taken)))
+loop-again : tie.Need-loop-again Inv-loop μ-loop
+loop-again c = (omega arith, passed (c .before) _ (omega arith) (omega arith))
 
-returns-4 : tie.Need-returns-4
-returns-4 c =
-    let r = c .before .before .before .before .before .before in
-    let a = r .before .before .args in
-    let k = r .lowest-pair .result in
-    let here = both (a .subject) (a .object) (a .entries .now) k (c .before .before .if3 .left) (c .if4 .left) in
-    sym (lowest-found (isPair (a .subject) (a .object)) (ruleAt (a .entries .now)) lastRule (a .count) _ k (omega arith) (r .lowest-pair .ensures) (omega arith) here)
-
-returns-5 : tie.Need-returns-5
-returns-5 c =
-    let r = c .before .before in
-    let a = r .before .before .args in
-    let k = r .lowest-pair .result in
-    let here = at-lowest (isPair (a .subject) (a .object)) (ruleAt (a .entries .now)) lastRule _ k (r .lowest-pair .ensures) (c .if2 .left) in
-    sym (lowest-found (isPair (a .subject) (a .object)) (ruleAt (a .entries .now)) lastRule (a .count) _ k (omega arith) (r .lowest-pair .ensures) (omega arith) here)
+returns-3 : tie.Need-returns-3 Inv-loop μ-loop
+returns-3 c = sym (found-none _ _ _ (λ k h. c .before .loop .inv .1 k (omega arith)))
 
 pub find-pair-spec : {M : Type 1} → statement M
 find-pair-spec =
     tie.close
     (tie.spec
-    add-lowest-pair
-    mul-lowest-pair
+    Inv-loop
+    μ-loop
+    loop-holds
+    mul-loop
+    mul-from
     lowest-pair-requires
-    cast-k
+    cast-low
+    add-k
     returns
-    shared-slice-read-if3
     returns-2
-    add-if4
-    shared-slice-read-if4
-    returns-3
-    returns-4
-    returns-5)
+    add-passed
+    loop-less
+    loop-again
+    returns-3)

@@ -1,25 +1,28 @@
--- `places::lowest_pair` meets its contract: after i turns `low` is the lowest of the first i places. Assumes nothing.
-use Prim.Native.Nat.{_≤_, _-_}
+-- `places::lowest_pair` meets its contract: after i turns `low` is the lowest of the first i places of the block. Assumes nothing.
+use Prim.Native.Nat.{ℕ, _≤_, _+_, _-_}
 use mathlib.Core.Path.{_≡_, refl, _∙_}
 use borrow.Author.Needs.{needs}
 use native.Mathlib.Omega.{arith}
 use Rattle.search.specs.Search.{first, placeOf, entries as listed}
 use Rattle.store.specs.Table.{isPair}
 use Rattle.store.specs.Layout.{ruleAt}
-use Rattle.places.specs.Within.{lastRule}
+use Rattle.places.specs.Within.{block, noneInBlock}
 use Rattle.places.proofs.Laws.{lowest-more}
 use Rattle.places.proofs.lowest_pair.Statement.{statement}
 use Rattle.places.proofs.lowest_pair.Tie as tie
 
 abbrev Inv-loop : tie.InvT-loop
-Inv-loop entries limit subject object low₀ i₀ low i = (i ≤ limit) × (low ≡ placeOf (first (isPair subject object) (listed (ruleAt entries) i)) lastRule)
+Inv-loop entries from subject object low₀ i₀ low i = (i ≤ block) × (low ≡ placeOf (first (isPair subject object) (listed (λ j. ruleAt entries (from + j)) i)) noneInBlock)
 
 abbrev μ-loop : tie.MeasureT-loop
-μ-loop entries limit subject object low₀ i₀ low i = limit - i
+μ-loop entries from subject object low₀ i₀ low i = block - i
 
 loop-holds : tie.Need-loop-holds Inv-loop μ-loop
 unfolding first listed
 loop-holds c = (omega arith, refl)
+
+add-at : tie.Need-add-at Inv-loop μ-loop
+add-at c = omega arith
 
 shared-slice-read-holds : tie.Need-shared-slice-read-holds Inv-loop μ-loop
 shared-slice-read-holds c = omega arith
@@ -50,12 +53,12 @@ unfolding isPair ruleAt
 loop-again c =
     let l = c .before .before .before .before .before in
     let a = l .before .before .args in
-    (omega arith, c .smaller .ensures ∙ lowest-more (isPair (a .subject) (a .object)) (ruleAt (a .entries .now)) lastRule (l .loop .i) (l .loop .low) (c .before .place-if .result) (omega arith) (l .loop .inv .1) (c .before .place-if .ensures))
+    (omega arith, c .smaller .ensures ∙ lowest-more (isPair (a .subject) (a .object)) (λ (j : ℕ). ruleAt (a .entries .now) (a .from + j)) noneInBlock (l .loop .i) (l .loop .low) (c .before .place-if .result) (omega arith) (l .loop .inv .1) (c .before .place-if .ensures))
 
 returns : tie.Need-returns Inv-loop μ-loop
 returns c =
     let l = c .before in
-    let e : l .loop .i ≡ l .before .before .args .limit = omega arith in
+    let e : l .loop .i ≡ block = omega arith in
     l .loop .inv .1 ∙ rw e
 
 pub lowest-pair-spec : {M : Type 1} → statement M
@@ -65,6 +68,7 @@ lowest-pair-spec =
     Inv-loop
     μ-loop
     loop-holds
+    add-at
     shared-slice-read-holds
     add-holds
     shared-slice-read-holds-2
