@@ -1,13 +1,12 @@
--- Laws of modes letter by letter: what a set that was joined, met or taken away from has of one letter; and of sets joined in another order. Assumes nothing.
-use mathlib.Core.Path.{_≡_, refl, sym, ap, ap₂, _∙_, subst}
+-- Laws of modes letter by letter: what a set that was joined, met or taken away from has of one letter. Assumes nothing.
+use mathlib.Core.Path.{_≡_, refl, sym, _∙_, subst}
 use mathlib.Core.Bool.{Bool, true, false, not, _&&_, _||_}
-use Prim.Native.Nat.{ℕ, zero, suc, _+_, _-_, _*_, _/_, _%_, _^_, _<_, _≤_, max}
+use Prim.Native.Nat.{ℕ, zero, suc, _+_, _-_, _*_, _/_, _%_, _^_, _<_}
 use native.Mathlib.Nat.{zero-mul, one-mul, mod-lt}
 use native.Mathlib.Omega.{arith}
 use lib.Dec.{eqb}
 use lib.Pow.{pow-pos}
-use lib.Arith.{bin-ind, digits-div, digits-mod}
-use lib.Bits.{bitAnd, bitOr, bitXor, and-high, and-le-r, and-shr, and-mod, or-step, or-comm, or-self, or-add-and, or-shr, or-mod, xor-shr, xor-mod}
+use lib.Bits.{bitAnd, bitOr, bitXor, and-high, and-shr, and-mod, or-shr, or-mod, xor-shr, xor-mod}
 use borrow.Author.Tests.{eqb-true, ne-eqb}
 use Rattle.search.specs.Bytes.{ascii}
 use Rattle.search.proofs.Laws.{no}
@@ -57,34 +56,6 @@ module _ (k a b : ℕ) where
       rw (has-digit k (bitXor a b), has-digit k b, xor-shr a b k, xor-mod (a / 2 ^ k) (b / 2 ^ k) 1)
       (digits (λ (x y : ℕ). eqb x 1 ≡ true → eqb (bitXor x y) 1 ≡ not (eqb y 1)) (λ z. absurd (no z)) (λ z. absurd (no z)) (λ z. refl) (λ z. refl)
       (digit k a) (digit k b) (digit-lt k a) (digit-lt k b) (sym (has-digit k a) ∙ e))
-
--- ---- sets joined in another order, or twice
-
-max-lt : (x y : ℕ) → x < 2 → y < 2 → max x y < 2
-max-lt x y h i = omega arith
-
-or-half : (a b : ℕ) → bitOr a b / 2 ≡ bitOr (a / 2) (b / 2)
-or-half a b = rw (or-step a b) (digits-div (bitOr (a / 2) (b / 2)) (max-lt (a % 2) (b % 2) (mod-lt a (omega arith)) (mod-lt b (omega arith))))
-
-or-odd : (a b : ℕ) → bitOr a b % 2 ≡ max (a % 2) (b % 2)
-or-odd a b = rw (or-step a b) (digits-mod (bitOr (a / 2) (b / 2)) (max-lt (a % 2) (b % 2) (mod-lt a (omega arith)) (mod-lt b (omega arith))))
-
-max-swap : (x y z : ℕ) → max (max x y) z ≡ max (max x z) y
-max-swap x y z = omega arith
-
-pub or-swap : (a b c : ℕ) → bitOr (bitOr a b) c ≡ bitOr (bitOr a c) b
-or-swap a =
-    bin-ind (λ (n : ℕ). (b c : ℕ) → bitOr (bitOr n b) c ≡ bitOr (bitOr n c) b) or-comm
-    (λ n ih b c. by-halves n b c ∙ ap₂ (λ (x y : ℕ). x * 2 + y) (ih (b / 2) (c / 2)) (max-swap (n % 2) (b % 2) (c % 2)) ∙ sym (by-halves n c b)) a
-  where
-    by-halves : (n b c : ℕ) → bitOr (bitOr n b) c ≡ bitOr (bitOr (n / 2) (b / 2)) (c / 2) * 2 + max (max (n % 2) (b % 2)) (c % 2)
-    by-halves n b c = or-step (bitOr n b) c ∙ ap₂ (λ (x y : ℕ). bitOr x (c / 2) * 2 + max y (c % 2)) (or-half n b) (or-odd n b)
-
-pub or-again : (a b : ℕ) → bitOr (bitOr a b) b ≡ bitOr a b
-or-again a b = ap (λ (x : ℕ). bitOr x b) (or-comm a b) ∙ or-swap b a b ∙ ap (λ (x : ℕ). bitOr x a) (or-self b) ∙ or-comm b a
-
-pub or-more : (a b : ℕ) → a ≤ bitOr a b
-or-more a b = omega (arith, or-add-and a b, and-le-r a b)
 
 -- what is true of each of the six letters
 module _ (P : ℕ → Type 0) (l : ℕ) where

@@ -1,23 +1,22 @@
--- Laws of the definitions of specs/: the table of letters, a field read as its bytes judged and joined, and modes as text. Assumes nothing.
+-- Laws of the definitions of specs/Modes.antt: the table of letters, a field read from some byte on, and modes as text. Assumes nothing.
 use mathlib.Core.Path.{_≡_, refl, sym, ap, _∙_}
-use mathlib.Core.Bool.{Bool, true, false, cond, not, _&&_, _||_, Bool·beq, or-false, or-assoc}
-use mathlib.Core.Logic.{_↔_, _⊎_, ⊎-elim}
-use mathlib.Core.List.{List, [], _∷_, foldl, foldl-append, append-assoc}
+use mathlib.Core.Bool.{Bool, true, false, cond, not, _&&_, _||_, Bool·beq, or-true, or-false, or-assoc, and-false}
+use mathlib.Core.Logic.{_↔_, _⊎_}
+use mathlib.Core.List.{List, [], _∷_, foldl, append-assoc}
 use Prim.Native.Nat.{ℕ, zero, suc, _+_, _-_, _<_, _≤_}
-use native.Mathlib.Nat.{eq-or-lt-of-le}
 use native.Mathlib.Numerals.{add-one}
 use native.Mathlib.Omega.{arith}
 use lib.Dec.{eqb, leb, ltb}
-use lib.Bits.{bitAnd, bitOr, or-lt, or-comm}
+use lib.Bits.{bitAnd, bitOr, or-lt}
 use borrow.Author.Tests.{eqb-true, eq-eqb, ne-eqb, ltb-true, lt-ltb, leb-true}
 use lib.ListN.{length, take, drop, getD, set, length-set, drop-of-length-le}
-use lib.Seq.{take-all, take-suc, drop-cons, drop-nil, take-length, set-split, paste, paste-zero, paste-suc}
+use lib.Seq.{drop-cons, drop-nil, take-length, set-split, paste, paste-zero, paste-suc}
 use Rattle.search.specs.Search.{all, entries}
 use Rattle.search.specs.Bytes.{ascii, written}
 use Rattle.search.proofs.Laws.{no, and-both, eqb-is, or-is, not-is, number-is, all-at, entries-at, entries-length}
 use Rattle.modes.specs.Modes.{letters, bitAmong, bitOf, allowedByte, modesOf, readModes, has, lettersIn, modesText, ruleLetters, changeLetters, requestLetters, Is, LetterBit, any, oneOf, SixLetters}
-use Rattle.modes.specs.Within.{notAllowed, judgedByte}
-use Rattle.modes.proofs.Bits.{single, has-or, or-swap, or-again, or-more, six}
+use Rattle.modes.specs.Within.{bitWhere}
+use Rattle.modes.proofs.Bits.{single, has-or, six}
 use Rattle.modes.specs.declared.Letter.{Letter}
 use Rattle.modes.specs.declared.Access.{Access}
 use Rattle.modes.specs.declared.Access.the-variants.{Modes, Bad}
@@ -124,24 +123,24 @@ letter-bit b h =
       none = no-letter-is b h;
     }
 
--- ---- the bit of a byte as what each letter picks, joined: no byte is two letters, computed at all 256
+-- ---- the bit of a byte as what each letter picks, joined: computed at all 256
 
 abbrev pub picked : ℕ → ℕ → Letter → ℕ
-picked b m l = bitOr m (bitAmong (l ∷ []) b)
+picked small m l = bitOr m (bitWhere small l)
 
 pickedTest : ℕ → Bool
-pickedTest b = eqb (foldl (picked b) 0 letters) (bitOf b)
+pickedTest b = eqb (foldl (picked (bitOr b 32)) 0 letters) (bitOf b)
 
 picked-right : all pickedTest (entries (λ (j : ℕ). j) 256) ≡ true
 unfolding all entries pickedTest bitOf
 picked-right = refl
 
-pub picked-all : (b : ℕ) → b < 256 → foldl (picked b) 0 letters ≡ bitOf b
+pub picked-all : (b : ℕ) → b < 256 → foldl (picked (bitOr b 32)) 0 letters ≡ bitOf b
 unfolding pickedTest
-picked-all b h = eqb-true (foldl (picked b) 0 letters) (bitOf b) (below pickedTest 256 picked-right b h)
+picked-all b h = eqb-true (foldl (picked (bitOr b 32)) 0 letters) (bitOf b) (below pickedTest 256 picked-right b h)
 
-pub picked-next : (b m i : ℕ) → i < 6 → foldl (picked b) m (drop i letters) ≡ foldl (picked b) (picked b m (letterAt i)) (drop (i + 1) letters)
-picked-next b m i h = rw (add-one i, drop-cons letters i noLetter h)
+pub picked-next : (small m i : ℕ) → i < 6 → foldl (picked small) m (drop i letters) ≡ foldl (picked small) (picked small m (letterAt i)) (drop (i + 1) letters)
+picked-next small m i h = rw (add-one i, drop-cons letters i noLetter h)
 
 -- ---- the bytes that each place allows, computed at all 256
 
@@ -223,103 +222,44 @@ six-letters =
       bring-up-letter = refl;
     }
 
--- ---- a field read as its bytes judged and joined
+-- ---- a field read from some byte on, with the modes m of the bytes before
 
--- what a byte adds
-pub judged-good : (allowed : ℕ) (dashes : Bool) (b : ℕ) → allowedByte allowed dashes b ≡ true → bitOf b ≡ judgedByte allowed dashes b
-unfolding judgedByte
-judged-good allowed dashes b e = rw e
+unfoldable pub readFrom : ℕ → Bool → ℕ → List ℕ → Access
+readFrom allowed dashes m rest = cond (all (allowedByte allowed dashes) rest) (Modes (foldl joined m rest)) Bad
 
-pub judged-bad : (allowed : ℕ) (dashes : Bool) (b : ℕ) → allowedByte allowed dashes b ≡ false → notAllowed ≡ judgedByte allowed dashes b
-unfolding judgedByte
-judged-bad allowed dashes b e = rw e
+pub read-all : (allowed : ℕ) (dashes : Bool) (field : List ℕ) → readModes allowed dashes field ≡ readFrom allowed dashes 0 field
+unfolding readModes modesOf readFrom
+read-all allowed dashes field = refl
 
-module _ (allowed : ℕ) (dashes : Bool) where
-  abbrev judge : ℕ → ℕ → ℕ
-  judge m b = bitOr m (judgedByte allowed dashes b)
+pub read-none : (allowed : ℕ) (dashes : Bool) (m : ℕ) → readFrom allowed dashes m [] ≡ Modes m
+unfolding readFrom all
+read-none allowed dashes m = refl
 
-  abbrev judgedAll : List ℕ → ℕ
-  judgedAll field = foldl judge 0 field
+-- one byte of it, whose bit is `bit`, by the tests in their order
+module _ (allowed : ℕ) (dashes : Bool) (m : ℕ) (field : List ℕ) (i : ℕ) (h : i < length field) (bit : ℕ) (is : bit ≡ bitOf (getD field i 0)) where
+  read-stop : allowedByte allowed dashes (getD field i 0) ≡ false → readFrom allowed dashes m (drop i field) ≡ Bad
+  unfolding readFrom all
+  read-stop e = rw (drop-cons field i 0 h, e)
 
-  -- where each byte is allowed these are the field's modes, and otherwise `notAllowed` or more
-  judged-modes : (field : List ℕ) (m : ℕ) → all (allowedByte allowed dashes) field ≡ true → foldl judge m field ≡ foldl joined m field
-  unfolding all
-  judged-modes [] m e = refl
-  judged-modes (b ∷ bs) m e =
-      let h = and-both _ _ e in
-      rw (← judged-good allowed dashes b (h .0)) (judged-modes bs (joined m b) (h .1))
+  read-more : allowedByte allowed dashes (getD field i 0) ≡ true → readFrom allowed dashes m (drop i field) ≡ readFrom allowed dashes (bitOr m bit) (drop (i + 1) field)
+  unfolding readFrom all
+  read-more e = rw (add-one i, drop-cons field i 0 h, e, is)
 
-  judged-high : (field : List ℕ) (m : ℕ) → notAllowed ≤ m → notAllowed ≤ foldl judge m field
-  judged-high [] m h = h
-  judged-high (b ∷ bs) m h = judged-high bs (judge m b) (omega (arith, h, or-more m (judgedByte allowed dashes b)))
+  pub read-letter : (bitAnd bit allowed ≡ 0 → ⊥) → readFrom allowed dashes m (drop i field) ≡ readFrom allowed dashes (bitOr m bit) (drop (i + 1) field)
+  unfolding allowedByte
+  read-letter n = read-more (rw (← is, ne-eqb (bitAnd bit allowed) 0 n))
 
-  judged-not : (field : List ℕ) (m : ℕ) → all (allowedByte allowed dashes) field ≡ false → notAllowed ≤ foldl judge m field
-  unfolding all
-  judged-not [] m e = absurd (no (sym e))
-  judged-not (b ∷ bs) m e = by-test (allowedByte allowed dashes b) refl (judged-not bs (judge m b)) e
-    where
-      by-test :
-          (t : Bool) → allowedByte allowed dashes b ≡ t → (all (allowedByte allowed dashes) bs ≡ false → notAllowed ≤ foldl judge (judge m b) bs) →
-          (t && all (allowedByte allowed dashes) bs) ≡ false → notAllowed ≤ foldl judge (judge m b) bs
-      by-test true q later z = later z
-      by-test false q later z =
-          let w = judged-bad allowed dashes b q in
-          judged-high bs (judge m b) (omega (arith, w, or-comm m (judgedByte allowed dashes b), or-more (judgedByte allowed dashes b) m))
+  pub read-dash : dashes ≡ true → getD field i 0 ≡ 45 → readFrom allowed dashes m (drop i field) ≡ readFrom allowed dashes (bitOr m bit) (drop (i + 1) field)
+  unfolding allowedByte
+  read-dash d e = read-more (rw (d, eq-eqb (getD field i 0) 45 e) (or-true (not (eqb (bitAnd (bitOf (getD field i 0)) allowed) 0))))
 
-  -- m has the last byte and those before index i, judged
-  abbrev pub Judged : List ℕ → ℕ → ℕ → Type 0
-  Judged field i m = m ≡ bitOr (judgedAll (take i field)) (judgedByte allowed dashes (getD field (length field - 1) 0))
+  pub read-no-dash : bitAnd bit allowed ≡ 0 → dashes ≡ false → readFrom allowed dashes m (drop i field) ≡ Bad
+  unfolding allowedByte
+  read-no-dash z d = read-stop (rw (← is, eq-eqb (bitAnd bit allowed) 0 z, d))
 
-  pub read-none : (field : List ℕ) → length field ≡ 0 → Modes 0 ≡ readModes allowed dashes field
-  unfolding readModes modesOf all
-  read-none [] e = refl
-  read-none (b ∷ bs) e = absurd (omega arith)
-
-  module _ (field : List ℕ) where
-    judged-next : (i : ℕ) → i < length field → judgedAll (take (i + 1) field) ≡ judge (judgedAll (take i field)) (getD field i 0)
-    judged-next i h = rw (add-one i, take-suc field i 0 h) (foldl-append judge 0 (take i field) (getD field i 0 ∷ []))
-
-    pub judged-ends :
-        0 < length field → (x y : ℕ) → x ≡ judgedByte allowed dashes (getD field 0 0) → y ≡ judgedByte allowed dashes (getD field (length field - 1) 0) → Judged field 1 (bitOr x y)
-    judged-ends h x y e f = rw (judged-next 0 h, e, f)
-
-    pub judged-more : (i m x : ℕ) → i < length field → x ≡ judgedByte allowed dashes (getD field i 0) → Judged field i m → Judged field (i + 1) (bitOr m x)
-    judged-more i m x h f e =
-        rw (e, f, judged-next i h) (or-swap (judgedAll (take i field)) (judgedByte allowed dashes (getD field (length field - 1) 0)) (judgedByte allowed dashes (getD field i 0)))
-
-    -- m has all of them, the last one once or twice
-    module _ (i m : ℕ) (some : 0 < length field) (low : length field - 1 ≤ i) (e : Judged field i m) where
-      abbrev last : ℕ
-      last = judgedByte allowed dashes (getD field (length field - 1) 0)
-
-      abbrev front : ℕ
-      front = judgedAll (take (length field - 1) field)
-
-      whole : judgedAll field ≡ bitOr front last
-      whole = ap judgedAll (sym (take-all (length field - 1 + 1) field (omega arith))) ∙ judged-next (length field - 1) (omega arith)
-
-      judged-all : m ≡ judgedAll field
-      judged-all =
-          ⊎-elim
-          (λ z. e ∙ ap (λ (j : ℕ). bitOr (judgedAll (take j field)) last) (sym z) ∙ sym whole)
-          (λ z. e ∙ ap (λ (l : List ℕ). bitOr (judgedAll l) last) (take-all i field (omega arith)) ∙ ap (λ (x : ℕ). bitOr x last) whole ∙ or-again front last ∙ sym whole)
-          (eq-or-lt-of-le low)
-
-      pub read-good : m < notAllowed → Modes m ≡ readModes allowed dashes field
-      unfolding readModes modesOf
-      read-good h = by-test (all (allowedByte allowed dashes) field) refl
-        where
-          by-test : (t : Bool) → all (allowedByte allowed dashes) field ≡ t → Modes m ≡ cond t (Modes (foldl joined 0 field)) Bad
-          by-test true q = ap Modes (judged-all ∙ judged-modes field 0 q)
-          by-test false q = absurd (omega (arith, h, judged-all, judged-not field 0 q))
-
-      pub read-bad : notAllowed ≤ m → Bad ≡ readModes allowed dashes field
-      unfolding readModes modesOf
-      read-bad h = by-test (all (allowedByte allowed dashes) field) refl
-        where
-          by-test : (t : Bool) → all (allowedByte allowed dashes) field ≡ t → Bad ≡ cond t (Modes (foldl joined 0 field)) Bad
-          by-test true q = absurd (omega (arith, h, judged-all, judged-modes field 0 q, modes-lt field 0 (omega arith)))
-          by-test false q = refl
+  pub read-other : bitAnd bit allowed ≡ 0 → (getD field i 0 ≡ 45 → ⊥) → readFrom allowed dashes m (drop i field) ≡ Bad
+  unfolding allowedByte
+  read-other z n = read-stop (rw (← is, eq-eqb (bitAnd bit allowed) 0 z, ne-eqb (getD field i 0) 45 n) (and-false dashes))
 
 pub modes-small : (allowed : ℕ) (dashes : Bool) (field : List ℕ) (m : ℕ) → readModes allowed dashes field ≡ Modes m → m < 64
 unfolding readModes modesOf

@@ -1,12 +1,9 @@
--- What the reading of an access field says of one of its bytes; nobody has to believe these. Assumes nothing.
+-- What the search for a letter says of one of them; nobody has to believe it. Assumes nothing.
 use Prim.Native.Nat.{ℕ}
-use mathlib.Core.Bool.{Bool, cond}
-use Rattle.modes.specs.Modes.{bitOf, allowedByte}
+use mathlib.Core.Bool.{cond}
+use lib.Dec.{eqb}
+use Rattle.modes.specs.declared.Letter.{Letter}
 
--- what stands for a byte that is not allowed: one more than all six letters together
-abbrev pub notAllowed : ℕ
-notAllowed = 64
-
--- the bit of a byte that may stand in an access field
-unfoldable pub judgedByte : ℕ → Bool → ℕ → ℕ
-judgedByte allowed dashes b = cond (allowedByte allowed dashes b) (bitOf b) notAllowed
+-- the bit of a letter where a byte is that letter, and 0 where not
+abbrev pub bitWhere : ℕ → Letter → ℕ
+bitWhere small l = cond (eqb small (l .letter)) (l .bit) 0

@@ -1,11 +1,10 @@
 // Access modes: the letters r w x a t b and their bits, read from text and written to it (01, Modes).
 ghost use mathlib.Core.Path.{_≡_};
-ghost use mathlib.Core.List.{_∷_, []};
 ghost use Prim.Native.Nat.{_+_, _≤_};
 ghost use lib.ListN.{length};
 ghost use Rattle.search.specs.Bytes.{written};
-ghost use Rattle.modes.specs.Modes.{bitAmong, bitOf, readModes, modesText, SixLetters};
-ghost use Rattle.modes.specs.Within.{judgedByte};
+ghost use Rattle.modes.specs.Modes.{bitOf, readModes, modesText, SixLetters};
+ghost use Rattle.modes.specs.Within.{bitWhere};
 
 // A letter and its bit.
 pub struct Letter {
@@ -16,7 +15,7 @@ pub struct Letter {
 // How many letters there are.
 const COUNT: usize = 6;
 
-// The letters in the order in which they are written out: r, w, x, a, t, b. Reading and listing walk it.
+// The letters in the order in which they are written out: r, w, x, a, t, b. Reading searches it, listing walks it.
 const LETTERS: [Letter; 6] = [
     Letter {
         letter: b'r',
@@ -56,52 +55,35 @@ pub const READ: u8 = 32;
 
 pub const BRING_UP: u8 = 1;
 
+// The bit that a small letter has and a capital one has not.
+const SMALL: u8 = 32;
+
 // What reading an access field answers: its modes, or that it has a byte not allowed there.
 pub enum Access {
     Modes(u8),
     Bad,
 }
 
-// What stands for a byte that is not allowed: one more than all six letters together, so that the modes of a field are below it exactly where each of
-// its bytes is allowed.
-const NOT_ALLOWED: u8 = 64;
-
-// The bit of one letter in either case, or 0 for any other byte. Who calls it has an entry of the table.
-fn pick(b: u8, entry: Letter) -> u8
-    requires { ⌜ 32 ≤ entry .letter ⌝ }
-    ensures { λ r. ⌜ r ≡ bitAmong (entry ∷ []) b ⌝ }
+// The bit of a letter where a byte is that letter, and 0 where not.
+fn pick(small: u8, entry: Letter) -> u8
+    ensures { λ r. ⌜ r ≡ bitWhere small entry ⌝ }
 {
-    if (b == entry.letter) | (b == entry.letter - 32) {
-        entry.bit
-    } else {
-        0
-    }
+    if small == entry.letter { entry.bit } else { 0 }
 }
 
-// The bit of a letter in either case, or 0 for any other byte. It goes through the whole table, with no exit that hangs on the byte.
+// The bit of a letter in either case, or 0 for any other byte. A byte with the bit SMALL is a letter exactly where the byte is that letter in one case
+// or the other. All letters are looked at, with no exit, since which one it is can't be guessed.
 fn bit_of(b: u8) -> u8
     ensures { λ r. ⌜ r ≡ bitOf b ⌝ }
 {
+    let small = b | SMALL;
     let mut bit = 0;
     let mut i = 0;
     while i < COUNT {
-        let entry = LETTERS[i];
-        bit = bit | pick(b, entry);
+        bit = bit | pick(small, LETTERS[i]);
         i += 1;
     }
     bit
-}
-
-// The bit of a byte of an access field, or NOT_ALLOWED.
-fn judged(b: u8, allowed: u8, dashes: bool) -> u8
-    ensures { λ r. ⌜ r ≡ judgedByte allowed dashes b ⌝ }
-{
-    let bit = bit_of(b);
-    if (bit & allowed != 0) | (dashes & (b == alphabet::DASH)) {
-        bit
-    } else {
-        NOT_ALLOWED
-    }
 }
 
 // The claim that letters and bits are those that 01 says, that each place allows the bytes that 01 says, and how a field is read and modes are written.
@@ -109,27 +91,27 @@ pub fn six_letters()
     ensures { λ _. ⌜ SixLetters ⌝ }
 {}
 
-// The modes of an access field, which may have the letters of `allowed` and, where `dashes` says so, dashes. First and last byte come before the loop
-// over those between, so that fields of one and of two bytes take one path.
+// The modes of an access field, which may have the letters of `allowed` and, where `dashes` says so, dashes.
 pub fn read_modes(field: &[u8], allowed: u8, dashes: bool) -> Access
     ensures { λ r. ⌜ r ≡ readModes allowed dashes (now (field .entry)) ⌝ }
 {
-    let n = field.len();
-    if n == 0 {
-        return Access::Modes(0);
-    }
-    let last = n - 1;
-    let mut modes = judged(field[0], allowed, dashes) | judged(field[last], allowed, dashes);
-    let mut i = 1;
-    while i < last {
-        modes = modes | judged(field[i], allowed, dashes);
+    let mut modes = 0;
+    let mut i = 0;
+    while i < field.len() {
+        let b = field[i];
+        let bit = bit_of(b);
+        if bit & allowed == 0 {
+            if !dashes {
+                return Access::Bad;
+            }
+            if b != alphabet::DASH {
+                return Access::Bad;
+            }
+        }
+        modes = modes | bit;
         i += 1;
     }
-    if modes < NOT_ALLOWED {
-        Access::Modes(modes)
-    } else {
-        Access::Bad
-    }
+    Access::Modes(modes)
 }
 
 // Writes modes as text from index `at`, the letters in their order or a dash, and answers how many bytes that took. Who calls it has made

@@ -1,33 +1,34 @@
--- `modes::bit_of` meets its contract: with i letters passed, the letters from i on are left to be joined. Assumes nothing.
+-- `modes::bit_of` meets its contract: with i letters passed, what the letters from i on pick is left to be joined. Assumes nothing.
 use Prim.Native.Nat.{ℕ, _+_, _-_, _≤_}
 use mathlib.Core.Path.{_≡_, sym, ap, _∙_}
 use mathlib.Core.List.{List, foldl}
 use native.Mathlib.Omega.{arith}
 use lib.Bits.{bitOr}
 use lib.ListN.{drop, drop-of-length-le}
+use borrow.Author.Needs.{needs}
 use Rattle.modes.specs.Modes.{bitOf, letters}
 use Rattle.modes.specs.declared.Letter.{Letter}
-use Rattle.modes.proofs.Laws.{letterAt, letter-rule, sound-parts, picked, picked-all, picked-next}
+use Rattle.modes.proofs.Laws.{picked, picked-all, picked-next}
 use Rattle.modes.proofs.bit_of.Statement.{statement}
 use Rattle.modes.proofs.bit_of.Tie as tie
 
 abbrev Inv-loop : tie.InvT-loop
-Inv-loop b bit₀ i₀ bit i = (i ≤ 6) × (foldl (picked b) bit (drop i letters) ≡ bitOf b)
+Inv-loop b small bit₀ i₀ bit i = (i ≤ 6) × (foldl (picked small) bit (drop i letters) ≡ bitOf b)
 
 abbrev μ-loop : tie.MeasureT-loop
-μ-loop b bit₀ i₀ bit i = 6 - i
+μ-loop b small bit₀ i₀ bit i = 6 - i
 
 loop-holds : tie.Need-loop-holds Inv-loop μ-loop
 loop-holds c = (omega arith, picked-all (c .args .b) (omega arith))
 
-mul-entry : tie.Need-mul-entry Inv-loop μ-loop
-mul-entry c = omega arith
+mul-pick : tie.Need-mul-pick Inv-loop μ-loop
+mul-pick c = omega arith
 
-array-copy-out-entry : tie.Need-array-copy-out-entry Inv-loop μ-loop
-array-copy-out-entry c = omega arith
+array-copy-out-pick : tie.Need-array-copy-out-pick Inv-loop μ-loop
+array-copy-out-pick c = omega arith
 
 pick-requires : tie.Need-pick-requires Inv-loop μ-loop
-pick-requires c κs = let l = c .before .before in omega (arith, sound-parts (letterAt (l .loop .i)) (letter-rule (l .loop .i) (omega arith)))
+pick-requires c κs = search needs
 
 add-i : tie.Need-add-i Inv-loop μ-loop
 add-i c = omega arith
@@ -38,16 +39,16 @@ loop-less c = omega arith
 loop-again : tie.Need-loop-again Inv-loop μ-loop
 loop-again c =
     let l = c .before .before .before in
-    let b = l .before .args .b in
+    let small = bitOr (l .before .args .b) 32 in
     let i = l .loop .i in (
       omega arith,
-      ap (λ (x : ℕ). foldl (picked b) (bitOr (l .loop .bit) x) (drop (i + 1) letters)) (c .pick .ensures) ∙ sym (picked-next b (l .loop .bit) i (omega arith)) ∙ l .loop .inv .1,
+      ap (λ (x : ℕ). foldl (picked small) (bitOr (l .loop .bit) x) (drop (i + 1) letters)) (c .pick .ensures) ∙ sym (picked-next small (l .loop .bit) i (omega arith)) ∙ l .loop .inv .1,
     )
 
 returns : tie.Need-returns Inv-loop μ-loop
 returns c =
     let l = c .before in
-    ap (λ (ls : List Letter). foldl (picked (l .before .args .b)) (l .loop .bit) ls) (sym (drop-of-length-le letters {i = l .loop .i} (omega arith))) ∙ l .loop .inv .1
+    ap (λ (ls : List Letter). foldl (picked (bitOr (l .before .args .b) 32)) (l .loop .bit) ls) (sym (drop-of-length-le letters {i = l .loop .i} (omega arith))) ∙ l .loop .inv .1
 
 pub bit-of-spec : {M : Type 1} → statement M
 bit-of-spec =
@@ -56,8 +57,8 @@ bit-of-spec =
     Inv-loop
     μ-loop
     loop-holds
-    mul-entry
-    array-copy-out-entry
+    mul-pick
+    array-copy-out-pick
     pick-requires
     add-i
     loop-less
