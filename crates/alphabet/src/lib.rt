@@ -355,17 +355,25 @@ fn skip(classes: &[u8], line: &[u8], from: usize, blanks: bool) -> usize
     i
 }
 
-// The next field of a line from an index on: a longest run of bytes that are no blanks.
+// The next field of a line from an index on: a longest run of bytes that are no blanks. Who calls it lends the table that `classes` gives.
+pub fn next_field_in(classes: &[u8], line: &[u8], from: usize) -> Field
+    requires { ⌜ now classes ≡ classTable ⌝ }
+    ensures { λ r. ⌜ r ≡ fieldAt (now (line .entry)) from ⌝ }
+{
+    let start = skip(classes, line, from, true);
+    if line.len() <= start {
+        return Field::End;
+    }
+    let end = skip(classes, line, start, false);
+    Field::Part { start, end }
+}
+
+// The same for who has no table at hand.
 pub fn next_field(line: &[u8], from: usize) -> Field
     ensures { λ r. ⌜ r ≡ fieldAt (now (line .entry)) from ⌝ }
 {
     let classes = classes();
-    let start = skip(&classes, line, from, true);
-    if line.len() <= start {
-        return Field::End;
-    }
-    let end = skip(&classes, line, start, false);
-    Field::Part { start, end }
+    next_field_in(&classes, line, from)
 }
 
 // The claim that the fields of a line are those that 01 says: the longest runs of bytes that are neither space nor tab.
