@@ -8,9 +8,11 @@ use lib.Dec.{eqb, leb, ltb}
 use Rattle.search.specs.Search.{first, entries}
 use Rattle.search.specs.declared.Found.{Found}
 use Rattle.search.specs.declared.Found.the-variants.{At, Nothing}
-use Rattle.alphabet.specs.Alphabet.{isBlank, classOf, labelByte, dash, labelLongest}
+use Rattle.alphabet.specs.Alphabet.{isBlank, classOf, labelByte, dash, labelLongest, wellFormed}
 use Rattle.alphabet.specs.declared.Field.{Field}
 use Rattle.alphabet.specs.declared.Field.the-variants.{Part, End}
+use Rattle.alphabet.specs.declared.Word.{Word}
+use Rattle.alphabet.specs.declared.Word.the-variants as word
 
 -- the classes of the 256 byte values, in order
 unfoldable pub classTable : List ℕ
@@ -43,6 +45,14 @@ fieldAt line from =
 -- the bytes of a line from start to end
 abbrev pub part : List ℕ → ℕ → ℕ → List ℕ
 part line start end = take (end - start) (drop start line)
+
+-- a field with whether its bytes are a well-formed label, and the next one of a line from an index on
+abbrev pub judged : List ℕ → Field → Word
+judged line (Part start end) = word.Part start end (wellFormed (part line start end))
+judged line End = word.End
+
+abbrev pub wordAt : List ℕ → ℕ → Word
+wordAt line from = judged line (fieldAt line from)
 
 -- the place of a label's first fault: 0 where it is empty or begins with a dash, the first byte that is no label byte, or 255 where it is too
 -- long and has no earlier fault; nothing where it is well formed

@@ -4,7 +4,7 @@ ghost use mathlib.Core.Path.{_≡_};
 ghost use Prim.Native.Nat.{_+_};
 ghost use lib.ListN.{drop, getD};
 ghost use Rattle.alphabet.specs.Alphabet.{classOf, ByteClasses, FieldsOfALine};
-ghost use Rattle.alphabet.specs.Within.{classTable, run, fieldAt, faultOf};
+ghost use Rattle.alphabet.specs.Within.{classTable, run, fieldAt, wordAt, faultOf};
 
 // The bytes that have a part of their own.
 pub const NEWLINE: u8 = b'\n';
@@ -374,6 +374,40 @@ pub fn next_field(line: &[u8], from: usize) -> Field
 {
     let classes = classes();
     next_field_in(&classes, line, from)
+}
+
+// A field with whether its bytes are a well-formed label; or that none is left.
+pub enum Word {
+    Part {
+        start: usize,
+        end: usize,
+        formed: bool,
+    },
+    End,
+}
+
+// The next field of a line from an index on, judged as a label in the pass that finds its end. The classes of its bytes are joined by or, which
+// leaves the class of a label byte, 0, exactly where each has it. Who calls it lends the table that `classes` gives.
+pub fn next_word(classes: &[u8], line: &[u8], from: usize) -> Word
+    requires { ⌜ now classes ≡ classTable ⌝ }
+    ensures { λ r. ⌜ r ≡ wordAt (now (line .entry)) from ⌝ }
+{
+    let mut end = skip(classes, line, from, true);
+    if line.len() <= end {
+        return Word::End;
+    }
+    let start = end;
+    let mut joined = IN_A_LABEL;
+    while end < line.len() {
+        let class = class(classes, line[end]);
+        if class == BLANK {
+            break;
+        }
+        joined = joined | class;
+        end += 1;
+    }
+    let formed = (joined == IN_A_LABEL) & (end - start <= LABEL_LONGEST) & (line[start] != DASH);
+    Word::Part { start, end, formed }
 }
 
 // The claim that the fields of a line are those that 01 says: the longest runs of bytes that are neither space nor tab.
