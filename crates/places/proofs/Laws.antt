@@ -6,7 +6,7 @@ use Prim.Native.Nat.{ℕ, zero, suc, _+_, _*_, _-_, _<_, _≤_}
 use native.Mathlib.Numerals.{add-one}
 use native.Mathlib.Omega.{arith}
 use lib.Dec.{eqb, ltb}
-use borrow.Author.Tests.{eq-eqb, eqb-true, eqb-false, ltb-true, ltb-false, lt-ltb, le-ltb}
+use borrow.Author.Tests.{eq-eqb, ltb-true, ltb-false, lt-ltb, le-ltb}
 use lib.ListN.{length, take, drop, getD, length-drop}
 use lib.Seq.{take-take, getD-take, getD-drop, length-take-le, drop-cons}
 use Rattle.search.specs.Bytes.{sameBytes}
@@ -14,7 +14,7 @@ use Rattle.search.specs.Search.{first, placeOf, entries as listed}
 use Rattle.search.specs.Within.{wordAt}
 use Rattle.search.specs.declared.Found.{Found}
 use Rattle.search.specs.declared.Found.the-variants.{At, Nothing}
-use Rattle.search.proofs.Laws.{no, same-equal, first-is, first-before, first-fails, first-append, first-snoc, first-last, last-entry, entries-length, entries-at, found-at, found-none}
+use Rattle.search.proofs.Laws.{no, same-equal, first-is, first-before, first-fails, first-append, first-snoc, first-last, last-entry, entries-length, entries-at}
 use Rattle.store.specs.Layout.{labelAt}
 use Rattle.places.specs.Within.{Unlike, NoWord, NotHeld, FirstHeld}
 
