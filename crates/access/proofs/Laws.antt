@@ -1,6 +1,6 @@
 -- Laws of the access check. Assumes nothing.
 use mathlib.Core.Path.{_≡_, refl, sym, ap, _∙_}
-use mathlib.Core.Bool.{Bool, true, false, cond, _&&_, and-true}
+use mathlib.Core.Bool.{Bool, true, false, cond, not, _&&_, and-true}
 use mathlib.Core.List.{List, [], _∷_, _++_}
 use Prim.Native.Nat.{ℕ, zero, suc, _+_, _<_, _≤_}
 use native.Mathlib.Omega.{arith}
@@ -27,6 +27,7 @@ use Rattle.access.specs.declared.Denial.the-variants.{AnyOther}
 use Rattle.access.specs.declared.Verdict.{Verdict}
 use Rattle.access.specs.declared.Verdict.the-variants.{Grants, Denies, Undecided}
 use Rattle.access.specs.declared.Ruling.{Ruling}
+use Rattle.access.specs.declared.Answer.the-variants.{Denied}
 
 -- ---- a label of one byte
 
@@ -79,6 +80,11 @@ module _ (t : Table) (s : Found) where
   pub effective-listed : (length (t .onlycap) ≡ 0 → ⊥) → effective t s true ≡ onList (t .onlycap) s
   unfolding effective
   effective-listed n = rw (ne-eqb (length (t .onlycap)) 0 n)
+
+-- a denial stays one where the asker has not the capability
+pub without : (t : Table) (s : Found) (capable : Bool) (by : Denial) → not capable ≡ true → denied (effective t s capable) by ≡ Denied by
+without t s true by e = absurd (no e)
+without t s false by e = rw (effective-not t s)
 
 -- ---- the order
 

@@ -180,7 +180,8 @@ fn answered(
     }
 }
 
-// Rules 5 to 7, by numbers: each label is looked up once. Who calls it has tested the store.
+// Rules 5 to 7, by numbers: each label is looked up once, the object first where the subject was found, since for rule 5 it stands there. Who calls it
+// has tested the store.
 fn by_numbers(
     labels: &[u8],
     entries: &[u8],
@@ -194,7 +195,7 @@ fn by_numbers(
 {
     let count = words[store::LABEL_COUNT] as usize;
     let s = places::find_label(labels, count, subject);
-    let o = places::find_label(labels, count, object);
+    let o = places::find_label_hinted(labels, count, object, s);
     if same_label(subject, object, s, o) {
         return Ruling {
             verdict: Verdict::Grants(5, false),
@@ -220,7 +221,8 @@ fn by_numbers(
     }
 }
 
-// The first of the seven rules that applies decides. Who calls it has tested the store.
+// The first of the seven rules that applies decides. Where rules 1 to 4 do, no label is looked up, but for a denial that may be overridden. Who calls it
+// has tested the store.
 fn decide(
     labels: &[u8],
     entries: &[u8],
@@ -236,6 +238,9 @@ fn decide(
     match by_marks(subject, object, wanted) {
         Verdict::Grants(rule, b) => Answer::Granted(rule, b),
         Verdict::Denies(by) => {
+            if !capable {
+                return Answer::Denied(by);
+            }
             let s = places::find_label(labels, words[store::LABEL_COUNT] as usize, subject);
             denied(entries, words, s, by, capable)
         }

@@ -1,4 +1,5 @@
-// What every table of the library shares: what a search answers, byte strings compared and copied, and a run of numbers held to a limit.
+// What every table of the library shares: what a search answers, byte strings compared, copied and taken four bytes at a time, and a run of
+// numbers held to a limit.
 // Nothing here knows what a label or a rule is.
 ghost use mathlib.Core.Path.{_≡_};
 ghost use Prim.Native.Nat.{_+_, _≤_};

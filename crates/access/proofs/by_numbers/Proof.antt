@@ -11,6 +11,7 @@ use Rattle.search.specs.declared.Found.the-variants.{At}
 use Rattle.store.specs.Table.{Table, labelIn}
 use Rattle.store.specs.Layout.{store, tableOf, labelAt}
 use Rattle.store.specs.Pairs.{ruleBetween, has-modes, modesFound}
+use Rattle.places.proofs.Laws.{first-held}
 use Rattle.access.proofs.Laws.{place-below, between-same, between-below, stored-modes, same-numbers, ruling-same, ruling-none, ruling-grants, ruling-denies}
 use borrow.Author.Needs.{needs}
 use Rattle.access.proofs.by_numbers.Statement.{statement}
@@ -23,7 +24,7 @@ module _ (c : tie.Else1) where
 
   apart : sameBytes (S₁ .args .subject .now) (S₁ .args .object .now) ≡ false
   apart =
-      sym (same-numbers _ (S₁ .args .subject .now) (S₁ .args .object .now) _ _ (c .before .before .before .find-label .ensures) (c .before .before .find-label2 .ensures))
+      sym (same-numbers _ (S₁ .args .subject .now) (S₁ .args .object .now) _ _ (c .before .before .before .find-label .ensures) (c .before .before .find-label-hinted .ensures))
       ∙ sym (c .before .same-label .ensures)
       ∙ c .if1 .left
 
@@ -42,7 +43,7 @@ module _ (c : tie.After-find-rule) where
   place =
       sym
       (c .find-rule .ensures
-      ∙ between-same (S .args .labels .now) (S .args .entries .now) (S .args .words .now) _ _ _ _ (E .before .before .before .find-label .ensures) (E .before .before .find-label2 .ensures))
+      ∙ between-same (S .args .labels .now) (S .args .entries .now) (S .args .words .now) _ _ _ _ (E .before .before .before .find-label .ensures) (E .before .before .find-label-hinted .ensures))
 
 -- and its modes
 module _ (c : tie.After-known-told) where
@@ -67,8 +68,10 @@ shared-slice-read-count c = search needs
 find-label-requires : tie.Need-find-label-requires
 find-label-requires c κs = search needs
 
-find-label-requires-2 : tie.Need-find-label-requires-2
-find-label-requires-2 c κs = search needs
+find-label-hinted-requires : tie.Need-find-label-hinted-requires
+find-label-hinted-requires c κs =
+    let b = c .before .before .before .before .before .before .before in
+    (b .pre .0 .labels, b .pre .1 .labels, first-held (b .args .labels .now) _ (b .args .subject .now) _ (c .find-label .ensures))
 
 same-label-requires : tie.Need-same-label-requires
 same-label-requires c κs = search needs
@@ -77,7 +80,7 @@ returns : tie.Need-returns
 returns c =
     let a = c .before .before .before .before .before .before .before .before .before .before .args in
     let s = c .before .before .before .find-label .ensures in
-    let e = sym (same-numbers _ (a .subject .now) (a .object .now) _ _ s (c .before .before .find-label2 .ensures)) ∙ sym (c .before .same-label .ensures) ∙ c .if1 .taken in
+    let e = sym (same-numbers _ (a .subject .now) (a .object .now) _ _ s (c .before .before .find-label-hinted .ensures)) ∙ sym (c .before .same-label .ensures) ∙ c .if1 .taken in
     ruling-same (tableOf (store (a .labels .now) (a .entries .now) (a .words .now))) (a .subject .now) (a .object .now) (a .wanted) _ s e
 
 find-rule-requires : tie.Need-find-rule-requires
@@ -86,7 +89,7 @@ find-rule-requires c κs =
     let a = S₁ c .args in
     let n = getD (a .words .now) 0 0 in
     let s : placeOf (c .before .before .before .find-label .result) 0 < 64 = place-below (sameBytes (a .subject .now)) (labelAt (a .labels .now)) n 64 _ (c .before .before .before .find-label .ensures) (p .1 .labels) (omega arith) in
-    let o : placeOf (c .before .before .find-label2 .result) 0 < 64 = place-below (sameBytes (a .object .now)) (labelAt (a .labels .now)) n 64 _ (c .before .before .find-label2 .ensures) (p .1 .labels) (omega arith) in
+    let o : placeOf (c .before .before .find-label-hinted .result) 0 < 64 = place-below (sameBytes (a .object .now)) (labelAt (a .labels .now)) n 64 _ (c .before .before .find-label-hinted .ensures) (p .1 .labels) (omega arith) in
     ((omega (arith, p .0 .entries), omega (arith, p .0 .words), p .1), (s, o))
 
 enum-known-k : tie.Need-enum-known-k
@@ -127,7 +130,7 @@ by-numbers-spec =
     (tie.spec
     shared-slice-read-count
     find-label-requires
-    find-label-requires-2
+    find-label-hinted-requires
     same-label-requires
     returns
     find-rule-requires

@@ -5,7 +5,7 @@ use Rattle.store.specs.Layout.{store, tableOf}
 use Rattle.access.specs.Access.{answered, effective, decide}
 use Rattle.access.specs.Within.{rulingOf}
 use Rattle.access.specs.declared.Verdict.{Verdict}
-use Rattle.access.proofs.Laws.{after, denied-same, answered-same, decide-is}
+use Rattle.access.proofs.Laws.{after, without, denied-same, answered-same, decide-is}
 use borrow.Author.Needs.{needs}
 use Rattle.access.proofs.decide.Statement.{statement}
 use Rattle.access.proofs.decide.Tie as tie
@@ -53,18 +53,23 @@ answered-requires : tie.Need-answered-requires
 answered-requires c κs = search needs
 
 returns : tie.Need-returns
-returns c = sym (decides (c .before .before .before) _ (c .before .rule .given .1))
+returns c =
+    let d = c .before .before .before .before in
+    sym (decides d _ (c .before .before .by .given .1) ∙ without (T d) (labelIn (T d) (S d .args .subject .now)) (S d .args .capable) _ (c .if1 .taken))
 
 returns-2 : tie.Need-returns-2
-returns-2 c =
-    let d = c .before .before .before .before .before .before in
-    let a = S d .args in
-    c .denied .ensures
-    ∙ denied-same (a .labels .now) (a .entries .now) (a .words .now) _ _ _ _ (c .before .find-label .ensures)
-    ∙ sym (decides d _ (c .before .before .before .before .by .given .1))
+returns-2 c = sym (decides (c .before .before .before) _ (c .before .rule .given .1))
 
 returns-3 : tie.Need-returns-3
 returns-3 c =
+    let d = c .before .before .before .before .before .before .before in
+    let a = S d .args in
+    c .denied .ensures
+    ∙ denied-same (a .labels .now) (a .entries .now) (a .words .now) _ _ _ _ (c .before .find-label .ensures)
+    ∙ sym (decides d _ (c .before .before .before .before .before .by .given .1))
+
+returns-4 : tie.Need-returns-4
+returns-4 c =
     let d = c .before .before .before .before in
     let a = S d .args in
     c .answered .ensures
@@ -78,12 +83,13 @@ decide-spec =
     by-marks-requires
     enum-known-rule
     enum-known-by
+    returns
     shared-slice-read-find-label
     find-label-requires
     denied-requires
     enum-told
     by-numbers-requires
     answered-requires
-    returns
     returns-2
-    returns-3)
+    returns-3
+    returns-4)
