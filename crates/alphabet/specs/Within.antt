@@ -1,11 +1,11 @@
--- What only contracts inside the library and proofs speak of: the table of the byte classes, the place of a label's first fault, and where in a line its
--- fields stand. Nobody has to believe it: what it says of lines is held to `fields` by the laws. Assumes nothing.
+-- What only contracts inside the library and proofs speak of: the table of the byte classes, the place of a label's first fault, whether a part of a label
+-- is label bytes, and where in a line its fields stand. Nobody has to believe it: what it says of lines is held to `fields` by the laws. Assumes nothing.
 use Prim.Native.Nat.{ℕ, zero, suc, _+_, _-_}
 use mathlib.Core.Bool.{Bool, true, false, cond, not}
 use mathlib.Core.List.{List, [], _∷_}
 use lib.ListN.{length, take, drop, getD}
 use lib.Dec.{eqb, leb, ltb}
-use Rattle.search.specs.Search.{first, entries}
+use Rattle.search.specs.Search.{first, all, entries}
 use Rattle.search.specs.declared.Found.{Found}
 use Rattle.search.specs.declared.Found.the-variants.{At, Nothing}
 use Rattle.alphabet.specs.Alphabet.{isBlank, classOf, labelByte, dash, labelLongest, wellFormed}
@@ -68,3 +68,12 @@ faultOf l =
     (cond (eqb (getD l 0 0) dash)
     (At 0)
     (orTooLong (first (λ (b : ℕ). not (labelByte b)) (take labelLongest l)) (length l)))
+
+-- whether the bytes of a label from start to end are label bytes
+unfoldable pub labelBytes : List ℕ → ℕ → ℕ → Bool
+unfolding labelByte
+labelBytes l start end = all labelByte (part l start end)
+
+-- whether the number by which a byte, or a part of a label, was judged says yes: 128 or more
+abbrev pub passes : ℕ → Bool
+passes r = ltb 127 r

@@ -1,10 +1,10 @@
 // The bytes of labels and lines: the class of each byte, what a well-formed label is, and the fields of a line (01, Labels and Rule text).
 use search::Found;
 ghost use mathlib.Core.Path.{_≡_};
-ghost use Prim.Native.Nat.{_+_};
-ghost use lib.ListN.{drop, getD};
-ghost use Rattle.alphabet.specs.Alphabet.{classOf, ByteClasses, FieldsOfALine};
-ghost use Rattle.alphabet.specs.Within.{classTable, run, fieldAt, wordAt, faultOf};
+ghost use Prim.Native.Nat.{_+_, _≤_, min};
+ghost use lib.ListN.{drop, getD, length};
+ghost use Rattle.alphabet.specs.Alphabet.{labelByte, classOf, ByteClasses, wellFormed, FieldsOfALine};
+ghost use Rattle.alphabet.specs.Within.{classTable, run, fieldAt, wordAt, faultOf, labelBytes, passes};
 
 // The bytes that have a part of their own.
 pub const NEWLINE: u8 = b'\n';
@@ -332,6 +332,115 @@ pub fn label_fault(label: &[u8]) -> Found
         i += 1;
     }
     Found::Nothing
+}
+
+const DELETE: u8 = 127;
+
+// 128 or more exactly where a byte is a label byte: without a table or a branch, so that the compiler can take many bytes at a time. Of the low
+// seven bits v: v + 95 is 128 or more where v is 33 or more, and (v ^ c) + 127 where v is not c; ' and / differ in the bit 8 alone, so one test
+// serves both. b ^ 255 is 128 or more where b is below 128. `&` keeps the bit 128 where all six have it.
+fn judged(b: u8) -> u8
+    ensures { λ r. ⌜ passes r ≡ labelByte b ⌝ }
+{
+    let v = b & 127;
+    (v + 95)
+        & ((v ^ b'"') + 127)
+        & (((v | 8) ^ b'/') + 127)
+        & ((v ^ b'\\') + 127)
+        & ((v ^ DELETE) + 127)
+        & (b ^ 255)
+}
+
+// The smaller of two numbers: it is 128 or more where both are.
+fn smaller(a: u8, b: u8) -> u8
+    ensures { λ r. ⌜ r ≡ min a b ⌝ }
+{
+    if a < b { a } else { b }
+}
+
+// 128 or more exactly where the 4, 16 or 32 bytes of a label from an index on are label bytes. How many is a constant in each, so that the compiler
+// can take them at once. Who calls one has made sure that the label has that many.
+fn lowest_of_4(label: &[u8], at: usize) -> u8
+    requires { ⌜ at + 4 ≤ length (now label) ⌝ }
+    ensures { λ r. ⌜ passes r ≡ labelBytes (now (label .entry)) at (at + 4) ⌝ }
+{
+    smaller(
+        smaller(judged(label[at]), judged(label[at + 1])),
+        smaller(judged(label[at + 2]), judged(label[at + 3])),
+    )
+}
+
+fn lowest_of_16(label: &[u8], at: usize) -> u8
+    requires { ⌜ at + 16 ≤ length (now label) ⌝ }
+    ensures { λ r. ⌜ passes r ≡ labelBytes (now (label .entry)) at (at + 16) ⌝ }
+{
+    let mut low = 255;
+    let mut i = 0;
+    while i < 16 {
+        low = smaller(low, judged(label[at + i]));
+        i += 1;
+    }
+    low
+}
+
+fn lowest_of_32(label: &[u8], at: usize) -> u8
+    requires { ⌜ at + 32 ≤ length (now label) ⌝ }
+    ensures { λ r. ⌜ passes r ≡ labelBytes (now (label .entry)) at (at + 32) ⌝ }
+{
+    let mut low = 255;
+    let mut i = 0;
+    while i < 32 {
+        low = smaller(low, judged(label[at + i]));
+        i += 1;
+    }
+    low
+}
+
+// 128 or more exactly where every byte of a label is a label byte. From 4 bytes on it looks at parts of one size; the last part ends where the label
+// does, and so parts may overlap.
+fn lowest(label: &[u8]) -> u8
+    ensures { λ r. ⌜ passes r ≡ labelBytes (now (label .entry)) 0 (length (now (label .entry))) ⌝ }
+{
+    let n = label.len();
+    if n < 4 {
+        let mut low = 255;
+        let mut i = 0;
+        while i < n {
+            low = smaller(low, judged(label[i]));
+            i += 1;
+        }
+        return low;
+    }
+    if n <= 16 {
+        let last = n - 4;
+        let second = if 4 < last { 4 } else { last };
+        let third = if 8 < n { n - 8 } else { 0 };
+        return smaller(
+            smaller(lowest_of_4(label, 0), lowest_of_4(label, second)),
+            smaller(lowest_of_4(label, third), lowest_of_4(label, last)),
+        );
+    }
+    if n < 32 {
+        return smaller(lowest_of_16(label, 0), lowest_of_16(label, n - 16));
+    }
+    let mut low = lowest_of_32(label, n - 32);
+    let mut i = 0;
+    while i + 32 < n {
+        low = smaller(low, lowest_of_32(label, i));
+        i += 32;
+    }
+    low
+}
+
+// Whether a label is well formed; where it is not, `label_fault` says at which byte.
+pub fn well_formed(label: &[u8]) -> bool
+    ensures { λ r. ⌜ r ≡ wellFormed (now (label .entry)) ⌝ }
+{
+    let n = label.len();
+    if (n == 0) | (LABEL_LONGEST < n) {
+        return false;
+    }
+    (127 < lowest(label)) & (label[0] != DASH)
 }
 
 // What a field reader answers: where the next field starts and where it ends, which is where the reader goes on; or that none is left.
