@@ -268,12 +268,12 @@ pub fn question(
     if !damage::undamaged(labels, entries, words) {
         return Answer::Refused(refusals::DAMAGED);
     }
-    let Found::Nothing = alphabet::label_fault(subject) else {
+    if !alphabet::well_formed(subject) {
         return Answer::Refused(refusals::BAD_LABEL);
-    };
-    let Found::Nothing = alphabet::label_fault(object) else {
+    }
+    if !alphabet::well_formed(object) {
         return Answer::Refused(refusals::BAD_LABEL);
-    };
+    }
     if request.len() == 0 {
         return Answer::Refused(refusals::BAD_REQUEST);
     }

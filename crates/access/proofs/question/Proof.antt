@@ -4,7 +4,6 @@ use mathlib.Core.Path.{_≡_, sym, _∙_}
 use mathlib.Core.Bool.{true}
 use borrow.Author.Tests.{eq-eqb, ne-eqb, not-true, not-false}
 use Rattle.alphabet.specs.Alphabet.{wellFormed}
-use Rattle.alphabet.proofs.Laws.{fault-formed, fault-unformed}
 use Rattle.store.specs.Layout.{store, undamagedOf}
 use Rattle.store.proofs.Laws.{undamaged-is}
 use Rattle.access.specs.Access.{answer, questionOf}
@@ -16,11 +15,11 @@ use Rattle.access.proofs.question.Tie as tie
 whole : (c : tie.Else1) → let a = c .before .before .before .before .before .before .before .before .args in undamagedOf (store (a .labels .now) (a .entries .now) (a .words .now)) ≡ true
 whole c = sym (c .before .undamaged .ensures) ∙ not-false (c .before .undamaged .result) (c .if1 .left)
 
-subject-formed : (c : tie.After-enum-told) → wellFormed (c .before .before .before .before .before .before .before .before .before .before .before .args .subject .now) ≡ true
-subject-formed c = fault-formed _ (sym (c .before .before .label-fault .ensures) ∙ c .enum-told .given .1)
+subject-formed : (c : tie.Else2) → wellFormed (c .before .before .before .before .before .before .before .before .before .before .args .subject .now) ≡ true
+subject-formed c = sym (c .before .well-formed .ensures) ∙ not-false (c .before .well-formed .result) (c .if2 .left)
 
-object-formed : (c : tie.After-enum-told3) → wellFormed (c .before .before .before .before .before .before .before .before .before .before .before .before .before .before .args .object .now) ≡ true
-object-formed c = fault-formed _ (sym (c .before .before .label-fault2 .ensures) ∙ c .enum-told3 .given .1)
+object-formed : (c : tie.Else3) → wellFormed (c .before .before .before .before .before .before .before .before .before .before .before .before .args .object .now) ≡ true
+object-formed c = sym (c .before .well-formed2 .ensures) ∙ not-false (c .before .well-formed2 .result) (c .if3 .left)
 
 undamaged-requires : tie.Need-undamaged-requires
 undamaged-requires c κs = search needs
@@ -29,40 +28,28 @@ returns : tie.Need-returns
 unfolding questionOf
 returns c = rw (sym (c .before .undamaged .ensures) ∙ not-true (c .before .undamaged .result) (c .if1 .taken))
 
-label-fault-requires : tie.Need-label-fault-requires
-label-fault-requires c κs = search needs
-
-enum-told : tie.Need-enum-told
-enum-told c = search needs
-
-enum-told-2 : tie.Need-enum-told-2
-enum-told-2 c = search needs
+well-formed-requires : tie.Need-well-formed-requires
+well-formed-requires c κs = search needs
 
 returns-2 : tie.Need-returns-2
 unfolding questionOf answer
-returns-2 c = rw (whole (c .before .before .before), fault-unformed _ _ (sym (c .before .before .label-fault .ensures) ∙ c .enum-told2 .given .1))
+returns-2 c = rw (whole (c .before .before), sym (c .before .well-formed .ensures) ∙ not-true (c .before .well-formed .result) (c .if2 .taken))
 
-label-fault-requires-2 : tie.Need-label-fault-requires-2
-label-fault-requires-2 c κs = search needs
-
-enum-told-3 : tie.Need-enum-told-3
-enum-told-3 c = search needs
-
-enum-told-4 : tie.Need-enum-told-4
-enum-told-4 c = search needs
+well-formed-requires-2 : tie.Need-well-formed-requires-2
+well-formed-requires-2 c κs = search needs
 
 returns-3 : tie.Need-returns-3
 unfolding questionOf answer
 returns-3 c =
-    let d = c .before .before .before in
-    rw (whole (d .before .before .before), subject-formed d, fault-unformed _ _ (sym (c .before .before .label-fault2 .ensures) ∙ c .enum-told4 .given .1))
+    let d = c .before .before in
+    rw (whole (d .before .before), subject-formed d, sym (c .before .well-formed2 .ensures) ∙ not-true (c .before .well-formed2 .result) (c .if3 .taken))
 
 returns-4 : tie.Need-returns-4
 unfolding questionOf answer
 returns-4 c =
     let d = c .before in
-    let e = d .before .before .before in
-    rw (whole (e .before .before .before), subject-formed e, object-formed d, eq-eqb _ _ (c .if2 .taken))
+    let e = d .before .before in
+    rw (whole (e .before .before), subject-formed e, object-formed d, eq-eqb _ _ (c .if4 .taken))
 
 read-modes-requires : tie.Need-read-modes-requires
 read-modes-requires c κs = search needs
@@ -70,20 +57,20 @@ read-modes-requires c κs = search needs
 enum-known-wanted : tie.Need-enum-known-wanted
 enum-known-wanted c = search needs
 
-enum-told-5 : tie.Need-enum-told-5
-enum-told-5 c = search needs
+enum-told : tie.Need-enum-told
+enum-told c = search needs
 
 returns-5 : tie.Need-returns-5
 unfolding questionOf answer
 returns-5 c =
     let r = c .before .before in
     let d = r .before .before in
-    let e = d .before .before .before in
-    rw (whole (e .before .before .before), subject-formed e, object-formed d, ne-eqb _ _ (r .before .if2 .left), sym (r .read-modes .ensures) ∙ c .enum-told5 .given .1)
+    let e = d .before .before in
+    rw (whole (e .before .before), subject-formed e, object-formed d, ne-eqb _ _ (r .before .if4 .left), sym (r .read-modes .ensures) ∙ c .enum-told .given .1)
 
 decide-requires : tie.Need-decide-requires
 decide-requires c κs =
-    let u = undamaged-is _ (whole (c .before .before .before .before .before .before .before .before .before .before .before)) in
+    let u = undamaged-is _ (whole (c .before .before .before .before .before .before .before .before .before)) in
     (u .sizes, u .counts)
 
 returns-6 : tie.Need-returns-6
@@ -91,8 +78,8 @@ unfolding questionOf answer
 returns-6 c =
     let r = c .before .before .before .before in
     let d = r .before .before in
-    let e = d .before .before .before in
-    rw (whole (e .before .before .before), subject-formed e, object-formed d, ne-eqb _ _ (r .before .if2 .left), sym (r .read-modes .ensures) ∙ c .before .before .wanted .given .1) (c .decide .ensures)
+    let e = d .before .before in
+    rw (whole (e .before .before), subject-formed e, object-formed d, ne-eqb _ _ (r .before .if4 .left), sym (r .read-modes .ensures) ∙ c .before .before .wanted .given .1) (c .decide .ensures)
 
 pub question-spec : {M : Type 1} → statement M
 question-spec =
@@ -100,18 +87,14 @@ question-spec =
     (tie.spec
     undamaged-requires
     returns
-    label-fault-requires
-    enum-told
-    enum-told-2
+    well-formed-requires
     returns-2
-    label-fault-requires-2
-    enum-told-3
-    enum-told-4
+    well-formed-requires-2
     returns-3
     returns-4
     read-modes-requires
     enum-known-wanted
-    enum-told-5
+    enum-told
     returns-5
     decide-requires
     returns-6)
