@@ -30,7 +30,8 @@ pub fn second_four(n: usize) -> usize
     requires { ⌜ 4 ≤ n ⌝ }
     ensures { λ r. ⌜ r ≡ secondFour n ⌝ }
 {
-    if 8 < n { 4 } else { n - 4 }
+    let last = n - 4;
+    if last < 4 { last } else { 4 }
 }
 
 // Where the third of them begins.
