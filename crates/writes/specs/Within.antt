@@ -7,7 +7,14 @@ use Rattle.rules.specs.Within.{withPairAt, modesOfRule}
 use Rattle.rules.specs.declared.Place.{Place}
 use Rattle.rules.specs.declared.Place.the-variants as p
 use Rattle.writes.specs.Writes.{changed}
+use Rattle.writes.specs.declared.Setting.{Setting}
+use Rattle.writes.specs.declared.Setting.the-variants.{Rule, Change}
 
-abbrev pub changeAt : Table → List ℕ → List ℕ → ℕ → ℕ → Place → Judged
-changeAt t s o a d (p.Refused n) = is-refused n
-changeAt t s o a d (p.At spot) = is-accepted (withPairAt t s o spot (changed (modesOfRule (spot .rule) (t .rules)) a d))
+-- the modes that a pair then has, by those that it had
+abbrev pub newModes : ℕ → Setting → ℕ
+newModes old (Rule m) = m
+newModes old (Change a d) = changed old a d
+
+abbrev pub settingAt : Table → List ℕ → List ℕ → Setting → Place → Judged
+settingAt t s o x (p.Refused n) = is-refused n
+settingAt t s o x (p.At spot) = is-accepted (withPairAt t s o spot (newModes (modesOfRule (spot .rule) (t .rules)) x))

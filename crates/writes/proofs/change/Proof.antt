@@ -12,7 +12,8 @@ use Rattle.lines.specs.declared.ChangeLine.the-variants as x
 use Rattle.lines.proofs.Laws.{Taken, change-sound}
 use Rattle.store.specs.Judged.{onState}
 use Rattle.writes.specs.Writes.{judged, changeAnswer, changeStore}
-use Rattle.writes.specs.Within.{changeAt}
+use Rattle.writes.specs.Within.{settingAt}
+use Rattle.writes.specs.declared.Setting.the-variants as setting
 use Rattle.rules.specs.Within.{placing}
 use Rattle.store.specs.Table.{Table}
 use borrow.Author.Needs.{needs}
@@ -49,7 +50,7 @@ module _ (c : tie.After-known-told2) where
   T = tableOf (store (S .args .labels .now) (S .args .entries .now) (S .args .words .now))
 
   -- what becomes of it, by the place that was found
-  by-place : undamagedOf (store (S .args .labels .now) (S .args .entries .now) (S .args .words .now)) ≡ true → judged T (changeOf (S .args .text .now)) ≡ changeAt T subject object (c .before .said2 .given .0 .1 .0) (c .before .said2 .given .0 .1 .1 .0) (placing T subject object)
+  by-place : undamagedOf (store (S .args .labels .now) (S .args .entries .now) (S .args .words .now)) ≡ true → judged T (changeOf (S .args .text .now)) ≡ settingAt T subject object (setting.Change (c .before .said2 .given .0 .1 .0) (c .before .said2 .given .0 .1 .1 .0)) (placing T subject object)
   by-place u =
       ap (judged T) says
       ∙ change-at T (table-sound (store (S .args .labels .now) (S .args .entries .now) (S .args .words .now)) u) subject object formed (c .before .said2 .given .0 .1 .0) (c .before .said2 .given .0 .1 .1 .0)
@@ -81,38 +82,38 @@ enum-known-said c = search needs
 enum-known-said-2 : tie.Need-enum-known-said-2
 enum-known-said-2 c = search needs
 
-sub-place-change : tie.Need-sub-place-change
-sub-place-change c =
+sub-place : tie.Need-sub-place
+sub-place c =
     let i = inside (c .before .before .before) in
     omega (arith, i .0 .starts)
 
-part-place-change-start : tie.Need-part-place-change-start
-part-place-change-start c =
+part-place-start : tie.Need-part-place-start
+part-place-start c =
     let i = inside (c .before .before .before) in
     omega (arith, i .0 .starts)
 
-part-place-change-end : tie.Need-part-place-change-end
-part-place-change-end c =
+part-place-end : tie.Need-part-place-end
+part-place-end c =
     let i = inside (c .before .before .before) in
     omega (arith, i .0 .ends)
 
-sub-place-change-2 : tie.Need-sub-place-change-2
-sub-place-change-2 c =
+sub-place-2 : tie.Need-sub-place-2
+sub-place-2 c =
     let i = inside (c .before .before .before .before) in
     omega (arith, i .1 .starts)
 
-part-place-change-start-2 : tie.Need-part-place-change-start-2
-part-place-change-start-2 c =
+part-place-start-2 : tie.Need-part-place-start-2
+part-place-start-2 c =
     let i = inside (c .before .before .before .before) in
     omega (arith, i .1 .starts)
 
-part-place-change-end-2 : tie.Need-part-place-change-end-2
-part-place-change-end-2 c =
+part-place-end-2 : tie.Need-part-place-end-2
+part-place-end-2 c =
     let i = inside (c .before .before .before .before) in
     omega (arith, i .1 .ends)
 
-place-change-requires : tie.Need-place-change-requires
-place-change-requires c κs =
+place-requires : tie.Need-place-requires
+place-requires c κs =
     let f = formed (c .before .before .before .before .before) in
     (tested (c .before .before .before .before .before .before .before .before .before), formed-short _ (f .subject), formed-short _ (f .object))
 
@@ -146,7 +147,7 @@ unfolding changeAnswer changeStore onState
 returns-3 c =
     let u = tested (c .before .before .before .before .before .before .before .before .before .before .before .before .before .before .before .before) in
     let e = by-place (c .before .before .before .before .before .before .before .before .before .before .before .before) u in
-    (rw (u, e) (c .before .before .before .before .before .before .place-change .ensures .0), rw (u, e) (c .before .before .before .before .before .before .place-change .ensures .1))
+    (rw (u, e) (c .before .before .before .before .before .before .place .ensures .0), rw (u, e) (c .before .before .before .before .before .before .place .ensures .1))
 
 pub change-spec : {M : Type 1} → statement M
 change-spec =
@@ -160,13 +161,13 @@ change-spec =
     change-line-requires
     enum-known-said
     enum-known-said-2
-    sub-place-change
-    part-place-change-start
-    part-place-change-end
-    sub-place-change-2
-    part-place-change-start-2
-    part-place-change-end-2
-    place-change-requires
+    sub-place
+    part-place-start
+    part-place-end
+    sub-place-2
+    part-place-start-2
+    part-place-end-2
+    place-requires
     same-length-4
     same-length-5
     same-length-6

@@ -4,13 +4,15 @@ use mathlib.Core.List.{List}
 use Prim.Native.Nat.{ℕ}
 use Rattle.store.specs.Table.{Table}
 use Rattle.store.specs.Layout.{store, tableOf}
-use Rattle.rules.specs.Within.{placing, judgedAt}
+use Rattle.rules.specs.Within.{placing}
 use Rattle.lines.specs.Lines.{rule, ruleOf}
 use Rattle.lines.specs.Within.{at, ruleSaid, RuleInside}
 use Rattle.lines.specs.declared.RuleLine.{RuleLine}
 use Rattle.lines.specs.declared.RuleLine.the-variants as r
 use Rattle.lines.proofs.Laws.{Taken, rule-sound}
 use Rattle.writes.specs.Writes.{judged, lineOutcome, lineStored}
+use Rattle.writes.specs.Within.{settingAt}
+use Rattle.writes.specs.declared.Setting.the-variants as x
 use borrow.Author.Needs.{needs}
 use native.Mathlib.Omega.{arith}
 use Rattle.writes.proofs.Laws.{said-rule, inside-rule, formed-short, sound-as, done-accepted, done-refused, table-sound, rule-at}
@@ -44,7 +46,7 @@ module _ (c : tie.After-known-told2) where
   formed = sound-as (rule-sound (S .args .line .now)) says .0
 
   -- what becomes of it, by the place that was found
-  by-place : judged T (ruleOf (S .args .line .now)) ≡ judgedAt T subject object modes (placing T subject object)
+  by-place : judged T (ruleOf (S .args .line .now)) ≡ settingAt T subject object (x.Rule modes) (placing T subject object)
   by-place =
       ap (judged T) says
       ∙ rule-at T (table-sound (store (S .args .labels .now) (S .args .entries .now) (S .args .words .now)) (S .pre)) subject object formed modes
@@ -61,38 +63,38 @@ enum-known-said c = search needs
 enum-known-said-2 : tie.Need-enum-known-said-2
 enum-known-said-2 c = search needs
 
-sub-place-rule : tie.Need-sub-place-rule
-sub-place-rule c =
+sub-place : tie.Need-sub-place
+sub-place c =
     let i = inside (c .before .before .before) in
     omega (arith, i .0 .starts)
 
-part-place-rule-start : tie.Need-part-place-rule-start
-part-place-rule-start c =
+part-place-start : tie.Need-part-place-start
+part-place-start c =
     let i = inside (c .before .before .before) in
     omega (arith, i .0 .starts)
 
-part-place-rule-end : tie.Need-part-place-rule-end
-part-place-rule-end c =
+part-place-end : tie.Need-part-place-end
+part-place-end c =
     let i = inside (c .before .before .before) in
     omega (arith, i .0 .ends)
 
-sub-place-rule-2 : tie.Need-sub-place-rule-2
-sub-place-rule-2 c =
+sub-place-2 : tie.Need-sub-place-2
+sub-place-2 c =
     let i = inside (c .before .before .before .before) in
     omega (arith, i .1 .starts)
 
-part-place-rule-start-2 : tie.Need-part-place-rule-start-2
-part-place-rule-start-2 c =
+part-place-start-2 : tie.Need-part-place-start-2
+part-place-start-2 c =
     let i = inside (c .before .before .before .before) in
     omega (arith, i .1 .starts)
 
-part-place-rule-end-2 : tie.Need-part-place-rule-end-2
-part-place-rule-end-2 c =
+part-place-end-2 : tie.Need-part-place-end-2
+part-place-end-2 c =
     let i = inside (c .before .before .before .before) in
     omega (arith, i .1 .ends)
 
-place-rule-requires : tie.Need-place-rule-requires
-place-rule-requires c κs =
+place-requires : tie.Need-place-requires
+place-requires c κs =
     let f = formed (c .before .before .before .before .before) in
     (c .before .before .before .before .before .before .before .before .before .before .before .before .before .pre, formed-short _ (f .subject), formed-short _ (f .object))
 
@@ -128,8 +130,8 @@ unfolding lineOutcome lineStored
 returns-3 c =
     let k = c .before .before .before .before .before .before .before .before .before .before .before .before .before .before in
     let e = by-place k in
-    let q = sym (c .before .before .before .before .before .before .before .before .place-rule .ensures .0) ∙ c .enum-told2 .given .1 in
-    (rw e (done-accepted (T k) (subject k) (object k) (modes k) (placing (T k) (subject k) (object k)) q), rw e (c .before .before .before .before .before .before .before .before .place-rule .ensures .1))
+    let q = sym (c .before .before .before .before .before .before .before .before .place .ensures .0) ∙ c .enum-told2 .given .1 in
+    (rw e (done-accepted (T k) (subject k) (object k) (x.Rule (modes k)) (placing (T k) (subject k) (object k)) q), rw e (c .before .before .before .before .before .before .before .before .place .ensures .1))
 
 same-length-4 : tie.Need-same-length-4
 same-length-4 c = search needs
@@ -145,8 +147,8 @@ unfolding lineOutcome lineStored
 returns-4 c =
     let k = c .before .before .before .before .before .before .before .before .before .before .before .before .before .before .before in
     let e = by-place k in
-    let q = sym (c .before .before .before .before .before .before .before .before .before .place-rule .ensures .0) ∙ c .before .done .given .1 in
-    (rw e (done-refused (T k) (subject k) (object k) (modes k) (placing (T k) (subject k) (object k)) q), rw e (c .before .before .before .before .before .before .before .before .before .place-rule .ensures .1))
+    let q = sym (c .before .before .before .before .before .before .before .before .before .place .ensures .0) ∙ c .before .done .given .1 in
+    (rw e (done-refused (T k) (subject k) (object k) (x.Rule (modes k)) (placing (T k) (subject k) (object k)) q), rw e (c .before .before .before .before .before .before .before .before .before .place .ensures .1))
 
 pub write-line-spec : {M : Type 1} → statement M
 write-line-spec =
@@ -156,13 +158,13 @@ write-line-spec =
     enum-told
     enum-known-said
     enum-known-said-2
-    sub-place-rule
-    part-place-rule-start
-    part-place-rule-end
-    sub-place-rule-2
-    part-place-rule-start-2
-    part-place-rule-end-2
-    place-rule-requires
+    sub-place
+    part-place-start
+    part-place-end
+    sub-place-2
+    part-place-start-2
+    part-place-end-2
+    place-requires
     enum-told-2
     enum-known-done
     returns
