@@ -1,8 +1,8 @@
 // Rule lines and change-rule writes, judged by their bytes alone: refusals 1 to 5, before any table is looked at (01, Rule text and Single
 // writes). Each field is judged where it stands in the line.
 use alphabet::Field;
+use alphabet::Word;
 use modes::Access;
-use search::Found;
 ghost use mathlib.Core.Path.{_≡_};
 ghost use Rattle.lines.specs.Lines.{ruleOf, changeOf};
 ghost use Rattle.lines.specs.Within.{ruleLineAt, ruleSaid, RuleInside, changeLineAt, changeSaid, ChangeInside};
@@ -41,24 +41,35 @@ pub fn rule_line(line: &[u8]) -> RuleLine
     if alphabet::LINE_LIMIT < line.len() {
         return RuleLine::Refused(refusals::TOO_LONG);
     }
-    let Field::Part { start: a, end: b } = alphabet::next_field(line, 0) else {
+    let classes = alphabet::classes();
+    let Word::Part {
+        start: a,
+        end: b,
+        formed: subject,
+    } = alphabet::next_word(&classes, line, 0)
+    else {
         return RuleLine::Skipped;
     };
-    let Field::Part { start: c, end: d } = alphabet::next_field(line, b) else {
+    let Word::Part {
+        start: c,
+        end: d,
+        formed: object,
+    } = alphabet::next_word(&classes, line, b)
+    else {
         return RuleLine::Refused(refusals::WRONG_FIELDS);
     };
-    let Field::Part { start: x, end: y } = alphabet::next_field(line, d) else {
+    let Field::Part { start: x, end: y } = alphabet::next_field_in(&classes, line, d) else {
         return RuleLine::Refused(refusals::WRONG_FIELDS);
     };
-    let Field::End = alphabet::next_field(line, y) else {
+    let Field::End = alphabet::next_field_in(&classes, line, y) else {
         return RuleLine::Refused(refusals::WRONG_FIELDS);
     };
-    let Found::Nothing = alphabet::label_fault(&line[a..b]) else {
+    if !subject {
         return RuleLine::Refused(refusals::BAD_LABEL);
-    };
-    let Found::Nothing = alphabet::label_fault(&line[c..d]) else {
+    }
+    if !object {
         return RuleLine::Refused(refusals::BAD_LABEL);
-    };
+    }
     let Access::Modes(m) = modes::read_modes(&line[x..y], modes::RULE_LETTERS, true) else {
         return RuleLine::Refused(refusals::BAD_ACCESS);
     };
@@ -83,27 +94,38 @@ pub fn change_line(line: &[u8]) -> ChangeLine
     if alphabet::LINE_LIMIT < line.len() {
         return ChangeLine::Refused(refusals::TOO_LONG);
     }
-    let Field::Part { start: a, end: b } = alphabet::next_field(line, 0) else {
+    let classes = alphabet::classes();
+    let Word::Part {
+        start: a,
+        end: b,
+        formed: subject,
+    } = alphabet::next_word(&classes, line, 0)
+    else {
         return ChangeLine::Refused(refusals::WRONG_FIELDS);
     };
-    let Field::Part { start: c, end: d } = alphabet::next_field(line, b) else {
+    let Word::Part {
+        start: c,
+        end: d,
+        formed: object,
+    } = alphabet::next_word(&classes, line, b)
+    else {
         return ChangeLine::Refused(refusals::WRONG_FIELDS);
     };
-    let Field::Part { start: e, end: f } = alphabet::next_field(line, d) else {
+    let Field::Part { start: e, end: f } = alphabet::next_field_in(&classes, line, d) else {
         return ChangeLine::Refused(refusals::WRONG_FIELDS);
     };
-    let Field::Part { start: g, end: h } = alphabet::next_field(line, f) else {
+    let Field::Part { start: g, end: h } = alphabet::next_field_in(&classes, line, f) else {
         return ChangeLine::Refused(refusals::WRONG_FIELDS);
     };
-    let Field::End = alphabet::next_field(line, h) else {
+    let Field::End = alphabet::next_field_in(&classes, line, h) else {
         return ChangeLine::Refused(refusals::WRONG_FIELDS);
     };
-    let Found::Nothing = alphabet::label_fault(&line[a..b]) else {
+    if !subject {
         return ChangeLine::Refused(refusals::BAD_LABEL);
-    };
-    let Found::Nothing = alphabet::label_fault(&line[c..d]) else {
+    }
+    if !object {
         return ChangeLine::Refused(refusals::BAD_LABEL);
-    };
+    }
     let Access::Modes(allow) = modes::read_modes(&line[e..f], modes::CHANGE_LETTERS, true) else {
         return ChangeLine::Refused(refusals::BAD_ACCESS);
     };
