@@ -1,6 +1,7 @@
 /* Times the library, through its static library, beside a second implementation and three forms of a kernel's lookup, in one run: see run and docs/BENCHMARKS.md.
  *
  *   bench ROUNDS MEGABYTES DIRECTORY [PROGRAM SECOND]     all operations; DIRECTORY takes the rule text for the two programs
+ *   bench count     all operations of the library, and of the one before, a few times, for callgrind: each is dumped under its name
  *   bench profile question|damage|text|fresh|blank|change LAYOUT [LONG]     one operation of the library alone, for a profiler: LAYOUT is 0 (spread), 1
  *                                                                     (one subject, lent) or 2 (one subject, grown), LONG is 0 or 1
  *
@@ -19,6 +20,20 @@
 #include <sys/wait.h>
 #include <time.h>
 #include <unistd.h>
+#if __has_include(<valgrind/callgrind.h>)
+#include <valgrind/callgrind.h>
+#endif
+
+/* ---- the library before a change, where it is linked in: the same calls with another name */
+
+#define IT_WAS(name) extern __typeof__(bq_##name) before_bq_##name __attribute__((weak))
+IT_WAS(fresh_table);
+IT_WAS(fresh_loader);
+IT_WAS(piece);
+IT_WAS(end);
+IT_WAS(change);
+IT_WAS(question);
+IT_WAS(list_rule);
 
 /* ---- the second implementation */
 
@@ -39,8 +54,21 @@ size_t second_list(const struct second *s, uint64_t k, uint8_t *out, size_t leng
 
 /* ---- common */
 
-enum { LIBRARY, KERNEL, KERNEL_TEXT, KERNEL_BYTES, SECOND, SIDES };
-static const char *const SIDE[SIDES] = {"library", "kernel", "kernel, rules by text", "kernel, byte compare", "second"};
+enum { LIBRARY, BEFORE, KERNEL, KERNEL_TEXT, KERNEL_BYTES, SECOND, SIDES };
+static const char *const SIDE[SIDES] = {"library", "library before", "kernel", "kernel, rules by text", "kernel, byte compare", "second"};
+static const char *const RATIO[SIDES] = {"", "before", "kernel", "by text", "byte compare", "second"};
+
+static bool is_there(int side)
+{
+    return side != BEFORE || before_bq_question;
+}
+
+static bool is_library(int side)
+{
+    return side == LIBRARY || side == BEFORE;
+}
+/* A call of the library, or of the one before. */
+#define OF(side, name) ((side) == BEFORE ? before_bq_##name : bq_##name)
 
 enum { QUESTIONS = 4096, PIECE = 65536, MOST_ROUNDS = 64 };
 
@@ -68,28 +96,45 @@ static double now(void)
 
 /* ---- labels and tables */
 
-/* 64 labels: the five that are always there, and 59 of 6 to 10 bytes, or 59 of 204 bytes that agree in their first 190. */
-static char label[2][64][256];
+/* 64 labels: the five that are always there, and 59 of one kind. Those of a kind have `least` to `most` bytes and agree in their first `head` and
+ * their last `tail`; before the tail stand two bytes that no other of the kind has there. SIZES kinds are for every operation; those after them
+ * are hard to tell apart and for questions alone. */
+enum { SHORT, LONG, SIZES, END_FOUR = SIZES, MIDDLE, END_EIGHT, BEGIN, KINDS };
+static const struct {
+    const char *name;
+    int least, most, head, tail;
+} KIND[KINDS] = {
+    {"short", 6, 10, 0, 0},
+    {"long", 204, 204, 190, 0},
+    {"labels that all end in the same four bytes", 6, 10, 0, 4},
+    {"labels that differ only in the middle", 10, 10, 4, 4},
+    {"labels of 18 bytes that end in the same eight", 18, 18, 0, 8},
+    {"labels that all begin alike", 12, 12, 8, 0},
+};
+static char label[KINDS][64][256];
 static const char *const MODES[] = {"r", "rx", "rw", "rwxa", "rxa", "w", "rwx", "a"};
 
 static void make_labels(void)
 {
     static const char *const first[5] = {"_", "^", "*", "?", "@"};
     static const char letters[] = "abcdefghijklmnopqrstuvwxyzABCDEFGHIJKLMNOPQRSTUVWXYZ0123456789_.";
-    for (int kind = 0; kind < 2; kind++)
+    for (int kind = 0; kind < KINDS; kind++)
         for (int i = 0; i < 64; i++) {
             char *l = label[kind][i];
             if (i < 5) {
                 strcpy(l, first[i]);
                 continue;
             }
-            int same = kind ? 190 : 0, n = kind ? 204 : 6 + (int)pick(5);
-            for (int j = 0; j < same; j++)
+            int least = KIND[kind].least, most = KIND[kind].most, head = KIND[kind].head;
+            int n = least < most ? least + (int)pick((uint32_t)(most - least + 1)) : least, tail = n - KIND[kind].tail;
+            for (int j = 0; j < head; j++)
                 l[j] = "ClimateProbe_StoreNorth_"[j % 24];
-            for (int j = same; j < n - 2; j++)
+            for (int j = head; j < tail - 2; j++)
                 l[j] = letters[pick(64)];
-            l[n - 2] = (char)('A' + i / 8);
-            l[n - 1] = (char)('a' + i % 8);
+            l[tail - 2] = (char)('A' + i / 8);
+            l[tail - 1] = (char)('a' + i % 8);
+            for (int j = tail; j < n; j++)
+                l[j] = "_StoreNorth"[j - tail];
             l[n] = 0;
         }
 }
@@ -155,14 +200,20 @@ struct lent {
 };
 #define TABLES(t) (t)->labels, BQ_LABELS, (t)->entries, BQ_ENTRIES, (t)->words, BQ_WORDS
 
-static struct lent lent[LAYOUTS][2];
-static struct k_world *world[LAYOUTS][2], *world_bytes[LAYOUTS][2];
-static struct second *second[LAYOUTS][2];
+/* The library and the one before are lent the same tables, at the same addresses. The kinds after SIZES have the spread rules alone. */
+static struct lent lent[LAYOUTS][KINDS];
+static struct k_world *world[LAYOUTS][KINDS], *world_bytes[LAYOUTS][KINDS];
+static struct second *second[LAYOUTS][KINDS];
+
+static bool is_laid_out(int l, int kind)
+{
+    return kind < SIZES || l == SPREAD;
+}
 
 /* Those of the spread rules once more, for rule text, which sets their modes. */
-static struct lent lent_text[2];
-static struct k_world *world_text[2];
-static struct second *second_text[2];
+static struct lent lent_text[SIZES];
+static struct k_world *world_text[SIZES];
+static struct second *second_text[SIZES];
 
 /* The same tables for all: the 64 labels in their order, then the rules. They are put down one by one and not by rule text, which only the table
  * with a pair twice needs. */
@@ -209,13 +260,15 @@ static void make_lent(struct lent *t, int l, int kind)
 static void make_tables(void)
 {
     for (int l = 0; l < LAYOUTS; l++)
-        for (int kind = 0; kind < 2; kind++) {
+        for (int kind = 0; kind < KINDS; kind++) {
+            if (!is_laid_out(l, kind))
+                continue;
             make_lent(&lent[l][kind], l, kind);
             world[l][kind] = make_world(k_new(), l, kind, k_enter, k_append);
             world_bytes[l][kind] = make_world(kb_new(), l, kind, kb_enter, kb_append);
             second[l][kind] = make_second(l, kind);
         }
-    for (int kind = 0; kind < 2; kind++) {
+    for (int kind = 0; kind < SIZES; kind++) {
         make_lent(&lent_text[kind], SPREAD, kind);
         world_text[kind] = make_world(k_new(), SPREAD, kind, k_enter, k_append);
         second_text[kind] = make_second(SPREAD, kind);
@@ -234,20 +287,26 @@ enum { BY_6, BY_7, BY_7_UNKNOWN, BY_2, BY_3, BY_4, BY_5, EMPTY, ASKED };
 static const char *const BY[ASKED] = {"rule 6",           "rule 7", "rule 7, object unknown", "rule 2", "rule 3", "rule 4", "rule 5",
                                       "empty subject: the damage check alone"};
 
-static struct question asked[LAYOUTS][2][ASKED][QUESTIONS];
+static struct question asked[LAYOUTS][KINDS][ASKED][QUESTIONS];
+
+/* Labels that are hard to tell apart are sought by rules 6 and 7. */
+static bool is_asked(int l, int kind, int by)
+{
+    return is_laid_out(l, kind) && (kind < SIZES || by <= BY_7_UNKNOWN);
+}
 
 static void make_questions(void)
 {
-    static char unknown[2][16][256];
-    for (int kind = 0; kind < 2; kind++)
+    static char unknown[KINDS][16][256];
+    for (int kind = 0; kind < KINDS; kind++)
         for (int i = 0; i < 16; i++) {
             strcpy(unknown[kind][i], label[kind][5 + i]);
-            unknown[kind][i][strlen(unknown[kind][i]) - 1] = '+';
+            unknown[kind][i][strlen(unknown[kind][i]) - (size_t)KIND[kind].tail - 1] = '+';
         }
     for (int l = 0; l < LAYOUTS; l++)
-        for (int kind = 0; kind < 2; kind++)
+        for (int kind = 0; kind < KINDS; kind++)
             for (int by = 0; by < ASKED; by++)
-                for (int i = 0; i < QUESTIONS; i++) {
+                for (int i = 0; i < QUESTIONS && is_asked(l, kind, by); i++) {
                     struct question *q = &asked[l][kind][by][i];
                     static const char *const reading[] = {"r", "x", "rx", "xr", "R"};
                     const char *request = reading[pick(5)], *object;
@@ -321,15 +380,20 @@ static unsigned ask(int side, int l, int kind, const struct question *q, size_t 
 {
     unsigned sum = 0;
     switch (side) {
-    case LIBRARY: {
-        struct lent *t = &lent[l][kind];
-        for (size_t i = 0; i < n; i++) {
-            bq_decision d = bq_question(TABLES(t), q[i].subject, q[i].subject_len, q[i].object, q[i].object_len, q[i].request,
-                                        q[i].request_len, false);
-            sum += d.kind * 16u + d.number;
-        }
-        break;
+#define LIBRARY_SIDE(CALL)                                                                                                                   \
+    {                                                                                                                                        \
+        struct lent *t = &lent[l][kind];                                                                                                     \
+        for (size_t i = 0; i < n; i++) {                                                                                                     \
+            bq_decision d = CALL(TABLES(t), q[i].subject, q[i].subject_len, q[i].object, q[i].object_len, q[i].request, q[i].request_len,    \
+                                 false);                                                                                                     \
+            sum += d.kind * 16u + d.number;                                                                                                  \
+        }                                                                                                                                    \
+        break;                                                                                                                               \
     }
+    case LIBRARY:
+        LIBRARY_SIDE(bq_question)
+    case BEFORE:
+        LIBRARY_SIDE(before_bq_question)
 #define KERNEL_SIDE(CALL, WORLD)                                                                                                             \
     {                                                                                                                                        \
         struct k_world *w = WORLD[l][kind];                                                                                                  \
@@ -363,11 +427,13 @@ static unsigned ask(int side, int l, int kind, const struct question *q, size_t 
 static void check_questions(void)
 {
     for (int l = 0; l < LAYOUTS; l++)
-        for (int kind = 0; kind < 2; kind++)
+        for (int kind = 0; kind < KINDS; kind++)
             for (int by = 0; by < ASKED; by++)
-                for (int i = 0; i < QUESTIONS; i++)
+                for (int i = 0; i < QUESTIONS && is_asked(l, kind, by); i++)
                     for (int side = 0; side < SIDES; side++) {
                         struct question *q = &asked[l][kind][by][i];
+                        if (!is_there(side))
+                            continue;
                         unsigned got = ask(side, l, kind, q, 1);
                         if (got != q->kind * 16u + q->number) {
                             fprintf(stderr, "bench: %s answers %u/%u, not %u/%u: %s, %s, subject %.*s object %.*s\n", SIDE[side], got / 16,
@@ -381,9 +447,9 @@ static void check_questions(void)
 /* ---- rule text */
 
 enum { KNOWN, FRESH, REFUSED, BLANK, TEXTS };
-static char *text[TEXTS][2];
-static size_t text_len[TEXTS][2];
-static unsigned text_lines[TEXTS][2];
+static char *text[TEXTS][SIZES];
+static size_t text_len[TEXTS][SIZES];
+static unsigned text_lines[TEXTS][SIZES];
 
 static size_t put_rule(char *out, int kind, const struct rule *r, const char *modes)
 {
@@ -460,12 +526,12 @@ static unsigned feed(int side, int which, int kind, size_t total)
     uint32_t report[6];
     static struct lent fresh;
     if (which != FRESH) {
-        if (side == LIBRARY) {
+        if (is_library(side)) {
             struct lent *own = &lent_text[kind];
-            bq_loader loader = bq_fresh_loader();
+            bq_loader loader = OF(side, fresh_loader)();
             for (size_t at = 0; at < n; at += PIECE)
-                loader = bq_piece(TABLES(own), own->line, BQ_LINE, loader, (const uint8_t *)t + at, n - at < PIECE ? n - at : PIECE).loader;
-            bq_finished f = bq_end(TABLES(own), own->line, BQ_LINE, loader);
+                loader = OF(side, piece)(TABLES(own), own->line, BQ_LINE, loader, (const uint8_t *)t + at, n - at < PIECE ? n - at : PIECE).loader;
+            bq_finished f = OF(side, end)(TABLES(own), own->line, BQ_LINE, loader);
             return f.refused ? 0 : which == KNOWN ? f.report.accepted : which == BLANK ? f.report.skipped : f.report.refused;
         }
         if (side == SECOND) {
@@ -478,10 +544,10 @@ static unsigned feed(int side, int which, int kind, size_t total)
         return (unsigned)k_load(world_text[kind], t, n);
     }
     for (; done < total; done += n) {
-        if (side == LIBRARY) {
-            bq_fresh_table(TABLES(&fresh));
-            bq_taken taken = bq_piece(TABLES(&fresh), fresh.line, BQ_LINE, bq_fresh_loader(), (const uint8_t *)t, n);
-            counted += bq_end(TABLES(&fresh), fresh.line, BQ_LINE, taken.loader).report.accepted;
+        if (is_library(side)) {
+            OF(side, fresh_table)(TABLES(&fresh));
+            bq_taken taken = OF(side, piece)(TABLES(&fresh), fresh.line, BQ_LINE, OF(side, fresh_loader)(), (const uint8_t *)t, n);
+            counted += OF(side, end)(TABLES(&fresh), fresh.line, BQ_LINE, taken.loader).report.accepted;
         } else if (side == SECOND) {
             struct second *s = second_new();
             second_piece(s, (const uint8_t *)t, n);
@@ -499,12 +565,12 @@ static unsigned feed(int side, int which, int kind, size_t total)
 
 /* ---- change and listing */
 
-static char change[2][QUESTIONS][600];
-static size_t change_len[2][QUESTIONS];
+static char change[SIZES][QUESTIONS][600];
+static size_t change_len[SIZES][QUESTIONS];
 
 static void make_changes(void)
 {
-    for (int kind = 0; kind < 2; kind++)
+    for (int kind = 0; kind < SIZES; kind++)
         for (int i = 0; i < QUESTIONS; i++) {
             const struct rule *r = &rules[SPREAD][pick(256)];
             /* In the end r and x are in every rule and w in none, as before. */
@@ -519,8 +585,8 @@ static unsigned do_changes(int side, int kind)
     for (int i = 0; i < QUESTIONS; i++) {
         const uint8_t *t = (const uint8_t *)change[kind][i];
         size_t n = change_len[kind][i];
-        if (side == LIBRARY)
-            done += !bq_change(TABLES(&lent[SPREAD][kind]), t, n).refused;
+        if (is_library(side))
+            done += !OF(side, change)(TABLES(&lent[SPREAD][kind]), t, n).refused;
         else if (side == SECOND)
             done += second_change(second[SPREAD][kind], t, n) == 0;
         else
@@ -533,9 +599,9 @@ static size_t do_listing(int side, int kind)
 {
     static uint8_t out[256 * 600];
     size_t n = 0;
-    if (side == LIBRARY)
+    if (is_library(side))
         for (size_t k = 0; k < 256; k++)
-            n += bq_list_rule(TABLES(&lent[SPREAD][kind]), k, out + n, sizeof out - n).length;
+            n += OF(side, list_rule)(TABLES(&lent[SPREAD][kind]), k, out + n, sizeof out - n).length;
     else if (side == SECOND)
         for (size_t k = 0; k < 256; k++)
             n += second_list(second[SPREAD][kind], k, out + n, sizeof out - n);
@@ -609,35 +675,40 @@ static void add(int what, int a, int kind, int by, double scale, const char *nam
     o->scale = scale;
     snprintf(o->name, sizeof o->name, "%s", name);
     for (int side = 0; side < SIDES; side++)
-        o->runs_on[side] = sides >> side & 1;
+        o->runs_on[side] = (sides >> side & 1) && is_there(side);
 }
 
 static void add_all(void)
 {
-    static const char *const size[2] = {"short", "long"};
     static const char *const texts[TEXTS] = {"rule text, known pairs", "rule text, fresh tables", "rule text, refused lines", "rule text, blank lines"};
-    const unsigned all = (1u << SIDES) - 1, three = 1u << LIBRARY | 1u << KERNEL | 1u << SECOND, two = 1u << LIBRARY | 1u << SECOND;
+    const unsigned all = (1u << SIDES) - 1, alone = 1u << LIBRARY | 1u << BEFORE, two = alone | 1u << SECOND, three = two | 1u << KERNEL;
     char name[120];
     for (int l = 0; l < LAYOUTS; l++)
-        for (int kind = 0; kind < 2; kind++)
+        for (int kind = 0; kind < SIZES; kind++)
             for (int by = 0; by < ASKED; by++) {
-                snprintf(name, sizeof name, "question, %s; %s; %s", LAYOUT[l], size[kind], BY[by]);
-                add(ASK, l, kind, by, QUESTIONS, name, by == EMPTY ? 1u << LIBRARY : all);
+                snprintf(name, sizeof name, "question, %s; %s; %s", LAYOUT[l], KIND[kind].name, BY[by]);
+                add(ASK, l, kind, by, QUESTIONS, name, by == EMPTY ? alone : all);
             }
-    for (int kind = 0; kind < 2; kind++) {
-        snprintf(name, sizeof name, "change of a known pair; %s", size[kind]);
+    for (int kind = SIZES; kind < KINDS; kind++)
+        for (int by = 0; by < ASKED; by++)
+            if (is_asked(SPREAD, kind, by)) {
+                snprintf(name, sizeof name, "question, %s; %s", KIND[kind].name, BY[by]);
+                add(ASK, SPREAD, kind, by, QUESTIONS, name, all & ~(1u << SECOND));
+            }
+    for (int kind = 0; kind < SIZES; kind++) {
+        snprintf(name, sizeof name, "change of a known pair; %s", KIND[kind].name);
         add(CHANGE, 0, kind, 0, QUESTIONS, name, three);
     }
-    for (int kind = 0; kind < 2; kind++) {
-        snprintf(name, sizeof name, "listing, each of 256 rules; %s", size[kind]);
+    for (int kind = 0; kind < SIZES; kind++) {
+        snprintf(name, sizeof name, "listing, each of 256 rules; %s", KIND[kind].name);
         add(LIST, 0, kind, 0, 256, name, three);
     }
     for (int t = 0; t < TEXTS; t++)
-        for (int kind = 0; kind < (t == BLANK ? 1 : 2); kind++) {
+        for (int kind = 0; kind < (t == BLANK ? 1 : SIZES); kind++) {
             double bytes = (double)text_len[t][kind];
             if (t == FRESH)
                 bytes *= (double)((total + text_len[t][kind] - 1) / text_len[t][kind]);
-            snprintf(name, sizeof name, t == BLANK ? "%s" : "%s; %s", texts[t], size[kind]);
+            snprintf(name, sizeof name, t == BLANK ? "%s" : "%s; %s", texts[t], KIND[kind].name);
             add(FEED, t, kind, 0, bytes, name, t == KNOWN || t == FRESH ? three : two);
         }
 }
@@ -670,8 +741,21 @@ static void print_all(int rounds)
 {
     for (int text_part = 0; text_part < 2; text_part++) {
         printf("\n%s\n\n", text_part ? "MB per second (10^6 bytes): best (median)" : "ns per call: best (median)");
-        printf("| operation | library | kernel | kernel, rules by text | kernel, byte compare | second | library / kernel | / by text | / byte compare | / second |\n");
-        printf("|---|--:|--:|--:|--:|--:|--:|--:|--:|--:|\n");
+        printf("| operation |");
+        for (int side = 0; side < SIDES; side++)
+            if (is_there(side))
+                printf(" %s |", SIDE[side]);
+        const char *word = "library ";
+        for (int side = 1; side < SIDES; side++)
+            if (is_there(side)) {
+                printf(" %s/ %s |", word, RATIO[side]);
+                word = "";
+            }
+        printf("\n|---|");
+        for (int side = 0; side < SIDES; side++)
+            if (is_there(side))
+                printf(side ? "--:|--:|" : "--:|");
+        printf("\n");
         for (int i = 0; i < n_ops; i++) {
             struct operation *o = &ops[i];
             if ((o->what == FEED) != text_part)
@@ -680,7 +764,8 @@ static void print_all(int rounds)
             printf("| %s |", o->name);
             for (int side = 0; side < SIDES; side++) {
                 if (!o->runs_on[side]) {
-                    printf(" |");
+                    if (is_there(side))
+                        printf(" |");
                     continue;
                 }
                 qsort(o->time[side], (size_t)rounds, sizeof(double), by_size);
@@ -694,7 +779,7 @@ static void print_all(int rounds)
             for (int side = 1; side < SIDES; side++)
                 if (o->runs_on[side])
                     printf(" %.2f |", best[LIBRARY] / best[side]);
-                else
+                else if (is_there(side))
                     printf(" |");
             printf("\n");
         }
@@ -738,7 +823,6 @@ static double run_program(char *const argv[], const char *file, char *out, size_
 
 static void programs(int rounds, const char *directory, char *ours, char *theirs)
 {
-    static const char *const size[2] = {"short", "long"};
     char file[4096];
     char *argv[2][3] = {{ours, NULL, NULL}, {theirs, "program", NULL}};
     if (access(ours, X_OK) || access(theirs, X_OK)) {
@@ -747,10 +831,10 @@ static void programs(int rounds, const char *directory, char *ours, char *theirs
     }
     printf("\nThe whole programs, rule text on standard input. MB per second of processor time (of time on the clock), best\n\n");
     printf("| rule text | program | second program | program / second, processor time |\n|---|--:|--:|--:|\n");
-    for (int kind = 0; kind < 2; kind++) {
+    for (int kind = 0; kind < SIZES; kind++) {
         double best[2] = {1e30, 1e30}, best_wall[2] = {1e30, 1e30};
         char out[2][256];
-        snprintf(file, sizeof file, "%s/text.%s", directory, size[kind]);
+        snprintf(file, sizeof file, "%s/text.%s", directory, KIND[kind].name);
         FILE *f = fopen(file, "w");
         if (!f || fwrite(text[KNOWN][kind], 1, text_len[KNOWN][kind], f) != text_len[KNOWN][kind] || fclose(f))
             fail("cannot write the rule text");
@@ -765,7 +849,7 @@ static void programs(int rounds, const char *directory, char *ours, char *theirs
         if (strcmp(out[0], out[1]))
             fail("the two programs write different reports");
         double bytes = (double)text_len[KNOWN][kind];
-        printf("| pairs of one table; %s | %.0f (%.0f) | %.0f (%.0f) | %.2f |\n", size[kind], bytes / best[0] * 1e3, bytes / best_wall[0] * 1e3,
+        printf("| pairs of one table; %s | %.0f (%.0f) | %.0f (%.0f) | %.2f |\n", KIND[kind].name, bytes / best[0] * 1e3, bytes / best_wall[0] * 1e3,
                bytes / best[1] * 1e3, bytes / best_wall[1] * 1e3, best[0] / best[1]);
         unlink(file);
     }
@@ -790,21 +874,50 @@ static void profile(const char *what, int l, int kind)
         feed(LIBRARY, KNOWN, kind, total);
 }
 
+/* ---- instructions */
+
+/* Callgrind is told to count inside the library's calls alone. What it counted for one operation of one side is dumped as `side|unit|scale|name`. */
+static void count_instructions(void)
+{
+#ifdef CALLGRIND_DUMP_STATS_AT
+    /* Once on every side, since changes leave other modes than there were, and what is listed has to be the same for all. */
+    for (int i = 0; i < n_ops; i++)
+        for (int side = 0; side < SIDES; side++)
+            if (ops[i].runs_on[side])
+                run_once(&ops[i], side, ops[i].what == LIST ? (unsigned)do_listing(side, ops[i].kind) : expected(&ops[i]));
+    CALLGRIND_START_INSTRUMENTATION;
+    for (int i = 0; i < n_ops; i++)
+        for (int side = 0; side <= BEFORE; side++) {
+            const struct operation *o = &ops[i];
+            char name[200];
+            if (!o->runs_on[side])
+                continue;
+            snprintf(name, sizeof name, "%s|%s|%.0f|%s", SIDE[side], o->what == FEED ? "byte" : "call", o->scale, o->name);
+            unsigned want = expected(o);
+            CALLGRIND_ZERO_STATS;
+            run_once(o, side, want);
+            CALLGRIND_DUMP_STATS_AT(name);
+        }
+#else
+    fail("built without valgrind's header");
+#endif
+}
+
 int main(int argc, char **argv)
 {
-    bool profiling = argc > 3 && !strcmp(argv[1], "profile");
+    bool profiling = argc > 3 && !strcmp(argv[1], "profile"), counting = argc == 2 && !strcmp(argv[1], "count");
     int rounds = argc > 2 && !profiling ? atoi(argv[1]) : 1;
     size_t megabytes = profiling ? 4 : argc > 2 ? (size_t)atoi(argv[2]) : 1;
-    if (argc < 4 || rounds < 1 || rounds > MOST_ROUNDS)
+    if ((argc < 4 && !counting) || rounds < 1 || rounds > MOST_ROUNDS)
         fail("usage: bench ROUNDS MEGABYTES DIRECTORY [PROGRAM SECOND]");
-    total = megabytes * 1000000;
+    total = counting ? 200000 : megabytes * 1000000;
     make_labels();
     make_rules();
     make_tables();
     make_questions();
     make_changes();
     for (int which = 0; which < TEXTS; which++)
-        for (int kind = 0; kind < (which == BLANK ? 1 : 2); kind++)
+        for (int kind = 0; kind < (which == BLANK ? 1 : SIZES); kind++)
             make_text(which, kind, which == FRESH ? 1 << 20 : total);
     if (profiling) {
         profile(argv[2], atoi(argv[3]), argc > 4 ? atoi(argv[4]) : 0);
@@ -812,6 +925,10 @@ int main(int argc, char **argv)
     }
     check_questions();
     add_all();
+    if (counting) {
+        count_instructions();
+        return 0;
+    }
     for (int round = 0; round < rounds; round++)
         for (int i = 0; i < n_ops; i++)
             for (int side = 0; side < SIDES; side++)
