@@ -4,7 +4,7 @@ the second implementation the outputs that go with them (NAME.out, NAME.answers)
 
   tests/make_corpus.py
 
-The order is that of 01, the scope paper; then come the old fixed records of 02, request One. What the paper says of a call stands before the call as a
+The order is that of 01, the scope paper; then come the old fixed records of 02, request One, and how labels and pairs are found, request Two. What the paper says of a call stands before the call as a
 comment line that tests/corpus_check holds the answers to:
 
   # expect: ANSWER              the next call answers exactly this
@@ -2976,6 +2976,361 @@ def records():
 
 
 # ---------------------------------------------------------------------------------------------------------------------------------------------
+# How labels and pairs are found: 02, request Two
+# ---------------------------------------------------------------------------------------------------------------------------------------------
+
+def modes_of(k):
+    """Modes for rule k: 30 different ones in a row, each with one of r w x a at least."""
+    return bytes(c for j, c in enumerate(b"rwxa") if (k % 15 + 1) >> j & 1) + b"b" * (k // 15 % 2)
+
+
+def bits_of(modes):
+    return sum(32 >> b"rwxatb".index(c) for c in modes)
+
+
+def by_rule(modes, request, capable=0):
+    """What rules 6 and 7 say, and override under an empty list. No rule: no modes."""
+    if set(request) <= set(modes):
+        return "granted 6 b" if b"b" in modes else "granted 6"
+    return "override 7" if capable else "denied 7"
+
+
+def ask_modes(s, subject, object_, modes):
+    """The pair's modes, letter by letter, and its b."""
+    for letter in (b"r", b"w", b"x", b"a"):
+        s.ask(subject, object_, letter, by_rule(modes, letter))
+
+
+def lend(s, labels, rules, count=None, overrides=b""):
+    """Lends a table that may not have been grown: `rules` are subject number, object number, modes; of the labels `count` are counted."""
+    s.fresh()
+    for k, label in enumerate(labels):
+        if k >= 5 or label != FIVE[k]:
+            s.poke("labels", 256 * k, place(label))
+    s.poke("words", 0, len(labels) if count is None else count)
+    for at, row in ((0, bytes(r[0] for r in rules)), (256, bytes(r[1] for r in rules)), (512, bytes(bits_of(r[2]) for r in rules)), (832, overrides)):
+        if row:
+            s.poke("entries", at, row)
+    s.poke("words", 1, len(rules))
+    s.poke("words", 3, len(overrides))
+
+
+def searches_same():
+    s = Script("searches_same", "02, Two: rule 5, both labels known, one, none. It goes by the bytes of the labels, whatever is stored.", True)
+    long = b"L" * 250
+    known = [b"Door", b"Gate", b"d", b"Doo", b"Door1", b"ADoor", long + b"1234", long + b"12345", b"?", b"@"]
+    unknown = [b"door", b"Dook", b"Eoor", b"e", b"Do", b"Door2", b"Door11", b"BDoor", long + b"1235", long + b"1", b"!"]
+    for rules, say in (([], "no rules"), ([(0, 0, b"rwxatb")], "a rule of number 0 with itself"),
+                       ([(k, k, b"rwxatb") for k in range(13)], "rules of every label with itself, lent: rule 5 comes first"),
+                       ([(5, 6, b"r"), (0, 5, b"rwxa"), (5, 0, b"rwxa")], "rules of number 0, and of Door for Gate")):
+        for override in (b"", b"\x00", b"\x05"):
+            s.say(say + ", " + {b"": "no override list", b"\x00": "_ on the override list", b"\x05": "Door on the override list"}[override])
+            lend(s, FIVE + known[:8], rules, None, override)
+            for subject in known + unknown:
+                for object_ in known + unknown:
+                    alike = subject[:2] == object_[:2] or subject[1:] == object_[1:] or subject == object_
+                    if not alike and (subject, object_) not in ((b"Door", b"Gate"), (b"Door", b"e"), (b"e", b"Door"), (b"e", b"!")):
+                        continue
+                    stored = (subject, object_) == (b"Door", b"Gate") and (5, 6, b"r") in rules
+                    for request, capable in ((b"r", 0), (b"rwxa", 0), (b"w", 1)):
+                        if subject == object_:
+                            answer = "granted 5"
+                        elif stored and request == b"r":
+                            answer = "granted 6"
+                        else:
+                            counts = capable and (not override or override == b"\x05" and subject == b"Door")
+                            answer = "override 7" if counts else "denied 7"
+                        s.ask(subject, object_, request, answer, capable)
+            s.say("what is equal and has a rule of its own")
+            for label, answers in ((b"_", ("granted 3", "granted 5")), (b"^", ("granted 2", "granted 5")), (b"*", ("denied 1", "denied 1"))):
+                for request, answer in zip((b"r", b"w"), answers):
+                    s.ask(label, label, request, answer)
+    s.store()
+
+    s = Script("searches_same_twice", "01, 02 Two: a label stored twice means its first number. Asked by one spelling it is the same label; by another it is another.", True)
+    for one, other in ((5, 6), (5, 9), (6, 5), (8, 63), (0, 5), (3, 4)):
+        labels = FIVE + [b"L%02d" % k for k in range(5, 64)]
+        labels[one] = labels[other] = b"Twice"
+        first, second, third = min(one, other), max(one, other), 20
+        s.say("Twice stands at %d and at %d; rules of both numbers, with each other and with L20" % (first, second))
+        lend(s, labels, [(second, third, b"rwxa"), (first, third, b"r"), (third, second, b"rwxa"), (third, first, b"w"), (first, second, b"a"), (second, first, b"a")])
+        ask_modes(s, b"Twice", b"L20", b"r")
+        ask_modes(s, b"L20", b"Twice", b"w")
+        for request in (b"r", b"w", b"a", b"rwxa"):
+            s.ask(b"Twice", b"Twice", request, "granted 5")
+            s.ask(b"Twice", b"Twice", request, "granted 5", 1)
+            for near in (b"twice", b"Twicf", b"Twic", b"Twice1", b"1Twice"):
+                s.ask(b"Twice", near, request, "denied 7")
+                s.ask(near, b"Twice", request, "denied 7")
+                s.ask(near, near, request, "granted 5")
+                s.ask(near, b"L20", request, "denied 7")
+        s.say("The override list holds its second number: it does not hold the label. Then its first.")
+        s.poke("words", 3, 1)
+        s.poke("entries", 832, bytes([second]))
+        s.ask(b"Twice", b"L20", b"w", "denied 7", 1)
+        s.ask(b"twice", b"L20", b"w", "denied 7", 1)
+        s.poke("entries", 832, bytes([first]))
+        s.ask(b"Twice", b"L20", b"w", "override 7", 1)
+        s.ask(b"twice", b"L20", b"w", "denied 7", 1)
+        s.say("Writes go to the first number too: the rule of first and L20 stands at 1, that of L20 and first at 3.")
+        s.change(b"Twice L20 x r")
+        s.list(1, b"Twice L20 x\n")
+        s.list(0, b"Twice L20 rwxa\n", b"\xee" * 24)
+        s.line(b"L20 Twice rb", None)
+        s.list(3, b"L20 Twice rb\n", b"\xee" * 24)
+        s.list(2, b"L20 Twice rwxa\n", b"\xee" * 24)
+        s.line(b"Twice Twice r", 5)
+        s.line(b"Twice L21 r", None)
+        s.list(6, b"Twice L21 r\n")
+        s.poke("labels", 256 * first, place(b"Once"))
+        s.ask(b"Twice", b"L20", b"rwxa", "granted 6")
+        s.ask(b"Twice", b"L21", b"r", "denied 7")
+        s.ask(b"Once", b"L21", b"r", "granted 6")
+        s.ask(b"Once", b"Twice", b"a", "granted 6")
+    s.store()
+
+
+def searches_unknown():
+    s = Script("searches_unknown", "02, Two: the rule search is not begun where either label is unknown. Rules of number 0, and of every number, are no rules of theirs.", True)
+    every = [(a, b, b"rwxatb") for a in range(7) for b in range(7)]
+    for say, rules in (("rules of _ with all", [(0, k, b"rwxatb") for k in range(7)] + [(k, 0, b"rwxatb") for k in range(7)]), ("a rule of _ with itself alone", [(0, 0, b"rwxatb")]),
+                       ("rules of all with all", every), ("the last label with itself", [(6, 6, b"rwxatb")]), ("256 rules of _", [(0, k % 7, b"rwxatb") for k in range(256)])):
+        for override in (b"", b"\x00", b"\x00\x01\x02\x03\x04\x05\x06"):
+            s.say(say + "; %d labels on the override list" % len(override))
+            lend(s, FIVE + [b"Known", b"Other"], rules, None, override)
+            for subject, object_ in ((b"New", b"Known"), (b"New", b"Other"), (b"Known", b"New"), (b"Other", b"New"), (b"New", b"New2"), (b"N", b"M"), (b"New", b"^"), (b"New", b"?"), (b"?", b"New"), (b"_", b"New")):
+                for request in (b"r", b"w", b"rwxa"):
+                    s.ask(subject, object_, request, "denied 7")
+                    listed = subject in (FIVE + [b"Known", b"Other"])[:len(override)]
+                    s.ask(subject, object_, request, "override 7" if not override or listed else "denied 7", 1)
+            for object_, request, answer in ((b"_", b"r", "granted 3"), (b"_", b"w", "denied 7"), (b"*", b"w", "granted 4"), (b"New", b"w", "granted 5")):
+                s.ask(b"New", object_, request, answer)
+            s.ask(b"^", b"New", b"rx", "granted 2")
+            s.ask(b"^", b"New", b"w", "denied 7")
+            s.ask(b"*", b"New", b"r", "denied 1")
+            s.ask(b"*", b"New", b"r", "override 1" if len(override) != 1 else "denied 1", 1)
+            s.ask(b"Known", b"Other", b"r", "granted 6 b" if (5, 6, b"rwxatb") in rules else "denied 7")
+    s.say("No labels at all: every label is unknown, and none is on a list.")
+    lend(s, [], [], 0)
+    for subject, object_ in ((b"A", b"B"), (b"_", b"A"), (b"?", b"@")):
+        s.ask(subject, object_, b"r", "denied 7")
+        s.ask(subject, object_, b"r", "override 7", 1)
+        s.ask(subject, subject, b"w", "granted 5")
+    s.say("* as subject, with rules of its number and of others")
+    for override, word in ((b"", "override 1"), (b"\x02", "override 1"), (b"\x00\x02", "override 1"), (b"\x05\x06\x00\x01\x03\x04\x05\x02", "override 1"), (b"\x00", "denied 1"), (b"\x05\x06", "denied 1")):
+        lend(s, FIVE + [b"Known", b"Other"], every, None, override)
+        for object_ in (b"_", b"^", b"*", b"Known", b"New"):
+            for request in (b"r", b"w"):
+                s.ask(b"*", object_, request, "denied 1")
+                s.ask(b"*", object_, request, word, 1)
+    s.say("* at number 5 alone, and at 5 and 6: it goes by that number, and by the first")
+    for labels in ([b"_", b"^", b"X", b"?", b"@", b"*", b"Other"], [b"_", b"^", b"X", b"?", b"@", b"*", b"*"]):
+        for override, word in ((b"\x02", "denied 1"), (b"\x05", "override 1"), (b"\x06", "denied 1"), (b"\x06\x05", "override 1")):
+            lend(s, labels, every, None, override)
+            for object_ in (b"_", b"*", b"X", b"New"):
+                s.ask(b"*", object_, b"r", "denied 1")
+                s.ask(b"*", object_, b"r", word, 1)
+    s.store()
+
+
+def searches_pairs():
+    s = Script("searches_pairs", "02, Two: the rule of a pair at each place where a search in blocks might go wrong, once and twice. The first counts.", True)
+    labels = FIVE + [b"L%02d" % k for k in range(5, 64)]
+
+    def others(count):
+        """Other pairs: of the subject, of the object, and of neither."""
+        return [((30, k % 29, b"rwxa"), (k % 29, 31, b"rwxa"), (31, 30, b"rwxa"), (k % 29, k % 28, b"rwxa"))[k % 4] for k in range(count)]
+    for count in (0, 1, 31, 32, 33, 255, 256):
+        places = sorted({p for p in (0, 1, 30, 31, 32, 33, 63, 64, 127, 224, count - 2, count - 1) if 0 <= p < count})
+        s.say("%d rules, none of the pair; the pair lies behind the last" % count)
+        lend(s, labels, others(count))
+        if count < 256:
+            s.poke("entries", count, b"\x1e")
+            s.poke("entries", 256 + count, b"\x1f")
+            s.poke("entries", 512 + count, b"\x3f")
+        ask_modes(s, b"L30", b"L31", b"")
+        s.ask(b"L30", b"L31", b"r", "override 7", 1)
+        for at in places:
+            s.say("%d rules, the pair at place %d" % (count, at))
+            rules = others(count)
+            rules[at] = (30, 31, b"rb")
+            s.poke("entries", 0, bytes(r[0] for r in rules))
+            s.poke("entries", 256, bytes(r[1] for r in rules))
+            s.poke("entries", 512, bytes(bits_of(r[2]) for r in rules))
+            ask_modes(s, b"L30", b"L31", b"rb")
+            s.ask(b"L30", b"L31", b"rw", "override 7", 1)
+            s.ask(b"L30", b"L32", b"r", "denied 7")
+            s.ask(b"L32", b"L31", b"r", "denied 7")
+            for again in places:
+                if again > at:
+                    s.poke("entries", again, b"\x1e")
+                    s.poke("entries", 256 + again, b"\x1f")
+                    s.poke("entries", 512 + again, b"\x10")
+                    s.ask(b"L30", b"L31", b"r", "granted 6 b")
+                    s.ask(b"L30", b"L31", b"w", "denied 7")
+                    s.poke("entries", again, bytes([rules[again][0]]))
+                    s.poke("entries", 256 + again, bytes([rules[again][1]]))
+                    s.poke("entries", 512 + again, bytes([bits_of(rules[again][2])]))
+            s.say("a change and a line set it in its place")
+            s.change(b"L30 L31 x -")
+            s.list(at, b"L30 L31 rxb\n", b"\xee" * 24)
+            s.line(b"L30 L31 wt", None)
+            s.list(at, b"L30 L31 wt\n", b"\xee" * 24)
+            ask_modes(s, b"L30", b"L31", b"w")
+        s.say("%d rules: a new pair goes last, or is refused with 7" % count)
+        for subject, object_, modes in ((40, 41, b"r"), (41, 40, b"w")):
+            name = b"L%02d L%02d" % (subject, object_)
+            s.line(name + b" " + modes, None if count < 256 else 7)
+            if count < 256:
+                s.list(count, name + b" " + modes + b"\n")
+            ask_modes(s, b"L%02d" % subject, b"L%02d" % object_, modes if count < 256 else b"")
+            count += 1
+    s.store()
+
+
+def searches_places():
+    s = Script("searches_places", "02, Two: a label at each place of a table of each length. Each has a rule of its own, so that another number would show.", True)
+    shapes = {"one or two bytes": lambda k: bytes([65 + k]) if k < 26 else b"%c%c" % (97 + k % 26, 48 + k // 26), "three bytes": lambda k: b"%02dx" % k,
+              "four bytes": lambda k: b"Q%02d%c" % (k, 97 + k % 20), "the last four the same": lambda k: b"%02dRoom" % k, "the first and last four the same": lambda k: b"Unit%02d_Log" % k,
+              "a length of its own": lambda k: b"Z" * (k + 1), "eight and eight more": lambda k: b"ClimateP%02dStoreNor" % k}
+    for shape, name in shapes.items():
+        for count in (1, 7, 8, 9, 63, 64):
+            s.say("%s; %d labels" % (shape, count))
+            labels = [name(k) for k in range(min(64, count + 1))]
+            rules = [(k, (k + 1) % count, modes_of(k)) for k in range(count) if count > 1]
+            lend(s, labels, rules, count)
+            for k in range(count):
+                subject, object_ = name(k), name((k + 1) % count)
+                if count == 1:
+                    s.ask(subject, object_, b"w", "granted 5")
+                else:
+                    ask_modes(s, subject, object_, modes_of(k))
+                if count > 1 and k % 8 in (0, 7):
+                    s.ask(object_, subject, b"r", "denied 7" if count > 2 else by_rule(modes_of((k + 1) % count), b"r"))
+            s.say("the label behind the last, which is not stored, and one that was never there")
+            for stranger in (name(count), name(64)):
+                s.ask(stranger, name(0), b"r", "denied 7")
+                s.ask(name(0), stranger, b"r", "denied 7")
+                s.ask(stranger, stranger, b"r", "granted 5")
+            s.revoke(name(count - 1), "revoked %d" % (count > 1))
+            s.revoke(name(64), "revoked 0")
+            s.line(b"%s %s x" % (name(count - 1), name(0)), 5 if count == 1 else None)
+            s.say("it comes in by a line, at its place, which is the next; then another, by a change, while there is room")
+            s.line(b"%s %s x" % (name(0), name(count)), 6 if count == 64 else None)
+            s.label(count, 13 if count == 64 else name(count))
+            s.ask(name(0), name(count), b"x", "denied 7" if count == 64 else "granted 6")
+            s.change(b"%s %s w -" % (name(70), name(0)), "refused 6" if count >= 63 else "done")
+            s.label(count + 1, 13 if count >= 63 else name(70))
+            s.ask(name(70), name(0), b"w", "denied 7" if count >= 63 else "granted 6")
+    s.store()
+
+
+def other_byte(byte, turn=1):
+    return b"ABCDEFGHIJKLMNOPQRSTUVWXYZabcdefghijklmnopqrstuvwxyz"[(byte + 7 * turn) % 52]
+
+
+def in_table(s, labels, strangers):
+    """The labels come in by rule text, some by a change, each with rules of its own to Air and from Air; all are found, and the strangers are not. Then each
+    rule is set once more: nothing new comes in."""
+    s.fresh()
+    text = b"".join(b"%s Air %s\n" % (label, modes_of(k)) for k, label in enumerate(labels))
+    s.piece(text[:len(text) // 2])
+    s.piece(text[len(text) // 2:])
+    s.end("report %d %d 0 0 0 0" % (len(labels), len(labels)))
+    for k, label in enumerate(labels):
+        s.change(b"Air %s %s -" % (label, modes_of(k + 4).replace(b"b", b"")))
+        s.label(5 if k == 0 else 6 + k, label)
+    s.label(6 + len(labels), 13)
+    for k, label in enumerate(labels):
+        ask_modes(s, label, b"Air", modes_of(k))
+        s.ask(b"Air", label, b"r", by_rule(modes_of(k + 4).replace(b"b", b""), b"r"))
+        s.ask(label, label, b"w", "granted 5")
+        s.ask(label, labels[k - 1], b"r", "granted 5" if len(labels) == 1 else "denied 7")
+    for stranger in strangers:
+        s.ask(stranger, b"Air", b"r", "denied 7")
+        s.ask(b"Air", stranger, b"r", "denied 7")
+        s.ask(stranger, labels[0], b"r", "denied 7")
+    s.piece(b"".join(b"%s Air %s\n" % (label, modes_of(k + 1)) for k, label in enumerate(labels)))
+    s.end("report %d %d 0 0 0 0" % (len(labels), len(labels)))
+    s.label(6 + len(labels), 13)
+    for k in {0, len(labels) // 2, len(labels) - 1}:
+        line = labels[k] + b" Air " + listed_modes(modes_of(k + 1)) + b"\n"
+        s.list(k, line, b"\xee" * (len(line) + 2))
+        s.line(labels[k] + b" " + labels[k] + b" r", 5)
+    if len(labels) > 1:
+        s.line(labels[0] + b" " + labels[-1] + b" r", None)
+        s.ask(labels[0], labels[-1], b"r", "granted 6")
+        s.ask(labels[-1], labels[0], b"r", "denied 7")
+    s.revoke(labels[-1], "revoked 1")
+
+
+def searches_bytes():
+    s = Script("searches_bytes", "02, Two: labels that differ in a single byte, at each place, of each length from 1 to 20: all known, and others that are not.", True)
+    for length in range(1, 21):
+        base = b"ClimateProbe_Store_N"[:length]
+        s.say("%d bytes" % length)
+        labels = [base] + [base[:at] + bytes([other_byte(base[at])]) + base[at + 1:] for at in range(length)]
+        strangers = [base[:at] + bytes([other_byte(base[at], 2)]) + base[at + 1:] for at in range(length)]
+        assert len(set(labels + strangers)) == 2 * length + 1
+        in_table(s, labels, strangers)
+    s.store()
+
+    s = Script("searches_bytes_long", "02, Two: the same with 254 and 255 bytes: each single byte in a label that is not known, and some in labels that are.", True)
+    for length in (254, 255):
+        base = (b"ClimateProbe_StoreNorth_" * 11)[:length]
+        s.say("%d bytes" % length)
+        places = [0, 1, 3, 4, 15, 16, 31, 32, 127, 128, length - 33, length - 17, length - 9, length - 8, length - 5, length - 4, length - 3, length - 2, length - 1]
+        in_table(s, [base] + [base[:at] + bytes([other_byte(base[at])]) + base[at + 1:] for at in places], [])
+        for at in range(length):
+            stranger = base[:at] + bytes([other_byte(base[at], 2)]) + base[at + 1:]
+            s.ask(stranger, b"Air", b"r", "denied 7")
+            if at in places:
+                s.ask(b"Air", stranger, b"r", "denied 7")
+                s.ask(stranger, base, b"r", "denied 7")
+                s.ask(base, stranger, b"r", "denied 7")
+    s.store()
+
+
+def searches_lengths():
+    s = Script("searches_lengths", "02, Two: labels that differ only in length: each begins, or ends, like the others.", True)
+    whole = b"abcdefghijklmnopqrstuvwxyz"
+    s.say("beginnings of one label, and not the lengths between")
+    in_table(s, [whole[:n] for n in range(1, 26, 2)], [whole[:n] for n in range(2, 27, 2)])
+    in_table(s, [whole[:n] for n in range(25, 0, -1)], [whole, whole + b"a"])
+    s.say("ends of one label")
+    in_table(s, [whole[-n:] for n in range(1, 26, 2)], [whole[-n:] for n in range(2, 27, 2)])
+    in_table(s, [whole[-n:] for n in range(25, 0, -1)], [whole, b"a" + whole])
+    s.say("one byte, again and again")
+    in_table(s, [b"A" * n for n in list(range(1, 21)) + [31, 32, 33, 63, 64, 65, 127, 128, 253, 255]], [b"A" * n for n in (21, 30, 34, 62, 66, 129, 252, 254)])
+    s.say("both: beginnings and ends")
+    in_table(s, [whole[:n] for n in range(1, 21)] + [whole[-n:] for n in range(1, 21)], [whole[:21], whole[-21:], whole[1:20], whole])
+    s.say("What lies in a place behind its label does not count: a longer label lies there, then a shorter one is counted.")
+    for n in (1, 2, 3, 4, 5, 8, 16, 25):
+        s.fresh()
+        s.line(whole + b" Air rw", None)
+        s.poke("labels", 5 * 256, bytes([n]))
+        for length in range(1, 27):
+            s.ask(whole[:length], b"Air", b"rw", "granted 6" if length == n else "denied 7")
+        s.line(whole + b" Air x", None)
+        s.label(7, whole)
+        s.ask(whole, b"Air", b"x", "granted 6")
+        s.ask(whole[:n], b"Air", b"x", "denied 7")
+    s.say("A length that is a byte of a label too: 65 bytes, and labels with an A before them.")
+    body = b"B" * 61 + b"tail"
+    in_table(s, [body, b"A" + body, b"A" + body[:-1], body[1:], b"Atail", b"tail", b"Atai"], [b"AA" + body, body[:-1], b"ail", b"Btail"])
+    s.store()
+
+
+def searches():
+    searches_same()
+    searches_unknown()
+    searches_pairs()
+    searches_places()
+    searches_bytes()
+    searches_lengths()
+
+
+# ---------------------------------------------------------------------------------------------------------------------------------------------
 # Recordings of a running kernel, where 01 does not decide otherwise
 # ---------------------------------------------------------------------------------------------------------------------------------------------
 
@@ -3120,6 +3475,7 @@ def main():
     ranges()
     near()
     records()
+    searches()
     folder = os.environ.get("KERNEL_VECTORS")
     if folder:
         kernel(folder)

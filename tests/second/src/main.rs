@@ -14,14 +14,18 @@ fn main() -> ExitCode {
     let result = match words.as_slice() {
         ["program"] => run_program(),
         ["script"] => run_script(),
-        ["random", seed, count] => match (seed.parse(), count.parse()) {
-            (Ok(seed), Ok(count)) => run_random(seed, count, Kind::Every),
-            _ => return usage(),
-        },
-        ["random", seed, count, "records"] => match (seed.parse(), count.parse()) {
-            (Ok(seed), Ok(count)) => run_random(seed, count, Kind::Records),
-            _ => return usage(),
-        },
+        ["random", seed, count, kind @ ..] => {
+            let kind = match kind {
+                [] => Kind::Every,
+                ["records"] => Kind::Records,
+                ["searches"] => Kind::Searches,
+                _ => return usage(),
+            };
+            match (seed.parse(), count.parse()) {
+                (Ok(seed), Ok(count)) => run_random(seed, count, kind),
+                _ => return usage(),
+            }
+        }
         _ => return usage(),
     };
     match result {
@@ -34,7 +38,9 @@ fn main() -> ExitCode {
 }
 
 fn usage() -> ExitCode {
-    eprintln!("usage: second program | second script | second random SEED COUNT [records]");
+    eprintln!(
+        "usage: second program | second script | second random SEED COUNT [records | searches]"
+    );
     ExitCode::FAILURE
 }
 

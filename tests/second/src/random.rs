@@ -63,11 +63,14 @@ impl Xorshift {
     }
 }
 
-/// Which calls a script has: all of them, or the two that turn old records into lines and back.
+/// Which calls a script has: all of them; the two that turn old records into
+/// lines and back; or questions, and some writes, about labels that are hard to
+/// tell apart.
 #[derive(Clone, Copy, PartialEq, Eq)]
 pub enum Kind {
     Every,
     Records,
+    Searches,
 }
 
 /// Writes a script of `count` calls.
@@ -87,6 +90,7 @@ pub fn write_script(seed: u64, count: u64, kind: Kind, output: &mut dyn Write) -
         match kind {
             Kind::Every => generator.episode(),
             Kind::Records => generator.records_episode(),
+            Kind::Searches => generator.searches_episode(),
         }
     }
     match generator.error {
@@ -170,6 +174,26 @@ impl Generator<'_> {
             self.record_call();
             self.line_call();
         }
+    }
+
+    /// Questions, and some writes, about labels that are hard to tell apart.
+    fn searches_episode(&mut self) {
+        self.emit("fresh");
+        self.emit("freshloader");
+        self.pending.clear();
+        self.make_family();
+        self.new_percent = 1;
+        match self.random.below(5) {
+            0 => {}
+            1 | 2 => self.grow_family(),
+            _ => self.lend_family(),
+        }
+        self.emit("dump");
+        let count = 20 + self.random.below(60);
+        for _ in 0..count {
+            self.search_call();
+        }
+        self.emit("dump");
     }
 
     fn at_label_limit(&mut self) {
@@ -1341,6 +1365,212 @@ impl Generator<'_> {
             }
         }
         self.emit(&format!("label {k}"));
+    }
+
+    // -----------------------------------------------------------------------
+    // Labels that are hard to tell apart
+    // -----------------------------------------------------------------------
+
+    /// The label with another byte at one place, or with a byte more or fewer at
+    /// either end.
+    fn near_label(&mut self, label: &[u8]) -> Vec<u8> {
+        let mut near = label.to_vec();
+        let length = near.len();
+        let byte = self.random.pick(b"abAB1_");
+        match self.random.below(12) {
+            0 if length < plain::LABEL_LIMIT => near.push(byte),
+            1 if length < plain::LABEL_LIMIT => near.insert(0, byte),
+            2 if length > 1 => {
+                near.pop();
+            }
+            3 if length > 1 => {
+                near.remove(0);
+            }
+            _ if length > 0 => {
+                // Anywhere, or among the few at the beginning or the end.
+                let few = self.random.below(length.min(9) as u64) as usize;
+                let at = match self.random.below(4) {
+                    0 => few,
+                    1 => length - 1 - few,
+                    _ => self.random.below(length as u64) as usize,
+                };
+                near[at] = byte;
+            }
+            _ => near.push(byte),
+        }
+        near
+    }
+
+    /// A pool of labels each of which is near another.
+    fn make_family(&mut self) {
+        let length = self.random.pick(&[
+            1, 1, 2, 3, 4, 4, 5, 6, 7, 8, 8, 9, 10, 12, 15, 16, 17, 18, 20, 23, 24, 31, 32, 33, 64,
+            65, 128, 200, 254, 255,
+        ]);
+        let first = match self.random.below(4) {
+            0 => vec![b'a'; length as usize],
+            1 | 2 => (0..length).map(|_| self.random.pick(b"ab")).collect(),
+            _ => self.label_of_length(length),
+        };
+        self.pool = vec![first];
+        let size = self.random.pick(&[2, 4, 8, 20, 40, 66]);
+        while self.pool.len() < size {
+            let label = self.pool_label();
+            let near = self.near_label(&label);
+            self.pool.push(near);
+        }
+        if self.random.chance(40) {
+            for mark in ["_", "^", "*", "?"] {
+                self.pool.push(mark.as_bytes().to_vec());
+            }
+        }
+    }
+
+    /// The family comes in by rule text in random cuts, and by changes.
+    fn grow_family(&mut self) {
+        let lines = self.random.pick(&[1, 3, 10, 30, 60, 120]);
+        for _ in 0..lines {
+            let line = self.good_rule_line();
+            self.pending.extend_from_slice(&line);
+            self.pending.push(b'\n');
+        }
+        while !self.pending.is_empty() && self.left > 0 {
+            self.piece_call();
+            if self.random.chance(10) {
+                self.change_call();
+            }
+        }
+        self.emit("end");
+    }
+
+    /// A table that need not have been grown: labels of the family, some of them
+    /// twice, then rules and an override list of their numbers, some of these
+    /// twice too. Behind each count lies what would count if it were larger.
+    fn lend_family(&mut self) {
+        let labels = self
+            .random
+            .pick(&[0, 1, 2, 5, 6, 7, 8, 9, 15, 16, 17, 33, 56, 63, 64, 64]);
+        let with_five = self.random.chance(50);
+        let from = if with_five { 5 } else { 0 };
+        for place in from..(labels + 1).min(64) {
+            let label = self.pool_label();
+            let mut bytes = vec![label.len() as u8];
+            bytes.extend_from_slice(&label);
+            if self.random.chance(20) {
+                // What lies behind a label in its place.
+                let more = self.pool_label();
+                bytes.extend_from_slice(&more);
+                bytes.truncate(raw::PLACE);
+            }
+            let at = place as usize * raw::PLACE;
+            self.emit(&format!("poke labels {at} {}", write_hex(&bytes)));
+        }
+        self.emit(&format!("poke words {} {labels}", raw::LABEL_COUNT));
+        if labels == 0 {
+            return;
+        }
+        let rules = self.random.pick(&[
+            0, 1, 2, 8, 31, 32, 33, 34, 63, 64, 65, 96, 127, 200, 255, 256, 256,
+        ]);
+        let (few, some) = (1 + self.random.below(labels), 1 + self.random.below(labels));
+        let places = (rules + self.random.pick(&[0, 1, 40])).min(256);
+        let rows = [
+            (raw::SUBJECTS, self.random.pick(&[few, labels])),
+            (raw::OBJECTS, self.random.pick(&[some, labels])),
+            (raw::MODES, 64),
+        ];
+        for (row, limit) in rows {
+            let bytes: Vec<u8> = (0..places)
+                .map(|_| self.random.below(limit) as u8)
+                .collect();
+            if !bytes.is_empty() {
+                self.emit(&format!("poke entries {row} {}", write_hex(&bytes)));
+            }
+        }
+        self.emit(&format!("poke words {} {rules}", raw::RULE_COUNT));
+        let overrides = self.random.pick(&[0, 0, 1, 2, 8]);
+        let bytes: Vec<u8> = (0..8).map(|_| self.random.below(labels) as u8).collect();
+        let at = raw::OVERRIDES;
+        self.emit(&format!("poke entries {at} {}", write_hex(&bytes)));
+        self.emit(&format!("poke words {} {overrides}", raw::OVERRIDE_COUNT));
+    }
+
+    /// A label of the family or of the table, or near one of them, or a mark.
+    fn family_label(&mut self) -> Vec<u8> {
+        match self.random.below(12) {
+            0..=3 => self.pool_label(),
+            4..=8 => self.stored_label(),
+            9 | 10 => {
+                let label = self.stored_label();
+                self.near_label(&label)
+            }
+            _ => vec![self.random.pick(b"_^*?@")],
+        }
+    }
+
+    fn search_question(&mut self) {
+        let mut subject = self.family_label();
+        let mut object = match self.random.below(10) {
+            0 => subject.clone(),
+            1 | 2 => self.near_label(&subject),
+            _ => self.family_label(),
+        };
+        let mut request = match self.random.below(30) {
+            0 => self.request(),
+            _ => self.letters(b"rwxaRWXA", 2),
+        };
+        // Often a pair that has a rule, or one that is near it, and a letter that
+        // the rule has.
+        if let Some(table) = self.table() {
+            if !table.rules.is_empty() && self.random.chance(60) {
+                let at = self.random.below(table.rules.len() as u64) as usize;
+                let modes = table.rules[at].2;
+                subject = table.labels[table.rules[at].0].clone();
+                object = table.labels[table.rules[at].1].clone();
+                let held: Vec<u8> = plain::LETTERS
+                    .iter()
+                    .filter(|(_, bit)| plain::REQUEST_LETTERS & modes & bit != 0)
+                    .map(|&(letter, _)| letter)
+                    .collect();
+                if !held.is_empty() && self.random.chance(80) {
+                    request = self.letters(&held, 2);
+                }
+                match self.random.below(12) {
+                    0 => subject = self.near_label(&subject),
+                    1 => object = self.near_label(&object),
+                    2 => std::mem::swap(&mut subject, &mut object),
+                    _ => {}
+                }
+            }
+        }
+        let capability = self.random.below(2);
+        self.emit(&format!(
+            "question {} {} {} {capability}",
+            write_hex(&subject),
+            write_hex(&object),
+            write_hex(&request)
+        ));
+    }
+
+    /// A question, or now and then another call that seeks a label.
+    fn search_call(&mut self) {
+        match self.random.below(40) {
+            0..=27 => self.search_question(),
+            28..=30 => self.change_call(),
+            31..=33 => self.piece_call(),
+            34 => self.emit("end"),
+            35 => self.revoke_call(),
+            36 => self.override_call(),
+            37 => match self.random.below(2) {
+                0 => self.mapping_call(),
+                _ => self.by_label_call(),
+            },
+            38 => self.list_call(),
+            _ => self.label_call(),
+        }
+        if self.random.chance(5) {
+            self.emit("dump");
+        }
     }
 
     // -----------------------------------------------------------------------

@@ -200,11 +200,15 @@ fn hex_there_and_back() {
 
 // --- The generator -------------------------------------------------------------
 
-fn random_script(seed: u64, count: u64) -> Vec<String> {
+fn script_of(kind: Kind, seed: u64, count: u64) -> Vec<String> {
     let mut text = Vec::new();
-    write_script(seed, count, Kind::Every, &mut text).unwrap();
+    write_script(seed, count, kind, &mut text).unwrap();
     let text = String::from_utf8(text).unwrap();
     text.lines().map(str::to_string).collect()
+}
+
+fn random_script(seed: u64, count: u64) -> Vec<String> {
+    script_of(Kind::Every, seed, count)
 }
 
 #[test]
@@ -350,6 +354,51 @@ fn random_records_and_lines_are_often_accepted() {
         );
         assert!(back[kind] > 10, "{back:?}");
     }
+}
+
+/// Of questions about labels that are hard to tell apart, none is put to a damaged
+/// state, a good share is granted by rule 6, and every answer comes. Often labels
+/// and pairs are stored twice.
+#[test]
+fn random_searches_get_every_answer() {
+    let mut answers = std::collections::BTreeMap::new();
+    let (mut questions, mut labels_twice, mut pairs_twice) = (0, 0, 0);
+    for seed in 0..4 {
+        let mut machine = Machine::new();
+        for call in script_of(Kind::Searches, seed, 10000) {
+            let answer = machine.execute(&call).unwrap();
+            assert_ne!(answer, "bad line", "{call}");
+            if !call.starts_with("question ") {
+                continue;
+            }
+            let table = raw::table_of(&machine.state).unwrap();
+            let labels: std::collections::BTreeSet<_> = table.labels.iter().collect();
+            let pairs: std::collections::BTreeSet<_> =
+                table.rules.iter().map(|rule| (rule.0, rule.1)).collect();
+            questions += 1;
+            labels_twice += u32::from(labels.len() < table.labels.len());
+            pairs_twice += u32::from(pairs.len() < table.rules.len());
+            *answers.entry(answer).or_insert(0) += 1;
+        }
+    }
+    let expected = [
+        "denied 1",
+        "denied 7",
+        "granted 2",
+        "granted 3",
+        "granted 4",
+        "granted 5",
+        "granted 6",
+        "granted 6 b",
+        "override 1",
+        "override 7",
+        "refused 3",
+        "refused 8",
+    ];
+    assert_eq!(answers.keys().collect::<Vec<_>>(), expected);
+    assert!(answers["granted 6"] * 10 > questions, "{answers:?}");
+    assert!(labels_twice * 4 > questions, "{labels_twice} {questions}");
+    assert!(pairs_twice * 4 > questions, "{pairs_twice} {questions}");
 }
 
 /// Demand 3: the same bytes and end calls, whatever the cuts and questions.
