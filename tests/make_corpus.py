@@ -3140,8 +3140,8 @@ def searches_pairs():
     def others(count):
         """Other pairs: of the subject, of the object, and of neither."""
         return [((30, k % 29, b"rwxa"), (k % 29, 31, b"rwxa"), (31, 30, b"rwxa"), (k % 29, k % 28, b"rwxa"))[k % 4] for k in range(count)]
-    for count in (0, 1, 31, 32, 33, 255, 256):
-        places = sorted({p for p in (0, 1, 30, 31, 32, 33, 63, 64, 127, 224, count - 2, count - 1) if 0 <= p < count})
+    for count in (0, 1, 31, 32, 33, 63, 64, 65, 128, 129, 255, 256):
+        places = sorted({p for p in (0, 1, 31, 32, 63, 64, 65, 127, 128, 191, 192, 224, count - 2, count - 1) if 0 <= p < count})
         s.say("%d rules, none of the pair; the pair lies behind the last" % count)
         lend(s, labels, others(count))
         if count < 256:
