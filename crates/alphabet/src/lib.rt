@@ -412,12 +412,11 @@ fn lowest(label: &[u8]) -> u8
         return low;
     }
     if n <= 16 {
-        let last = n - 4;
-        let second = if 4 < last { 4 } else { last };
-        let third = if 8 < n { n - 8 } else { 0 };
+        let second = search::second_four(n);
+        let third = search::third_four(n);
         return smaller(
             smaller(lowest_of_4(label, 0), lowest_of_4(label, second)),
-            smaller(lowest_of_4(label, third), lowest_of_4(label, last)),
+            smaller(lowest_of_4(label, third), lowest_of_4(label, n - 4)),
         );
     }
     if n < 32 {

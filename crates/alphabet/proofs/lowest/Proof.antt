@@ -2,7 +2,6 @@
 use Prim.Native.Nat.{_+_, _-_, _≤_, _<_}
 use mathlib.Core.Path.{_≡_, refl, sym, _∙_}
 use mathlib.Core.Bool.{_&&_, and-comm, and-true}
-use mathlib.Core.Logic.{⊎-elim}
 use native.Mathlib.Omega.{arith}
 use lib.ListN.{length}
 use Rattle.alphabet.specs.Within.{labelBytes, passes}
@@ -25,16 +24,12 @@ abbrev μ-loop2 : tie.MeasureT-loop2
 
 -- where the second and the third of four parts lie
 fours :
-    (c : tie.Joined4 Inv-loop μ-loop Inv-loop2 μ-loop2) →
+    (c : tie.After-third-four Inv-loop μ-loop Inv-loop2 μ-loop2) →
     let n = length (c .before .before .before .before .before .args .label .now) in
-    let second = c .before .if3 .second in
-    let third = c .if4 .third in
+    let second = c .before .second-four .result in
+    let third = c .third-four .result in
     (second ≤ 4) × (second + 4 ≤ n) × (third ≤ second + 4) × (third + 4 ≤ n) × (n ≤ third + 8)
-fours c =
-    ⊎-elim
-    (λ s. ⊎-elim (λ t. omega arith) (λ t. omega arith) (c .if4 .came))
-    (λ s. ⊎-elim (λ t. omega arith) (λ t. omega arith) (c .if4 .came))
-    (c .before .if3 .came)
+fours c = omega (arith, c .before .second-four .ensures, c .third-four .ensures)
 
 loop-holds : tie.Need-loop-holds Inv-loop μ-loop Inv-loop2 μ-loop2
 loop-holds c = (omega arith, sym (bytes-none _ _ _ (omega arith) (omega arith)))
@@ -65,8 +60,11 @@ returns c =
     let e : l .loop .i ≡ length (l .before .before .before .args .label .now) = omega arith in
     l .loop .inv .1 ∙ rw e
 
-sub-third : tie.Need-sub-third Inv-loop μ-loop Inv-loop2 μ-loop2
-sub-third c = omega arith
+second-four-requires : tie.Need-second-four-requires Inv-loop μ-loop Inv-loop2 μ-loop2
+second-four-requires c κs = omega arith
+
+third-four-requires : tie.Need-third-four-requires Inv-loop μ-loop Inv-loop2 μ-loop2
+third-four-requires c κs = tt
 
 lowest-of-4-requires : tie.Need-lowest-of-4-requires Inv-loop μ-loop Inv-loop2 μ-loop2
 lowest-of-4-requires c κs = omega arith
@@ -179,7 +177,8 @@ lowest-spec =
     loop-less
     loop-again
     returns
-    sub-third
+    second-four-requires
+    third-four-requires
     lowest-of-4-requires
     lowest-of-4-requires-2
     smaller-requires-2
