@@ -23,13 +23,14 @@ use Rattle.rules.specs.declared.Spot.{Spot}
 use Rattle.rules.specs.declared.Place.{Place}
 use Rattle.rules.specs.declared.Place.the-variants as p
 use Rattle.rules.specs.Rules.{pairLabels}
-use Rattle.rules.specs.Within.{subjectNumber, objectNumber, labelsAfter, ruleOfPair, placing, withPairAt, judgedAt, modesOfRule}
+use Rattle.rules.specs.Within.{subjectNumber, objectNumber, labelsAfter, ruleOfPair, placing, withPairAt, modesOfRule}
 use Rattle.rules.proofs.Pairs as pairs
 use Rattle.rules.proofs.Laws.{Room, placed, place-count}
 use Rattle.lines.specs.Lines.{Said, skipped, refused, rule, change}
 use Rattle.lines.proofs.Laws.{Taken, Sound}
 use Rattle.writes.specs.Writes.{changed, judged}
-use Rattle.writes.specs.Within.{changeAt}
+use Rattle.writes.specs.Within.{settingAt}
+use Rattle.writes.specs.declared.Setting.the-variants as setting
 use Rattle.store.specs.Judged.{is-accepted}
 use Rattle.writes.proofs.Laws.{changed-small, rule-at, change-at}
 use Rattle.grown.specs.Sane.{twoLabels, Sane}
@@ -211,7 +212,7 @@ modes-below t n sound i j = by-case (pairIn t i j) (first-is (isPair i j) (recor
 pub rule-paired : (t t′ : Table) (s o : List ℕ) (m : ℕ) → soundTable (length (t .labels)) t ≡ true → Sound (rule s o m) → judged t (rule s o m) ≡ is-accepted t′ → Paired t t′ s o m
 rule-paired t t′ s o m sound f e = by-place (placing t s o) refl (sym (rule-at t sound s o (f .0) m) ∙ e)
   where
-    by-place : (q : Place) → placing t s o ≡ q → judgedAt t s o m q ≡ is-accepted t′ → Paired t t′ s o m
+    by-place : (q : Place) → placing t s o ≡ q → settingAt t s o (setting.Rule m) q ≡ is-accepted t′ → Paired t t′ s o m
     by-place (p.Refused n) w e = let z : _≡_ {A = ℕ} 0 1 = cc in absurd (omega arith)
     by-place (p.At spot) w e =
         let z : withPairAt t s o spot m ≡ t′ = cc in
@@ -229,7 +230,7 @@ pub change-paired :
     Paired t t′ s o (changed (modesFrom t s o) a d)
 change-paired t t′ s o a d sound f e = by-place (placing t s o) refl (sym (change-at t sound s o (f .0) a d) ∙ e)
   where
-    by-place : (q : Place) → placing t s o ≡ q → changeAt t s o a d q ≡ is-accepted t′ → Paired t t′ s o (changed (modesFrom t s o) a d)
+    by-place : (q : Place) → placing t s o ≡ q → settingAt t s o (setting.Change a d) q ≡ is-accepted t′ → Paired t t′ s o (changed (modesFrom t s o) a d)
     by-place (p.Refused n) w e = let z : _≡_ {A = ℕ} 0 1 = cc in absurd (omega arith)
     by-place (p.At spot) w e =
         let z : withPairAt t s o spot (changed (modesOfRule (spot .rule) (t .rules)) a d) ≡ t′ = cc in
