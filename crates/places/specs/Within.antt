@@ -25,6 +25,10 @@ NoWord labels offset word from to = (k : ℕ) → from ≤ k → k < to → eqb 
 abbrev pub NotHeld : List ℕ → List ℕ → ℕ → ℕ → Type 0
 NotHeld labels label from to = (k : ℕ) → from ≤ k → k < to → k < labelLimit → sameBytes label (labelAt labels k) ≡ false
 
+-- a place of those that are stored holds another label
+abbrev pub Another : List ℕ → ℕ → List ℕ → ℕ → Type 0
+Another labels count label k = k < count → sameBytes label (labelAt labels k) ≡ false
+
 -- a place that was found is the first, of those that are stored, that holds what it holds
 abbrev pub FirstHeld : List ℕ → ℕ → Found → Type 0
 FirstHeld labels count hint = (k : ℕ) → hint ≡ At k → first (sameBytes (labelAt labels k)) (entries (labelAt labels) count) ≡ At k

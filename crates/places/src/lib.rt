@@ -14,7 +14,7 @@ ghost use Rattle.store.specs.Table.{isPair, names, noPlace, labelLimit, ruleLim
 ghost use Rattle.store.specs.Layout.{labelsSize, placeSize, modesFrom, mappedFrom, labelAt, ruleAt, mappingAt};
 ghost use Rattle.store.specs.Within.{entered};
 ghost use Rattle.places.specs.Places.{labelStart, PartFrom};
-ghost use Rattle.places.specs.Within.{Unlike, NoWord, NotHeld, FirstHeld, block, noneInBlock};
+ghost use Rattle.places.specs.Within.{Unlike, NoWord, NotHeld, Another, FirstHeld, block, noneInBlock};
 
 // How many places of rules are looked at in one go, and what stands for no place among them.
 const BLOCK: usize = 64;
@@ -138,9 +138,10 @@ fn next_like(labels: &[u8], from: usize, count: usize, label: &[u8]) -> usize
     next_with(labels, from, count, n - 3, search::word_at(label, n - 4))
 }
 
-// The number of a label among the first `count`: the first that has its bytes. Who calls it has tested the store.
-pub fn find_label(labels: &[u8], count: usize, label: &[u8]) -> Found
-    requires { ⌜ (length (now labels) ≡ labelsSize) × (count ≤ labelLimit) ⌝ }
+// The number of a label among the first `count`: the first that has its bytes. One place, where there is such a place, is known to hold another
+// label, and is not compared. Who calls it has tested the store.
+fn find_besides(labels: &[u8], count: usize, label: &[u8], passed: usize) -> Found
+    requires { ⌜ (length (now labels) ≡ labelsSize) × (count ≤ labelLimit) × Another (now labels) count (now label) passed ⌝ }
     ensures { λ r. ⌜ r ≡ first (sameBytes (now (label .entry))) (listed (labelAt (now (labels .entry))) count) ⌝ }
 {
     if 255 < label.len() {
@@ -152,28 +153,39 @@ pub fn find_label(labels: &[u8], count: usize, label: &[u8]) -> Found
         if count <= k {
             return Found::Nothing;
         }
-        let held = label_at(labels, k);
-        if search::same_bytes(label, held) {
-            return Found::At(k);
+        if k != passed {
+            let held = label_at(labels, k);
+            if search::same_bytes(label, held) {
+                return Found::At(k);
+            }
         }
         i = k + 1;
     }
     Found::Nothing
 }
 
-// The same, where a search for another label, often the same one, has been made: the place that it answered is compared first. Who calls it has
-// tested the store and has that answer.
+// The number of a label among the first `count`, each of which may hold it. Who calls it has tested the store.
+pub fn find_label(labels: &[u8], count: usize, label: &[u8]) -> Found
+    requires { ⌜ (length (now labels) ≡ labelsSize) × (count ≤ labelLimit) ⌝ }
+    ensures { λ r. ⌜ r ≡ first (sameBytes (now (label .entry))) (listed (labelAt (now (labels .entry))) count) ⌝ }
+{
+    find_besides(labels, count, label, count)
+}
+
+// The same, where a search for another label, often the same one, has been made: the place that it answered is compared first, and not again. Who
+// calls it has tested the store and has that answer.
 pub fn find_label_hinted(labels: &[u8], count: usize, label: &[u8], hint: Found) -> Found
     requires { ⌜ (length (now labels) ≡ labelsSize) × (count ≤ labelLimit) × FirstHeld (now labels) count hint ⌝ }
     ensures { λ r. ⌜ r ≡ first (sameBytes (now (label .entry))) (listed (labelAt (now (labels .entry))) count) ⌝ }
 {
-    if let Found::At(k) = hint {
-        let hinted = label_at(labels, k);
-        if search::same_bytes(label, hinted) {
-            return hint;
-        }
+    let Found::At(k) = hint else {
+        return find_besides(labels, count, label, count);
+    };
+    let hinted = label_at(labels, k);
+    if search::same_bytes(label, hinted) {
+        return hint;
     }
-    find_label(labels, count, label)
+    find_besides(labels, count, label, k)
 }
 
 // The smaller of two numbers.
