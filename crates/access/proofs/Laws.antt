@@ -21,7 +21,7 @@ use Rattle.store.specs.Layout.{store, tableOf, ruleAt}
 use Rattle.access.specs.SevenRules.{holds, bringUp, Clause, rule7, firstOf, sevenRules}
 use Rattle.store.specs.Pairs.{ruleBetween, has-modes, modesFound, modesBetween}
 use Rattle.access.specs.Access.{onList, effective, denied, answered, decide, answer}
-use Rattle.access.specs.Within.{markRules, numberRules, sameLabel, rulingOf}
+use Rattle.access.specs.Within.{markRules, laterRules, sameLabel, rulingOf}
 use Rattle.access.specs.declared.Denial.{Denial}
 use Rattle.access.specs.declared.Denial.the-variants.{AnyOther}
 use Rattle.access.specs.declared.Verdict.{Verdict}
@@ -124,7 +124,7 @@ first-then (l ∷ ls) rest e =
 module _ (t : Table) (s o : List ℕ) (wanted : ℕ) (capable : Bool) where
   pub decide-is : (v : Verdict) → firstOf (markRules s o wanted) ≡ v → decide t s o wanted capable ≡ answered (effective t (labelIn t s) capable) (after v (rulingOf t s o wanted .verdict))
   unfolding decide rulingOf
-  decide-is v e = rw (first-then (markRules s o wanted) (numberRules s o (modesBetween t s o) wanted) refl, e)
+  decide-is v e = rw (first-then (markRules s o wanted) (laterRules s o (modesBetween t s o) wanted) refl, e)
 
 -- ---- rules 5 to 7, by numbers
 

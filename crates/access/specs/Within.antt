@@ -17,9 +17,9 @@ use Rattle.access.specs.declared.Ruling.{Ruling}
 abbrev pub markRules : List ℕ → List ℕ → ℕ → List Clause
 markRules s o wanted = take 4 (rulesFor s o no-rule wanted)
 
--- 5 to 7 compare the two labels, and look at the pair's modes and the request
-abbrev pub numberRules : List ℕ → List ℕ → PairModes → ℕ → List Clause
-numberRules s o pair wanted = drop 4 (rulesFor s o pair wanted)
+-- 5 compares the two labels, 6 looks at the pair's modes and the request, 7 at nothing
+abbrev pub laterRules : List ℕ → List ℕ → PairModes → ℕ → List Clause
+laterRules s o pair wanted = drop 4 (rulesFor s o pair wanted)
 
 -- whether two labels are equal, by the numbers that were found for them: their bytes are compared where neither has one
 abbrev pub sameLabel : List ℕ → List ℕ → Found → Found → Bool
@@ -30,4 +30,4 @@ sameLabel s o Nothing Nothing = sameBytes s o
 
 -- what 5 to 7 say, and the subject's number, which override needs too
 unfoldable pub rulingOf : Table → List ℕ → List ℕ → ℕ → Ruling
-rulingOf t s o wanted = record { verdict = firstOf (numberRules s o (modesBetween t s o) wanted); subject = labelIn t s }
+rulingOf t s o wanted = record { verdict = firstOf (laterRules s o (modesBetween t s o) wanted); subject = labelIn t s }

@@ -66,7 +66,7 @@ fn is_mark(label: &[u8], mark: u8) -> bool
     label[0] == mark
 }
 
-// Rules 1 to 4, the first that applies: the only ones that look at what the bytes of a label are.
+// Rules 1 to 4, the first that applies: they know _ ^ and * by their bytes.
 fn by_marks(subject: &[u8], object: &[u8], wanted: u8) -> Verdict
     ensures { λ r. ⌜ r ≡ rules.firstOf (within.markRules (now (subject .entry)) (now (object .entry)) wanted) ⌝ }
 {
@@ -101,8 +101,8 @@ fn same_label(subject: &[u8], object: &[u8], s: Found, o: Found) -> bool
     i == j
 }
 
-// The rule search: where the rule of two labels that were sought stands. It is lent no label, so that only numbers are compared, and it is not
-// begun where a label has none. Who calls it has tested the store.
+// Where the rule of two labels that were sought stands. The rule search, `places::find_pair`, is handed two numbers and lent no label; it is not begun
+// where a label has no number. Who calls it has tested the store, and has the numbers from searches of it.
 fn find_rule(entries: &[u8], words: &[u64], subject: Found, object: Found) -> Found
     requires { ⌜ (modesFrom + ruleLimit ≤ length (now entries)) × (setsFrom ≤ length (now words)) × Counts (now words) ⌝ }
     requires { ⌜ (placeOf subject 0 < labelLimit) × (placeOf object 0 < labelLimit) ⌝ }

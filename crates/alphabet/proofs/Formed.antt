@@ -12,7 +12,7 @@ use borrow.Author.Tests.{eqb-true, eqb-false, ltb-true, ltb-false, lt-ltb, le-lt
 use Rattle.search.specs.Search.{entries}
 use Rattle.search.proofs.Laws.{no, and-both, and-assoc, all-at, all-by, entries-at}
 use Rattle.alphabet.specs.Alphabet.{labelByte, wellFormed, labelLongest, dash}
-use Rattle.alphabet.specs.Within.{part, labelBytes, passes}
+use Rattle.alphabet.specs.Within.{part, labelBytes, highBit}
 
 -- ---- bytes
 
@@ -25,11 +25,11 @@ tests-agree {s = s} t b h shown e = shown b refl (sym (entries-at s true 256 b h
 pub sum-fits : (v : ℕ) → v < 2 ^ 7 → v + 127 < 2 ^ 8
 sum-fits v h = omega arith
 
--- the smaller of two passes where both do
-smaller-passes : (x y : ℕ) → passes (min x y) ≡ (passes x && passes y)
-smaller-passes x y = by-test (passes x) (passes y) refl refl
+-- the smaller of two highBit where both do
+smaller-highBit : (x y : ℕ) → highBit (min x y) ≡ (highBit x && highBit y)
+smaller-highBit x y = by-test (highBit x) (highBit y) refl refl
   where
-    by-test : (s t : Bool) → passes x ≡ s → passes y ≡ t → passes (min x y) ≡ (s && t)
+    by-test : (s t : Bool) → highBit x ≡ s → highBit y ≡ t → highBit (min x y) ≡ (s && t)
     by-test true true e f = let h = ltb-true 127 x e in let i = ltb-true 127 y f in lt-ltb 127 (min x y) (omega arith)
     by-test true false e f = let i = ltb-false 127 y f in le-ltb 127 (min x y) (omega arith)
     by-test false t e f = let h = ltb-false 127 x e in le-ltb 127 (min x y) (omega arith)
@@ -65,7 +65,7 @@ module _ (l : List ℕ) where
   bytes-none a b h i = bytes-is a b i .1 (λ k j m. absurd (omega arith))
 
   -- one byte: what tells of it tells of the part that is it alone
-  pub told-one : (a n r : ℕ) → passes r ≡ labelByte (getD l a 0) → a + 1 ≡ n → n ≤ length l → passes r ≡ labelBytes l a n
+  pub told-one : (a n r : ℕ) → highBit r ≡ labelByte (getD l a 0) → a + 1 ≡ n → n ≤ length l → highBit r ≡ labelBytes l a n
   told-one a n r e z h =
       e ∙ same-truth _ _ (λ t. bytes-is a n h .1 (λ k i j. let q : k ≡ a = omega arith in rw q t), λ t. bytes-is a n h .0 t a (omega arith) (omega arith))
 
@@ -86,41 +86,41 @@ module _ (l : List ℕ) where
   -- the smaller of what tells of two such parts tells of both
   pub told-joined :
       (a b c d n x y r : ℕ) →
-      passes x ≡ labelBytes l a b →
-      passes y ≡ labelBytes l c d →
+      highBit x ≡ labelBytes l a b →
+      highBit y ≡ labelBytes l c d →
       r ≡ min x y →
       a ≤ c →
       c ≤ b →
       b ≤ d →
       d ≡ n →
       n ≤ length l →
-      passes r ≡ labelBytes l a n
-  told-joined a b c d n x y r e f g h i j z m = rw (g, ← z) (smaller-passes x y ∙ rw (e, f) (bytes-joined a b c d h i j (omega arith)))
+      highBit r ≡ labelBytes l a n
+  told-joined a b c d n x y r e f g h i j z m = rw (g, ← z) (smaller-highBit x y ∙ rw (e, f) (bytes-joined a b c d h i j (omega arith)))
 
   -- one byte more
   pub told-more :
       (a b n x y r : ℕ) →
-      passes x ≡ labelBytes l a b →
-      passes y ≡ labelByte (getD l b 0) →
+      highBit x ≡ labelBytes l a b →
+      highBit y ≡ labelByte (getD l b 0) →
       r ≡ min x y →
       a ≤ b →
       b + 1 ≡ n →
       n ≤ length l →
-      passes r ≡ labelBytes l a n
+      highBit r ≡ labelBytes l a n
   told-more a b n x y r e f g h z m = told-joined a b b n n x y r e (told-one b n y f z m) g h (omega arith) (omega arith) refl m
 
   -- one part more, where something else is told besides
   pub told-besides :
       (t : Bool) (a b d x y r : ℕ) →
-      passes x ≡ (t && labelBytes l a b) →
-      passes y ≡ labelBytes l b d →
+      highBit x ≡ (t && labelBytes l a b) →
+      highBit y ≡ labelBytes l b d →
       r ≡ min x y →
       a ≤ b →
       b ≤ d →
       d ≤ length l →
-      passes r ≡ (t && labelBytes l a d)
+      highBit r ≡ (t && labelBytes l a d)
   told-besides t a b d x y r e f g h i m =
-      rw g (smaller-passes x y ∙ rw (e, f) (sym (and-assoc t (labelBytes l a b) (labelBytes l b d)) ∙ ap (λ (u : Bool). t && u) (bytes-joined a b b d h (omega arith) i m)))
+      rw g (smaller-highBit x y ∙ rw (e, f) (sym (and-assoc t (labelBytes l a b) (labelBytes l b d)) ∙ ap (λ (u : Bool). t && u) (bytes-joined a b b d h (omega arith) i m)))
 
 -- ---- a label
 

@@ -12,8 +12,8 @@ use borrow.Author.Tests.{le-leb, ne-eqb}
 use Rattle.search.specs.Search.{all}
 use Rattle.search.proofs.Laws.{all-snoc}
 use Rattle.alphabet.specs.Alphabet.{labelByte, classOf, wellFormed, labelLongest, dash}
-use Rattle.alphabet.specs.Within.{run, part, judged, wordAt}
-use Rattle.alphabet.specs.declared.Word.the-variants as word
+use Rattle.alphabet.specs.Within.{run, part, withForm, labelFieldAt}
+use Rattle.alphabet.specs.declared.LabelField.the-variants as labelField
 use Rattle.alphabet.proofs.Laws.{class-label, reader-ends, reader-finds, field-some}
 
 -- what is joined is 0 exactly where both are
@@ -70,8 +70,8 @@ formed-by line start end joined h i so =
     by-test false false c = refl
 
 -- what the reader of words answers, by where the two runs end
-pub word-ends : (line : List ℕ) (from start : ℕ) → start ≡ from + run true (drop from line) → length line ≤ start → wordAt line from ≡ word.End
-word-ends line from start e h = ap (judged line) (reader-ends line from start e h)
+pub word-ends : (line : List ℕ) (from start : ℕ) → start ≡ from + run true (drop from line) → length line ≤ start → labelFieldAt line from ≡ labelField.End
+word-ends line from start e h = ap (withForm line) (reader-ends line from start e h)
 
 pub word-finds :
     (line : List ℕ) (from start end joined : ℕ) →
@@ -79,8 +79,8 @@ pub word-finds :
     end ≡ start + run false (drop start line) →
     start < length line →
     eqb joined 0 ≡ all labelByte (part line start end) →
-    wordAt line from ≡ word.Part start end ((eqb joined 0 && leb (end - start) labelLongest) && not (eqb (getD line start 0) dash))
+    labelFieldAt line from ≡ labelField.Part start end ((eqb joined 0 && leb (end - start) labelLongest) && not (eqb (getD line start 0) dash))
 word-finds line from start end joined e z h so =
     let found = reader-finds line from start end e z h in
     let field = field-some line from start end found in
-    ap (judged line) found ∙ ap (word.Part start end) (sym (formed-by line start end joined (field .starts) (field .ends) so))
+    ap (withForm line) found ∙ ap (labelField.Part start end) (sym (formed-by line start end joined (field .starts) (field .ends) so))

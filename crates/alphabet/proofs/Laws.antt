@@ -15,10 +15,10 @@ use Rattle.search.specs.declared.Found.{Found}
 use Rattle.search.specs.declared.Found.the-variants.{At, Nothing}
 use Rattle.search.proofs.Laws.{no, and-both, eqb-is, or-is, not-is, number-is, all-at, all-by, first-at, first-none, entries-length, entries-at}
 use Rattle.alphabet.specs.Alphabet.{isNewline, isBlank, labelByte, classBy, classOf, LabelByte, Blank, ByteClass, ByteClasses, wellFormed, LabelForm, onto, parts, hasByte, fields, labelLongest}
-use Rattle.alphabet.specs.Within.{classTable, run, startOf, endOf, fieldAt, part, judged, wordAt, faultOf, orTooLong}
+use Rattle.alphabet.specs.Within.{classTable, run, startOf, endOf, fieldAt, part, withForm, labelFieldAt, faultOf, orTooLong}
 use Rattle.alphabet.specs.declared.Field.{Field}
 use Rattle.alphabet.specs.declared.Field.the-variants.{Part, End}
-use Rattle.alphabet.specs.declared.Word.the-variants as word
+use Rattle.alphabet.specs.declared.LabelField.the-variants as labelField
 
 -- ---- the classes
 
@@ -448,13 +448,13 @@ unfolding fieldAt startOf endOf
 reader-finds line from start end e z h = rw (← e, lt-ltb start (length line) h, ← z)
 
 -- what the reader of words answers: the field that the other reader answers, with whether it is a label; and no word where there is no field
-pub word-some :
+pub label-field-some :
     (line : List ℕ) (from start end : ℕ) (formed : Bool) →
-    wordAt line from ≡ word.Part start end formed →
+    labelFieldAt line from ≡ labelField.Part start end formed →
     (fieldAt line from ≡ Part start end) × (wellFormed (part line start end) ≡ formed)
-word-some line from start end formed e = by-answer (fieldAt line from) e
+label-field-some line from start end formed e = by-answer (fieldAt line from) e
   where
-    by-answer : (f : Field) → judged line f ≡ word.Part start end formed → (f ≡ Part start end) × (wellFormed (part line start end) ≡ formed)
+    by-answer : (f : Field) → withForm line f ≡ labelField.Part start end formed → (f ≡ Part start end) × (wellFormed (part line start end) ≡ formed)
     by-answer (Part a b) q =
         let s : a ≡ start = cc in
         let z : b ≡ end = cc in
@@ -462,10 +462,10 @@ word-some line from start end formed e = by-answer (fieldAt line from) e
         rw (← s, ← z) (refl, t)
     by-answer End q = let z : _≡_ {A = ℕ} 0 1 = cc in absurd (omega arith)
 
-pub word-none : (line : List ℕ) (from : ℕ) → wordAt line from ≡ word.End → fieldAt line from ≡ End
-word-none line from e = by-answer (fieldAt line from) e
+pub label-field-none : (line : List ℕ) (from : ℕ) → labelFieldAt line from ≡ labelField.End → fieldAt line from ≡ End
+label-field-none line from e = by-answer (fieldAt line from) e
   where
-    by-answer : (f : Field) → judged line f ≡ word.End → f ≡ End
+    by-answer : (f : Field) → withForm line f ≡ labelField.End → f ≡ End
     by-answer (Part a b) q = let z : _≡_ {A = ℕ} 0 1 = cc in absurd (omega arith)
     by-answer End q = refl
 

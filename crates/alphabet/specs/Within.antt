@@ -11,8 +11,8 @@ use Rattle.search.specs.declared.Found.the-variants.{At, Nothing}
 use Rattle.alphabet.specs.Alphabet.{isBlank, classOf, labelByte, dash, labelLongest, wellFormed}
 use Rattle.alphabet.specs.declared.Field.{Field}
 use Rattle.alphabet.specs.declared.Field.the-variants.{Part, End}
-use Rattle.alphabet.specs.declared.Word.{Word}
-use Rattle.alphabet.specs.declared.Word.the-variants as word
+use Rattle.alphabet.specs.declared.LabelField.{LabelField}
+use Rattle.alphabet.specs.declared.LabelField.the-variants as labelField
 
 -- the classes of the 256 byte values, in order
 unfoldable pub classTable : List ℕ
@@ -47,12 +47,12 @@ abbrev pub part : List ℕ → ℕ → ℕ → List ℕ
 part line start end = take (end - start) (drop start line)
 
 -- a field with whether its bytes are a well-formed label, and the next one of a line from an index on
-abbrev pub judged : List ℕ → Field → Word
-judged line (Part start end) = word.Part start end (wellFormed (part line start end))
-judged line End = word.End
+abbrev pub withForm : List ℕ → Field → LabelField
+withForm line (Part start end) = labelField.Part start end (wellFormed (part line start end))
+withForm line End = labelField.End
 
-abbrev pub wordAt : List ℕ → ℕ → Word
-wordAt line from = judged line (fieldAt line from)
+abbrev pub labelFieldAt : List ℕ → ℕ → LabelField
+labelFieldAt line from = withForm line (fieldAt line from)
 
 -- the place of a label's first fault: 0 where it is empty or begins with a dash, the first byte that is no label byte, or 255 where it is too
 -- long and has no earlier fault; nothing where it is well formed
@@ -74,6 +74,6 @@ unfoldable pub labelBytes : List ℕ → ℕ → ℕ → Bool
 unfolding labelByte
 labelBytes l start end = all labelByte (part l start end)
 
--- whether the number by which a byte, or a part of a label, was judged says yes: 128 or more
-abbrev pub passes : ℕ → Bool
-passes r = ltb 127 r
+-- whether the number by which a byte, or a part of a label, was withForm says yes: 128 or more
+abbrev pub highBit : ℕ → Bool
+highBit r = ltb 127 r

@@ -1,10 +1,10 @@
 // The bytes of labels and lines: the class of each byte, what a well-formed label is, and the fields of a line (01, Labels and Rule text).
 use search::Found;
 ghost use mathlib.Core.Path.{_≡_};
-ghost use Prim.Native.Nat.{_+_, _≤_, min};
+ghost use Prim.Native.Nat.{_+_, _≤_};
 ghost use lib.ListN.{drop, getD, length};
 ghost use Rattle.alphabet.specs.Alphabet.{labelByte, classOf, ByteClasses, wellFormed, FieldsOfALine};
-ghost use Rattle.alphabet.specs.Within.{classTable, run, fieldAt, wordAt, faultOf, labelBytes, passes};
+ghost use Rattle.alphabet.specs.Within.{classTable, run, fieldAt, labelFieldAt, faultOf, labelBytes, highBit};
 
 // The bytes that have a part of their own.
 pub const NEWLINE: u8 = b'\n';
@@ -334,13 +334,15 @@ pub fn label_fault(label: &[u8]) -> Found
     Found::Nothing
 }
 
+// The first byte past those of labels.
 const DELETE: u8 = 127;
 
-// 128 or more exactly where a byte is a label byte: without a table or a branch, so that the compiler can take many bytes at a time. Of the low
+// 128 or more exactly where a byte is a label byte, class 0 of the table above: without the table or a branch, so that the compiler can take many bytes at a time. Of the low
 // seven bits v: v + 95 is 128 or more where v is 33 or more, and (v ^ c) + 127 where v is not c; ' and / differ in the bit 8 alone, so one test
 // serves both. b ^ 255 is 128 or more where b is below 128. `&` keeps the bit 128 where all six have it.
-fn judged(b: u8) -> u8
-    ensures { λ r. ⌜ passes r ≡ labelByte b ⌝ }
+// Which number it is beyond that is left open, here and in the four functions that follow: nobody reads it.
+fn label_high(b: u8) -> u8
+    ensures { λ r. ⌜ highBit r ≡ labelByte b ⌝ }
 {
     let v = b & 127;
     (v + 95)
@@ -351,33 +353,26 @@ fn judged(b: u8) -> u8
         & (b ^ 255)
 }
 
-// The smaller of two numbers: it is 128 or more where both are.
-fn smaller(a: u8, b: u8) -> u8
-    ensures { λ r. ⌜ r ≡ min a b ⌝ }
-{
-    if a < b { a } else { b }
-}
-
 // 128 or more exactly where the 4, 16 or 32 bytes of a label from an index on are label bytes. How many is a constant in each, so that the compiler
-// can take them at once. Who calls one has made sure that the label has that many.
+// can take them at once; the smaller of two numbers is 128 or more where both are. Who calls one has made sure that the label has that many.
 fn lowest_of_4(label: &[u8], at: usize) -> u8
     requires { ⌜ at + 4 ≤ length (now label) ⌝ }
-    ensures { λ r. ⌜ passes r ≡ labelBytes (now (label .entry)) at (at + 4) ⌝ }
+    ensures { λ r. ⌜ highBit r ≡ labelBytes (now (label .entry)) at (at + 4) ⌝ }
 {
-    smaller(
-        smaller(judged(label[at]), judged(label[at + 1])),
-        smaller(judged(label[at + 2]), judged(label[at + 3])),
+    search::smaller(
+        search::smaller(label_high(label[at]), label_high(label[at + 1])),
+        search::smaller(label_high(label[at + 2]), label_high(label[at + 3])),
     )
 }
 
 fn lowest_of_16(label: &[u8], at: usize) -> u8
     requires { ⌜ at + 16 ≤ length (now label) ⌝ }
-    ensures { λ r. ⌜ passes r ≡ labelBytes (now (label .entry)) at (at + 16) ⌝ }
+    ensures { λ r. ⌜ highBit r ≡ labelBytes (now (label .entry)) at (at + 16) ⌝ }
 {
     let mut low = 255;
     let mut i = 0;
     while i < 16 {
-        low = smaller(low, judged(label[at + i]));
+        low = search::smaller(low, label_high(label[at + i]));
         i += 1;
     }
     low
@@ -385,12 +380,12 @@ fn lowest_of_16(label: &[u8], at: usize) -> u8
 
 fn lowest_of_32(label: &[u8], at: usize) -> u8
     requires { ⌜ at + 32 ≤ length (now label) ⌝ }
-    ensures { λ r. ⌜ passes r ≡ labelBytes (now (label .entry)) at (at + 32) ⌝ }
+    ensures { λ r. ⌜ highBit r ≡ labelBytes (now (label .entry)) at (at + 32) ⌝ }
 {
     let mut low = 255;
     let mut i = 0;
     while i < 32 {
-        low = smaller(low, judged(label[at + i]));
+        low = search::smaller(low, label_high(label[at + i]));
         i += 1;
     }
     low
@@ -399,14 +394,14 @@ fn lowest_of_32(label: &[u8], at: usize) -> u8
 // 128 or more exactly where every byte of a label is a label byte. From 4 bytes on it looks at parts of one size; the last part ends where the label
 // does, and so parts may overlap.
 fn lowest(label: &[u8]) -> u8
-    ensures { λ r. ⌜ passes r ≡ labelBytes (now (label .entry)) 0 (length (now (label .entry))) ⌝ }
+    ensures { λ r. ⌜ highBit r ≡ labelBytes (now (label .entry)) 0 (length (now (label .entry))) ⌝ }
 {
     let n = label.len();
     if n < 4 {
         let mut low = 255;
         let mut i = 0;
         while i < n {
-            low = smaller(low, judged(label[i]));
+            low = search::smaller(low, label_high(label[i]));
             i += 1;
         }
         return low;
@@ -414,18 +409,18 @@ fn lowest(label: &[u8]) -> u8
     if n <= 16 {
         let second = search::second_four(n);
         let third = search::third_four(n);
-        return smaller(
-            smaller(lowest_of_4(label, 0), lowest_of_4(label, second)),
-            smaller(lowest_of_4(label, third), lowest_of_4(label, n - 4)),
+        return search::smaller(
+            search::smaller(lowest_of_4(label, 0), lowest_of_4(label, second)),
+            search::smaller(lowest_of_4(label, third), lowest_of_4(label, n - 4)),
         );
     }
     if n < 32 {
-        return smaller(lowest_of_16(label, 0), lowest_of_16(label, n - 16));
+        return search::smaller(lowest_of_16(label, 0), lowest_of_16(label, n - 16));
     }
     let mut low = lowest_of_32(label, n - 32);
     let mut i = 0;
     while i + 32 < n {
-        low = smaller(low, lowest_of_32(label, i));
+        low = search::smaller(low, lowest_of_32(label, i));
         i += 32;
     }
     low
@@ -485,7 +480,7 @@ pub fn next_field(line: &[u8], from: usize) -> Field
 }
 
 // A field with whether its bytes are a well-formed label; or that none is left.
-pub enum Word {
+pub enum LabelField {
     Part {
         start: usize,
         end: usize,
@@ -496,13 +491,13 @@ pub enum Word {
 
 // The next field of a line from an index on, judged as a label in the pass that finds its end. The classes of its bytes are joined by or, which
 // leaves the class of a label byte, 0, exactly where each has it. Who calls it lends the table that `classes` gives.
-pub fn next_word(classes: &[u8], line: &[u8], from: usize) -> Word
+pub fn next_label_field(classes: &[u8], line: &[u8], from: usize) -> LabelField
     requires { ⌜ now classes ≡ classTable ⌝ }
-    ensures { λ r. ⌜ r ≡ wordAt (now (line .entry)) from ⌝ }
+    ensures { λ r. ⌜ r ≡ labelFieldAt (now (line .entry)) from ⌝ }
 {
     let mut end = skip(classes, line, from, true);
     if line.len() <= end {
-        return Word::End;
+        return LabelField::End;
     }
     let start = end;
     let mut joined = IN_A_LABEL;
@@ -515,7 +510,7 @@ pub fn next_word(classes: &[u8], line: &[u8], from: usize) -> Word
         end += 1;
     }
     let formed = (joined == IN_A_LABEL) & (end - start <= LABEL_LONGEST) & (line[start] != DASH);
-    Word::Part { start, end, formed }
+    LabelField::Part { start, end, formed }
 }
 
 // The claim that the fields of a line are those that 01 says: the longest runs of bytes that are neither space nor tab.

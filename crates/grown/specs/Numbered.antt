@@ -17,7 +17,8 @@ use Rattle.rules.specs.Rules.{pairRule}
 use Rattle.listing.specs.Listing.{listAnswer, listOut}
 use Rattle.grown.specs.Relisted.{front}
 
--- it compares only numbers: other bytes as labels change nothing; and it isn't begun where a label has no number: whatever the rules are, it finds none
+-- it compares only numbers: other bytes as labels change nothing; and where a label has no number it finds none, whatever the rules are. (That it isn't begun there
+-- is in the code)
 pub record OnlyNumbers (t : Table) : Type 0 where
   pub other-labels : (ls : List (List ℕ)) (subject object : Found) → ruleBetween (withLabels t ls) subject object ≡ ruleBetween t subject object
   pub no-subject : (object : Found) → ruleBetween t Nothing object ≡ Nothing
@@ -38,7 +39,7 @@ pub record FindsListed (st : Store) (out s o : List ℕ) : Type 0 where
   -- it finds number k exactly where these two labels are listed under k, so under one number at most; and none exactly when there is none
   pub found : (k : ℕ) → (pairRule (tableOf st) s o ≡ At k) ↔ ListedAs st out k s o
   pub none : (pairRule (tableOf st) s o ≡ Nothing) ↔ Unlisted st out s o
-  -- nothing is missed where it isn't begun: an unknown label is listed neither as a subject nor as an object, with whatever other label
+  -- more than 02 asks: nothing is missed where it isn't begun: an unknown label is listed neither as a subject nor as an object, with whatever other label
   pub unknown-subject : labelIn (tableOf st) s ≡ Nothing → (x : List ℕ) → Unlisted st out s x
   pub unknown-object : labelIn (tableOf st) o ≡ Nothing → (x : List ℕ) → Unlisted st out x o
   -- the modes that rule 6 looks at are those that the listed line's access field says; and where no line is listed the pair has no rule

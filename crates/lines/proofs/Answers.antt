@@ -8,10 +8,10 @@ use lib.ListN.{length}
 use borrow.Author.Tests.{lt-ltb, le-ltb}
 use Rattle.search.specs.Bytes.{sameBytes}
 use Rattle.alphabet.specs.Alphabet.{wellFormed, lineLimit}
-use Rattle.alphabet.specs.Within.{fieldAt, part, wordAt}
+use Rattle.alphabet.specs.Within.{fieldAt, part, labelFieldAt}
 use Rattle.alphabet.specs.declared.Field.the-variants.{Part, End}
-use Rattle.alphabet.specs.declared.Word.the-variants as word
-use Rattle.alphabet.proofs.Laws.{field-some, word-some, word-none}
+use Rattle.alphabet.specs.declared.LabelField.the-variants as labelField
+use Rattle.alphabet.proofs.Laws.{field-some, label-field-some, label-field-none}
 use Rattle.modes.specs.Modes.{readModes, ruleLetters, changeLetters}
 use Rattle.modes.specs.declared.Access.{Access}
 use Rattle.modes.specs.declared.Access.the-variants.{Modes, Bad}
@@ -24,11 +24,11 @@ use Rattle.lines.specs.declared.ChangeLine.the-variants as changed
 
 pub record One (line : List ℕ) (a b : ℕ) (subject : Bool) : Type 0 where
   pub short : length line ≤ lineLimit
-  pub field : wordAt line 0 ≡ word.Part a b subject
+  pub field : labelFieldAt line 0 ≡ labelField.Part a b subject
 
 pub record Two (line : List ℕ) (a b : ℕ) (subject : Bool) (c d : ℕ) (object : Bool) : Type 0 where
   pub first : One line a b subject
-  pub field : wordAt line b ≡ word.Part c d object
+  pub field : labelFieldAt line b ≡ labelField.Part c d object
 
 pub record Three (line : List ℕ) (a b : ℕ) (subject : Bool) (c d : ℕ) (object : Bool) (e f : ℕ) : Type 0 where
   pub first : Two line a b subject c d object
@@ -41,14 +41,14 @@ pub record Four (line : List ℕ) (a b : ℕ) (subject : Bool) (c d : ℕ) (obje
 -- what the first two tell: where each stands, and whether it is well formed; and each stands inside the line
 module _ {line : List ℕ} {a b : ℕ} {subject : Bool} (w : One line a b subject) where
   first-is : (fieldAt line 0 ≡ Part a b) × (wellFormed (part line a b) ≡ subject)
-  first-is = word-some line 0 a b subject (w .field)
+  first-is = label-field-some line 0 a b subject (w .field)
 
   pub in-one : SpanInside line (span a b)
   in-one = inside (field-some line 0 a b (first-is .0))
 
 module _ {line : List ℕ} {a b : ℕ} {subject : Bool} {c d : ℕ} {object : Bool} where
   second-is : Two line a b subject c d object → (fieldAt line b ≡ Part c d) × (wellFormed (part line c d) ≡ object)
-  second-is w = word-some line b c d object (w .field)
+  second-is w = label-field-some line b c d object (w .field)
 
   pub in-two : Two line a b subject c d object → SpanInside line (span c d)
   in-two w = inside (field-some line b c d (second-is w .0))
@@ -68,15 +68,15 @@ module _ {A : Type 0} (k : Kind A) where
   short-line : (line : List ℕ) → length line ≤ lineLimit → lineAt k line ≡ firstAt k line (fieldAt line 0)
   short-line line short = rw (le-ltb lineLimit (length line) short)
 
-  pub no-field : (line : List ℕ) → length line ≤ lineLimit → wordAt line 0 ≡ word.End → lineAt k line ≡ k .none
-  no-field line short e = short-line line short ∙ ap (firstAt k line) (word-none line 0 e)
+  pub no-field : (line : List ℕ) → length line ≤ lineLimit → labelFieldAt line 0 ≡ labelField.End → lineAt k line ≡ k .none
+  no-field line short e = short-line line short ∙ ap (firstAt k line) (label-field-none line 0 e)
 
   module _ {line : List ℕ} {a b : ℕ} {subject : Bool} where
     one-field : One line a b subject → lineAt k line ≡ secondAt k line a b (fieldAt line b)
     one-field w = short-line line (w .short) ∙ ap (firstAt k line) (first-is w .0)
 
-    pub only-one : One line a b subject → wordAt line b ≡ word.End → lineAt k line ≡ k .refuse 2
-    only-one w e = one-field w ∙ ap (secondAt k line a b) (word-none line b e)
+    pub only-one : One line a b subject → labelFieldAt line b ≡ labelField.End → lineAt k line ≡ k .refuse 2
+    only-one w e = one-field w ∙ ap (secondAt k line a b) (label-field-none line b e)
 
     two-fields : {c d : ℕ} {object : Bool} → Two line a b subject c d object → lineAt k line ≡ k .more line (pair a b c d) d
     two-fields w = one-field (w .first) ∙ ap (secondAt k line a b) (second-is w .0)

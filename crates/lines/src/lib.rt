@@ -1,7 +1,7 @@
 // Rule lines and change-rule writes, judged by their bytes alone: refusals 1 to 5, before any table is looked at (01, Rule text and Single
 // writes). Each field is judged where it stands in the line.
 use alphabet::Field;
-use alphabet::Word;
+use alphabet::LabelField;
 use modes::Access;
 ghost use mathlib.Core.Path.{_≡_};
 ghost use Rattle.lines.specs.Lines.{ruleOf, changeOf};
@@ -42,19 +42,19 @@ pub fn rule_line(line: &[u8]) -> RuleLine
         return RuleLine::Refused(refusals::TOO_LONG);
     }
     let classes = alphabet::classes();
-    let Word::Part {
+    let LabelField::Part {
         start: a,
         end: b,
-        formed: subject,
-    } = alphabet::next_word(&classes, line, 0)
+        formed: subject_formed,
+    } = alphabet::next_label_field(&classes, line, 0)
     else {
         return RuleLine::Skipped;
     };
-    let Word::Part {
+    let LabelField::Part {
         start: c,
         end: d,
-        formed: object,
-    } = alphabet::next_word(&classes, line, b)
+        formed: object_formed,
+    } = alphabet::next_label_field(&classes, line, b)
     else {
         return RuleLine::Refused(refusals::WRONG_FIELDS);
     };
@@ -64,10 +64,10 @@ pub fn rule_line(line: &[u8]) -> RuleLine
     let Field::End = alphabet::next_field_in(&classes, line, y) else {
         return RuleLine::Refused(refusals::WRONG_FIELDS);
     };
-    if !subject {
+    if !subject_formed {
         return RuleLine::Refused(refusals::BAD_LABEL);
     }
-    if !object {
+    if !object_formed {
         return RuleLine::Refused(refusals::BAD_LABEL);
     }
     let Access::Modes(m) = modes::read_modes(&line[x..y], modes::RULE_LETTERS, true) else {
@@ -95,19 +95,19 @@ pub fn change_line(line: &[u8]) -> ChangeLine
         return ChangeLine::Refused(refusals::TOO_LONG);
     }
     let classes = alphabet::classes();
-    let Word::Part {
+    let LabelField::Part {
         start: a,
         end: b,
-        formed: subject,
-    } = alphabet::next_word(&classes, line, 0)
+        formed: subject_formed,
+    } = alphabet::next_label_field(&classes, line, 0)
     else {
         return ChangeLine::Refused(refusals::WRONG_FIELDS);
     };
-    let Word::Part {
+    let LabelField::Part {
         start: c,
         end: d,
-        formed: object,
-    } = alphabet::next_word(&classes, line, b)
+        formed: object_formed,
+    } = alphabet::next_label_field(&classes, line, b)
     else {
         return ChangeLine::Refused(refusals::WRONG_FIELDS);
     };
@@ -120,10 +120,10 @@ pub fn change_line(line: &[u8]) -> ChangeLine
     let Field::End = alphabet::next_field_in(&classes, line, h) else {
         return ChangeLine::Refused(refusals::WRONG_FIELDS);
     };
-    if !subject {
+    if !subject_formed {
         return ChangeLine::Refused(refusals::BAD_LABEL);
     }
-    if !object {
+    if !object_formed {
         return ChangeLine::Refused(refusals::BAD_LABEL);
     }
     let Access::Modes(allow) = modes::read_modes(&line[e..f], modes::CHANGE_LETTERS, true) else {

@@ -65,14 +65,14 @@ pub enum Access {
 }
 
 // The bit of a letter where a byte is that letter, and 0 where not.
-fn pick(small: u8, entry: Letter) -> u8
+fn bit_where(small: u8, entry: Letter) -> u8
     ensures { λ r. ⌜ r ≡ bitWhere small entry ⌝ }
 {
     if small == entry.letter { entry.bit } else { 0 }
 }
 
-// The bit of a letter in either case, or 0 for any other byte. A byte with the bit SMALL is a letter exactly where the byte is that letter in one case
-// or the other. All letters are looked at, with no exit, since which one it is can't be guessed.
+// The bit of a letter in either case, or 0 for any other byte. A byte, with the bit SMALL set, is a small letter exactly where the byte is that letter in
+// one case or the other. The whole table is searched, with no exit, since which letter it is can't be guessed.
 fn bit_of(b: u8) -> u8
     ensures { λ r. ⌜ r ≡ bitOf b ⌝ }
 {
@@ -80,7 +80,7 @@ fn bit_of(b: u8) -> u8
     let mut bit = 0;
     let mut i = 0;
     while i < COUNT {
-        bit = bit | pick(small, LETTERS[i]);
+        bit = bit | bit_where(small, LETTERS[i]);
         i += 1;
     }
     bit

@@ -2,11 +2,11 @@
 use mathlib.Core.Path.{_≡_, refl, sym, ap, _∙_}
 use mathlib.Core.Bool.{Bool, true, false, cond}
 use mathlib.Core.List.{List, [], _∷_, _++_}
-use Prim.Native.Nat.{ℕ, zero, suc, _+_, _*_, _-_, _<_, _≤_}
+use Prim.Native.Nat.{ℕ, zero, suc, _+_, _*_, _-_, _<_, _≤_, min}
 use native.Mathlib.Numerals.{add-one}
 use native.Mathlib.Omega.{arith}
 use lib.Dec.{eqb, ltb}
-use borrow.Author.Tests.{eq-eqb, ltb-true, ltb-false, lt-ltb, le-ltb}
+use borrow.Author.Tests.{eq-eqb, ltb-true, ltb-false}
 use lib.ListN.{length, take, drop, getD, length-drop}
 use lib.Seq.{take-take, getD-take, getD-drop, length-take-le, drop-cons}
 use Rattle.search.specs.Bytes.{sameBytes}
@@ -140,7 +140,7 @@ module _ {A : Type 0} (p : A → Bool) (f : ℕ → A) (last : ℕ) where
   lowest n = placeOf (first p (listed f n)) last
 
   -- one place more
-  pub lowest-more : (i low here : ℕ) → i ≤ last → low ≡ lowest i → here ≡ cond (p (f i)) i last → cond (ltb low here) low here ≡ lowest (i + 1)
+  pub lowest-more : (i low here : ℕ) → i ≤ last → low ≡ lowest i → here ≡ cond (p (f i)) i last → min low here ≡ lowest (i + 1)
   lowest-more i low here inside is next = by-case (first p (listed f i)) refl (p (f i)) refl
     where
       more : first p (listed f (i + 1)) ≡ first p (listed f i ++ (f i ∷ []))
@@ -153,19 +153,19 @@ module _ {A : Type 0} (p : A → Bool) (f : ℕ → A) (last : ℕ) where
       above k h true e = omega arith
       above k h false e = omega arith
 
-      by-case : (r : Found) → first p (listed f i) ≡ r → (b : Bool) → p (f i) ≡ b → cond (ltb low here) low here ≡ lowest (i + 1)
+      by-case : (r : Found) → first p (listed f i) ≡ r → (b : Bool) → p (f i) ≡ b → min low here ≡ lowest (i + 1)
       by-case (At k) e b q =
           let low-is : low ≡ k = is ∙ ap (λ (r : Found). placeOf r last) e in
           let below = found-below p f i k e in
-          let t = lt-ltb low here (omega (arith, above k below b (here-is b q))) in
+          let t : min low here ≡ low = omega (arith, above k below b (here-is b q)) in
           rw (t, more ∙ first-append p (listed f i) (f i ∷ []) k e) low-is
       by-case Nothing e true q =
           let low-is : low ≡ last = is ∙ ap (λ (r : Found). placeOf r last) e in
-          let t = le-ltb low here (omega (arith, here-is true q)) in
+          let t : min low here ≡ here = omega (arith, here-is true q) in
           rw (t, more ∙ first-last p (listed f i) (f i) e q, entries-length f i) (here-is true q)
       by-case Nothing e false q =
           let low-is : low ≡ last = is ∙ ap (λ (r : Found). placeOf r last) e in
-          let t = le-ltb low here (omega (arith, here-is false q)) in
+          let t : min low here ≡ here = omega (arith, here-is false q) in
           rw (t, more ∙ first-snoc p (listed f i) (f i) q ∙ e) (here-is false q)
 
   -- no place before it passes, of those that were looked at

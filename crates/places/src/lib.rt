@@ -60,9 +60,8 @@ fn next_short(labels: &[u8], from: usize, count: usize, n: usize, last: u8) -> u
     i
 }
 
-// The first of two places from an index on that has this word at that offset, or one past them. Each place has a test and an exit of its own:
-// the processor guesses wrong once for a label, and not twice as where a test tells which eight and another which of them. Who calls it has
-// tested the store.
+// The first of two places from an index on that has this word at that offset, or one past them. Each place has a test and an exit of its own, so
+// that the processor guesses wrong once for a label. Who calls it has tested the store.
 fn of_two(labels: &[u8], from: usize, offset: usize, word: u32) -> usize
     requires { ⌜ (length (now labels) ≡ labelsSize) × (from + 2 ≤ labelLimit) × (offset + 4 ≤ placeSize) ⌝ }
     ensures { λ r. ⌜ (from ≤ r) × (r ≤ from + 2) × NoWord (now (labels .entry)) offset word from r ⌝ }
@@ -172,7 +171,7 @@ pub fn find_label(labels: &[u8], count: usize, label: &[u8]) -> Found
     find_besides(labels, count, label, count)
 }
 
-// The same, where a search for another label, often the same one, has been made: the place that it answered is compared first, and not again. Who
+// The same, where the other label of a question, which is often the same, has been sought: the place that it answered is compared first, and not again. Who
 // calls it has tested the store and has that answer.
 pub fn find_label_hinted(labels: &[u8], count: usize, label: &[u8], hint: Found) -> Found
     requires { ⌜ (length (now labels) ≡ labelsSize) × (count ≤ labelLimit) × FirstHeld (now labels) count hint ⌝ }
@@ -186,13 +185,6 @@ pub fn find_label_hinted(labels: &[u8], count: usize, label: &[u8], hint: Found)
         return hint;
     }
     find_besides(labels, count, label, k)
-}
-
-// The smaller of two numbers.
-fn smaller(a: u8, b: u8) -> u8
-    ensures { λ r. ⌜ r ≡ cond (ltb a b) a b ⌝ }
-{
-    if a < b { a } else { b }
 }
 
 // A place where it holds what is sought, and what stands for none where not.
@@ -213,7 +205,7 @@ fn lowest_pair(entries: &[u8], from: usize, subject: u8, object: u8) -> u8
     while i < BLOCK {
         let at = from + i;
         let holds = (entries[at] == subject) & (entries[store::OBJECTS_FROM + at] == object);
-        low = smaller(low, place_if(holds, i as u8));
+        low = search::smaller(low, place_if(holds, i as u8));
         i += 1;
     }
     low

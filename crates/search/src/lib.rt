@@ -2,7 +2,7 @@
 // numbers held to a limit.
 // Nothing here knows what a label or a rule is.
 ghost use mathlib.Core.Path.{_≡_};
-ghost use Prim.Native.Nat.{_+_, _≤_};
+ghost use Prim.Native.Nat.{_+_, _≤_, min};
 ghost use lib.Dec.{ltb};
 ghost use lib.ListN.{length, take};
 ghost use Rattle.search.specs.Search.{all};
@@ -24,7 +24,7 @@ pub fn word_at(bytes: &[u8], at: usize) -> u32
     low + bytes[at + 2] as u32 * 65536 + bytes[at + 3] as u32 * 16777216
 }
 
-// Where the second begins of the four fours that cover a string of 4 to 16 bytes, whatever its length; the first and the last begin at 0 and
+// Where the second begins of the four fours that cover a string of 4 to 16 bytes; the first and the last begin at 0 and
 // at n - 4. Who calls it has made sure that there are four bytes.
 pub fn second_four(n: usize) -> usize
     requires { ⌜ 4 ≤ n ⌝ }
@@ -66,7 +66,7 @@ fn words_differ(a: &[u8], b: &[u8], i: usize, j: usize) -> bool
 }
 
 // Whether two byte strings are equal, all bytes. Most that differ do so in their length, their first byte or one of four words. These overlap:
-// of 4 to 16 bytes they are all, so that no branch depends on how many there are.
+// of 4 to 16 bytes they are all, so that within these no branch depends on how many there are.
 pub fn same_bytes(a: &[u8], b: &[u8]) -> bool
     ensures { λ r. ⌜ r ≡ sameBytes (now (a .entry)) (now (b .entry)) ⌝ }
 {
@@ -90,6 +90,13 @@ pub fn same_bytes(a: &[u8], b: &[u8]) -> bool
         return true;
     }
     all_same(a, b)
+}
+
+// The smaller of two numbers.
+pub fn smaller(a: u8, b: u8) -> u8
+    ensures { λ r. ⌜ r ≡ min a b ⌝ }
+{
+    if a < b { a } else { b }
 }
 
 // Writes `src` over `dst` from index `at`. Who calls it has made sure that it fits.

@@ -15,6 +15,7 @@ abbrev pub newModes : ℕ → Setting → ℕ
 newModes old (Rule m) = m
 newModes old (Change a d) = changed old a d
 
+-- what becomes of it, by the place
 abbrev pub settingAt : Table → List ℕ → List ℕ → Setting → Place → Judged
 settingAt t s o x (p.Refused n) = is-refused n
 settingAt t s o x (p.At spot) = is-accepted (withPairAt t s o spot (newModes (modesOfRule (spot .rule) (t .rules)) x))

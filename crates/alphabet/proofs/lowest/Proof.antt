@@ -4,20 +4,20 @@ use mathlib.Core.Path.{_≡_, refl, sym, _∙_}
 use mathlib.Core.Bool.{_&&_, and-comm, and-true}
 use native.Mathlib.Omega.{arith}
 use lib.ListN.{length}
-use Rattle.alphabet.specs.Within.{labelBytes, passes}
+use Rattle.alphabet.specs.Within.{labelBytes, highBit}
 use Rattle.alphabet.proofs.Formed.{bytes-none, bytes-joined, told-joined, told-more, told-besides}
 use Rattle.alphabet.proofs.lowest.Statement.{statement}
 use Rattle.alphabet.proofs.lowest.Tie as tie
 
 abbrev Inv-loop : tie.InvT-loop
-Inv-loop label n low₀ i₀ low i = (i ≤ length label) × (passes low ≡ labelBytes label 0 i)
+Inv-loop label n low₀ i₀ low i = (i ≤ length label) × (highBit low ≡ labelBytes label 0 i)
 
 abbrev μ-loop : tie.MeasureT-loop
 μ-loop label n low₀ i₀ low i = length label - i
 
 abbrev Inv-loop2 : tie.InvT-loop2
 Inv-loop2 label n low₀ i₀ low i =
-    (i < length label) × (passes low ≡ (labelBytes label (length label - 32) (length label - 32 + 32) && labelBytes label 0 i))
+    (i < length label) × (highBit low ≡ (labelBytes label (length label - 32) (length label - 32 + 32) && labelBytes label 0 i))
 
 abbrev μ-loop2 : tie.MeasureT-loop2
 μ-loop2 label n low₀ i₀ low i = length label - i
@@ -34,11 +34,11 @@ fours c = omega (arith, c .before .second-four .ensures, c .third-four .ensures)
 loop-holds : tie.Need-loop-holds Inv-loop μ-loop Inv-loop2 μ-loop2
 loop-holds c = (omega arith, sym (bytes-none _ _ _ (omega arith) (omega arith)))
 
-shared-slice-read-judged : tie.Need-shared-slice-read-judged Inv-loop μ-loop Inv-loop2 μ-loop2
-shared-slice-read-judged c = omega arith
+shared-slice-read-label-high : tie.Need-shared-slice-read-label-high Inv-loop μ-loop Inv-loop2 μ-loop2
+shared-slice-read-label-high c = omega arith
 
-judged-requires : tie.Need-judged-requires Inv-loop μ-loop Inv-loop2 μ-loop2
-judged-requires c κs = tt
+label-high-requires : tie.Need-label-high-requires Inv-loop μ-loop Inv-loop2 μ-loop2
+label-high-requires c κs = tt
 
 smaller-requires : tie.Need-smaller-requires Inv-loop μ-loop Inv-loop2 μ-loop2
 smaller-requires c κs = tt
@@ -52,7 +52,7 @@ loop-less c = omega arith
 loop-again : tie.Need-loop-again Inv-loop μ-loop Inv-loop2 μ-loop2
 loop-again c =
     let l = c .before .before .before .before in
-    (omega arith, told-more _ _ _ _ _ _ _ (l .loop .inv .1) (c .before .judged .ensures) (c .smaller .ensures) (omega arith) refl (omega arith))
+    (omega arith, told-more _ _ _ _ _ _ _ (l .loop .inv .1) (c .before .label-high .ensures) (c .smaller .ensures) (omega arith) refl (omega arith))
 
 returns : tie.Need-returns Inv-loop μ-loop Inv-loop2 μ-loop2
 returns c =
@@ -170,8 +170,8 @@ lowest-spec =
     Inv-loop2
     μ-loop2
     loop-holds
-    shared-slice-read-judged
-    judged-requires
+    shared-slice-read-label-high
+    label-high-requires
     smaller-requires
     add-i
     loop-less

@@ -13,10 +13,10 @@ use Rattle.lines.proofs.rule_line.Tie as tie
 
 -- the fields that were read
 one : (c : tie.After-a) → One (c .before .before .before .before .before .before .before .args .line .now) (c .a .given .0 .0) (c .a .given .0 .1 .0) (c .a .given .0 .1 .1 .0)
-one c = record { short = c .before .before .before .before .before .if1 .left; field = sym (c .before .before .next-word .ensures) ∙ c .a .given .1 }
+one c = record { short = c .before .before .before .before .before .if1 .left; field = sym (c .before .before .next-label-field .ensures) ∙ c .a .given .1 }
 
 two : (c : tie.After-c) → Two (c .before .before .before .before .before .before .before .before .before .before .before .before .args .line .now) (c .before .before .before .before .before .a .given .0 .0) (c .before .before .before .before .before .a .given .0 .1 .0) (c .before .before .before .before .before .a .given .0 .1 .1 .0) (c .c .given .0 .0) (c .c .given .0 .1 .0) (c .c .given .0 .1 .1 .0)
-two c = record { first = one (c .before .before .before .before .before); field = sym (c .before .before .next-word2 .ensures) ∙ c .c .given .1 }
+two c = record { first = one (c .before .before .before .before .before); field = sym (c .before .before .next-label-field2 .ensures) ∙ c .c .given .1 }
 
 three :
     (c : tie.After-x) →
@@ -32,11 +32,11 @@ returns c = rule-meets _ _ (too-long ruleKind (c .before .before .args .line .no
 classes-requires : tie.Need-classes-requires
 classes-requires c κs = search needs
 
-slice-aggregate-next-word : tie.Need-slice-aggregate-next-word
-slice-aggregate-next-word c = search needs
+slice-aggregate-next-label-field : tie.Need-slice-aggregate-next-label-field
+slice-aggregate-next-label-field c = search needs
 
-next-word-requires : tie.Need-next-word-requires
-next-word-requires c κs = search needs
+next-label-field-requires : tie.Need-next-label-field-requires
+next-label-field-requires c κs = search needs
 
 enum-known-a : tie.Need-enum-known-a
 enum-known-a c = search needs
@@ -45,13 +45,13 @@ enum-told : tie.Need-enum-told
 enum-told c = search needs
 
 returns-2 : tie.Need-returns-2
-returns-2 c = rule-meets _ _ (no-field ruleKind (c .before .before .before .before .before .before .before .args .line .now) (c .before .before .before .before .before .if1 .left) (sym (c .before .before .next-word .ensures) ∙ c .enum-told .given .1))
+returns-2 c = rule-meets _ _ (no-field ruleKind (c .before .before .before .before .before .before .before .args .line .now) (c .before .before .before .before .before .if1 .left) (sym (c .before .before .next-label-field .ensures) ∙ c .enum-told .given .1))
 
-slice-aggregate-next-word-2 : tie.Need-slice-aggregate-next-word-2
-slice-aggregate-next-word-2 c = search needs
+slice-aggregate-next-label-field-2 : tie.Need-slice-aggregate-next-label-field-2
+slice-aggregate-next-label-field-2 c = search needs
 
-next-word-requires-2 : tie.Need-next-word-requires-2
-next-word-requires-2 c κs = search needs
+next-label-field-requires-2 : tie.Need-next-label-field-requires-2
+next-label-field-requires-2 c κs = search needs
 
 enum-known-c : tie.Need-enum-known-c
 enum-known-c c = search needs
@@ -60,7 +60,7 @@ enum-told-2 : tie.Need-enum-told-2
 enum-told-2 c = search needs
 
 returns-3 : tie.Need-returns-3
-returns-3 c = rule-meets _ _ (only-one ruleKind (one (c .before .before .before .before .before)) (sym (c .before .before .next-word2 .ensures) ∙ c .enum-told2 .given .1))
+returns-3 c = rule-meets _ _ (only-one ruleKind (one (c .before .before .before .before .before)) (sym (c .before .before .next-label-field2 .ensures) ∙ c .enum-told2 .given .1))
 
 slice-aggregate-next-field-in : tie.Need-slice-aggregate-next-field-in
 slice-aggregate-next-field-in c = search needs
@@ -156,13 +156,13 @@ rule-line-spec =
     (tie.spec
     returns
     classes-requires
-    slice-aggregate-next-word
-    next-word-requires
+    slice-aggregate-next-label-field
+    next-label-field-requires
     enum-known-a
     enum-told
     returns-2
-    slice-aggregate-next-word-2
-    next-word-requires-2
+    slice-aggregate-next-label-field-2
+    next-label-field-requires-2
     enum-known-c
     enum-told-2
     returns-3

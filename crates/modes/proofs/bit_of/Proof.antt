@@ -21,14 +21,14 @@ abbrev μ-loop : tie.MeasureT-loop
 loop-holds : tie.Need-loop-holds Inv-loop μ-loop
 loop-holds c = (omega arith, picked-all (c .args .b) (omega arith))
 
-mul-pick : tie.Need-mul-pick Inv-loop μ-loop
-mul-pick c = omega arith
+mul-bit-where : tie.Need-mul-bit-where Inv-loop μ-loop
+mul-bit-where c = omega arith
 
-array-copy-out-pick : tie.Need-array-copy-out-pick Inv-loop μ-loop
-array-copy-out-pick c = omega arith
+array-copy-out-bit-where : tie.Need-array-copy-out-bit-where Inv-loop μ-loop
+array-copy-out-bit-where c = omega arith
 
-pick-requires : tie.Need-pick-requires Inv-loop μ-loop
-pick-requires c κs = search needs
+bit-where-requires : tie.Need-bit-where-requires Inv-loop μ-loop
+bit-where-requires c κs = search needs
 
 add-i : tie.Need-add-i Inv-loop μ-loop
 add-i c = omega arith
@@ -42,7 +42,7 @@ loop-again c =
     let small = bitOr (l .before .args .b) 32 in
     let i = l .loop .i in (
       omega arith,
-      ap (λ (x : ℕ). foldl (picked small) (bitOr (l .loop .bit) x) (drop (i + 1) letters)) (c .pick .ensures) ∙ sym (picked-next small (l .loop .bit) i (omega arith)) ∙ l .loop .inv .1,
+      ap (λ (x : ℕ). foldl (picked small) (bitOr (l .loop .bit) x) (drop (i + 1) letters)) (c .bit-where .ensures) ∙ sym (picked-next small (l .loop .bit) i (omega arith)) ∙ l .loop .inv .1,
     )
 
 returns : tie.Need-returns Inv-loop μ-loop
@@ -57,9 +57,9 @@ bit-of-spec =
     Inv-loop
     μ-loop
     loop-holds
-    mul-pick
-    array-copy-out-pick
-    pick-requires
+    mul-bit-where
+    array-copy-out-bit-where
+    bit-where-requires
     add-i
     loop-less
     loop-again

@@ -63,38 +63,38 @@ enum-known-said c = search needs
 enum-known-said-2 : tie.Need-enum-known-said-2
 enum-known-said-2 c = search needs
 
-sub-place : tie.Need-sub-place
-sub-place c =
+sub-set-modes : tie.Need-sub-set-modes
+sub-set-modes c =
     let i = inside (c .before .before .before) in
     omega (arith, i .0 .starts)
 
-part-place-start : tie.Need-part-place-start
-part-place-start c =
+part-set-modes-start : tie.Need-part-set-modes-start
+part-set-modes-start c =
     let i = inside (c .before .before .before) in
     omega (arith, i .0 .starts)
 
-part-place-end : tie.Need-part-place-end
-part-place-end c =
+part-set-modes-end : tie.Need-part-set-modes-end
+part-set-modes-end c =
     let i = inside (c .before .before .before) in
     omega (arith, i .0 .ends)
 
-sub-place-2 : tie.Need-sub-place-2
-sub-place-2 c =
+sub-set-modes-2 : tie.Need-sub-set-modes-2
+sub-set-modes-2 c =
     let i = inside (c .before .before .before .before) in
     omega (arith, i .1 .starts)
 
-part-place-start-2 : tie.Need-part-place-start-2
-part-place-start-2 c =
+part-set-modes-start-2 : tie.Need-part-set-modes-start-2
+part-set-modes-start-2 c =
     let i = inside (c .before .before .before .before) in
     omega (arith, i .1 .starts)
 
-part-place-end-2 : tie.Need-part-place-end-2
-part-place-end-2 c =
+part-set-modes-end-2 : tie.Need-part-set-modes-end-2
+part-set-modes-end-2 c =
     let i = inside (c .before .before .before .before) in
     omega (arith, i .1 .ends)
 
-place-requires : tie.Need-place-requires
-place-requires c κs =
+set-modes-requires : tie.Need-set-modes-requires
+set-modes-requires c κs =
     let f = formed (c .before .before .before .before .before) in
     (c .before .before .before .before .before .before .before .before .before .before .before .before .before .pre, formed-short _ (f .subject), formed-short _ (f .object))
 
@@ -130,8 +130,8 @@ unfolding lineOutcome lineStored
 returns-3 c =
     let k = c .before .before .before .before .before .before .before .before .before .before .before .before .before .before in
     let e = by-place k in
-    let q = sym (c .before .before .before .before .before .before .before .before .place .ensures .0) ∙ c .enum-told2 .given .1 in
-    (rw e (done-accepted (T k) (subject k) (object k) (x.Rule (modes k)) (placing (T k) (subject k) (object k)) q), rw e (c .before .before .before .before .before .before .before .before .place .ensures .1))
+    let q = sym (c .before .before .before .before .before .before .before .before .set-modes .ensures .0) ∙ c .enum-told2 .given .1 in
+    (rw e (done-accepted (T k) (subject k) (object k) (x.Rule (modes k)) (placing (T k) (subject k) (object k)) q), rw e (c .before .before .before .before .before .before .before .before .set-modes .ensures .1))
 
 same-length-4 : tie.Need-same-length-4
 same-length-4 c = search needs
@@ -147,8 +147,8 @@ unfolding lineOutcome lineStored
 returns-4 c =
     let k = c .before .before .before .before .before .before .before .before .before .before .before .before .before .before .before in
     let e = by-place k in
-    let q = sym (c .before .before .before .before .before .before .before .before .before .place .ensures .0) ∙ c .before .done .given .1 in
-    (rw e (done-refused (T k) (subject k) (object k) (x.Rule (modes k)) (placing (T k) (subject k) (object k)) q), rw e (c .before .before .before .before .before .before .before .before .before .place .ensures .1))
+    let q = sym (c .before .before .before .before .before .before .before .before .before .set-modes .ensures .0) ∙ c .before .done .given .1 in
+    (rw e (done-refused (T k) (subject k) (object k) (x.Rule (modes k)) (placing (T k) (subject k) (object k)) q), rw e (c .before .before .before .before .before .before .before .before .before .set-modes .ensures .1))
 
 pub write-line-spec : {M : Type 1} → statement M
 write-line-spec =
@@ -158,13 +158,13 @@ write-line-spec =
     enum-told
     enum-known-said
     enum-known-said-2
-    sub-place
-    part-place-start
-    part-place-end
-    sub-place-2
-    part-place-start-2
-    part-place-end-2
-    place-requires
+    sub-set-modes
+    part-set-modes-start
+    part-set-modes-end
+    sub-set-modes-2
+    part-set-modes-start-2
+    part-set-modes-end-2
+    set-modes-requires
     enum-told-2
     enum-known-done
     returns

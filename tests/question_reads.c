@@ -1,4 +1,4 @@
-/* Puts questions to the static library, for tests/comparisons, which runs this under a tool that writes down every read. On standard input there are
+/* Puts questions to the static library, for tests/question_reads, which runs this under a tool that writes down every read. On standard input there are
  * records, each a call with all that is lent to it; the answer to each is a line. Before and after a call a byte of `mark` is written, so that its
  * reads can be told from the others.
  *

@@ -1,4 +1,4 @@
--- `alphabet::next_word` meets its contract: what was passed and the run that is left make up the field, and the joined classes tell of the bytes
+-- `alphabet::next_label_field` meets its contract: what was passed and the run that is left make up the field, and the joined classes tell of the bytes
 -- that were passed. Assumes nothing.
 use Prim.Native.Nat.{_+_, _-_, _≤_}
 use mathlib.Core.Path.{_≡_, refl, sym, _∙_}
@@ -14,8 +14,8 @@ use Rattle.alphabet.specs.Alphabet.{labelByte}
 use Rattle.alphabet.specs.Within.{run, part}
 use Rattle.alphabet.proofs.Laws.{blank-told, run-stop, run-more, run-past}
 use Rattle.alphabet.proofs.Joined.{joined-none, joined-more, word-ends, word-finds}
-use Rattle.alphabet.proofs.next_word.Statement.{statement}
-use Rattle.alphabet.proofs.next_word.Tie as tie
+use Rattle.alphabet.proofs.next_label_field.Statement.{statement}
+use Rattle.alphabet.proofs.next_label_field.Tie as tie
 
 abbrev Inv-loop : tie.InvT-loop
 Inv-loop classes line from end₀ start joined₀ end joined =
@@ -76,8 +76,8 @@ returns-2 c =
     let stop = stopped (c .before) in
     sym (word-finds _ _ _ _ (l .loop .joined) (l .before .before .skip .ensures) (omega arith) (l .before .if1 .left) (i .3))
 
-pub next-word-spec : {M : Type 1} → statement M
-next-word-spec =
+pub next-label-field-spec : {M : Type 1} → statement M
+next-label-field-spec =
     tie.close
     (tie.spec
     Inv-loop

@@ -1,4 +1,4 @@
--- `alphabet::judged` meets its contract: no sum passes 255, and the 256 values are computed. Assumes nothing.
+-- `alphabet::label_high` meets its contract: no sum highBit 255, and the 256 values are computed. Assumes nothing.
 use mathlib.Core.Path.{refl}
 use Prim.Native.Nat.{_<_, _^_}
 use native.Mathlib.Omega.{arith}
@@ -6,8 +6,8 @@ use lib.Bits.{bitAnd, and-le-r, or-lt, xor-lt}
 use Rattle.search.specs.Search.{entries}
 use Rattle.alphabet.specs.Alphabet.{labelByte}
 use Rattle.alphabet.proofs.Formed.{sum-fits, tests-agree}
-use Rattle.alphabet.proofs.judged.Statement.{statement}
-use Rattle.alphabet.proofs.judged.Tie as tie
+use Rattle.alphabet.proofs.label_high.Statement.{statement}
+use Rattle.alphabet.proofs.label_high.Tie as tie
 
 low : (c : tie.Start) → bitAnd (c .args .b) 127 < 2 ^ 7
 low c = omega (arith, and-le-r (c .args .b) 127)
@@ -31,6 +31,6 @@ returns : tie.Need-returns
 unfolding labelByte entries
 returns c = tests-agree labelByte (c .args .b) (c .fits .b .fits) (λ b is agrees. rw is agrees) refl
 
-pub judged-spec : {M : Type 1} → statement M
-judged-spec =
+pub label-high-spec : {M : Type 1} → statement M
+label-high-spec =
     tie.close (tie.spec add-result add-result-2 add-result-3 add-result-4 add-result-5 returns)
