@@ -38,9 +38,6 @@ noLetter = record { letter = 0; bit = 0 }
 abbrev pub letterAt : ℕ → Letter
 letterAt i = getD letters i noLetter
 
-pub letter-rule : (i : ℕ) → i < 6 → soundLetter (letterAt i) ≡ true
-letter-rule i h = all-at soundLetter noLetter letters letters-sound i h
-
 -- what the rule says of one letter, as facts
 pub sound-parts : (l : Letter) → soundLetter l ≡ true → (97 ≤ l .letter) × (l .letter ≤ 122) × (0 < l .bit) × (l .bit < 64)
 sound-parts l e =
