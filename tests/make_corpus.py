@@ -3275,6 +3275,30 @@ def searches_bytes():
         in_table(s, labels, strangers)
     s.store()
 
+    s = Script("searches_bytes_between", "02, Two: labels of 32 to 129 bytes that differ in a single byte: one is known, and each other is not.", True)
+    for length in (32, 33, 40, 48, 64, 65, 128, 129):
+        base = (b"ClimateProbe_StoreNorth_" * 11)[:length]
+        s.say("%d bytes" % length)
+        s.fresh()
+        s.line(base + b" Air r", None)
+        s.line(b"Air " + base + b" w", None)
+        s.ask(base, b"Air", b"r", "granted 6")
+        for at in range(length):
+            stranger = base[:at] + bytes([other_byte(base[at], 2)]) + base[at + 1:]
+            s.ask(stranger, b"Air", b"r", "denied 7")
+            s.ask(b"Air", stranger, b"w", "denied 7")
+    s.say("A stored label that is no label: it differs from the one that is asked for by 128 in one byte.")
+    for length in (4, 8, 16, 17):
+        base = b"ClimateProbe_Stor"[:length]
+        s.fresh()
+        s.line(base + b" Air r", None)
+        for at in range(length):
+            s.poke("labels", 5 * 256 + 1 + at, bytes([base[at] + 128]))
+            s.ask(base, b"Air", b"r", "denied 7")
+            s.poke("labels", 5 * 256 + 1 + at, base[at:at + 1])
+        s.ask(base, b"Air", b"r", "granted 6")
+    s.store()
+
     s = Script("searches_bytes_long", "02, Two: the same with 254 and 255 bytes: each single byte in a label that is not known, and some in labels that are.", True)
     for length in (254, 255):
         base = (b"ClimateProbe_StoreNorth_" * 11)[:length]
@@ -3321,7 +3345,34 @@ def searches_lengths():
     s.store()
 
 
+def searches_formed():
+    s = Script("searches_formed", "The label check of a question: one byte that is no label byte, at each place of labels of many lengths; and each byte at some places.", True)
+    bad = [34, 39, 47, 92, 127, 128, 255, 32, 9, 10, 0, 31, 162, 167, 175, 220, 173]
+    s.fresh()
+    for length in list(range(1, 37)) + [48, 63, 64, 65, 96, 97, 128, 129, 192, 225, 254, 255]:
+        whole = (b"ClimateProbe_StoreNorth_" * 11)[:length]
+        s.say("%d bytes" % length)
+        s.ask(whole, b"_", b"r", "granted 3")
+        s.ask(b"^", whole, b"r", "granted 2")
+        for at in range(length):
+            label = whole[:at] + bytes([bad[(at + length) % len(bad)]]) + whole[at + 1:]
+            s.ask(label, b"_", b"r", "refused 3")
+            if at % 3 == length % 3:
+                s.ask(b"^", label, b"r", "refused 3")
+        s.ask(b"-" + whole[1:], b"_", b"r", "refused 3")
+    for length, at in ((1, 0), (3, 1), (4, 3), (8, 4), (12, 7), (16, 9), (17, 16), (31, 15), (33, 32), (100, 70), (255, 254)):
+        whole = (b"ClimateProbe_StoreNorth_" * 11)[:length]
+        s.say("each byte at place %d of %d" % (at, length))
+        for byte in range(256):
+            fine = 33 <= byte <= 126 and byte not in (34, 39, 47, 92) and not (at == 0 and byte == 45)
+            # alone it may be * or ^, which have a rule of their own
+            answer = {b"*": "denied 1", b"^": "granted 2"}.get(bytes([byte]) if length == 1 else b"", "granted 3") if fine else "refused 3"
+            s.ask(whole[:at] + bytes([byte]) + whole[at + 1:], b"_", b"r", answer)
+    s.store()
+
+
 def searches():
+    searches_formed()
     searches_same()
     searches_unknown()
     searches_pairs()

@@ -20,13 +20,14 @@ use Rattle.store.specs.Layout.{Store, tableOf, undamagedOf}
 use Rattle.store.specs.Pairs.{has-modes, no-rule, ruleBetween, modesFound, modesBetween}
 use Rattle.store.proofs.FirstCounts.{first-counts}
 use Rattle.rules.specs.Rules.{pairRule}
+use Rattle.access.proofs.Laws.{same-numbers}
 use Rattle.rule_text.specs.RuleText.{lineOf, textOf, longestRule}
 use Rattle.rule_text.proofs.Laws.{line-fields, label-word, modes-word}
 use Rattle.listing.specs.Listing.{ruleText, listAnswer, listOut}
 use Rattle.output.specs.declared.Output.{Output}
 use Rattle.grown.specs.Sane.{Sane}
 use Rattle.grown.specs.Relisted.{front}
-use Rattle.grown.specs.Numbered.{OnlyNumbers, ListedAs, Unlisted, FindsListed}
+use Rattle.grown.specs.Numbered.{OnlyNumbers, EqualNumbers, ListedAs, Unlisted, FindsListed}
 use Rattle.grown.proofs.Sane.{stored-known}
 use Rattle.grown.proofs.ByNumber.{short, put, past}
 
@@ -34,7 +35,8 @@ apart : (k : ℕ) → At k ≡ Nothing → ⊥
 apart k e = let z : _≡_ {A = ℕ} 0 1 = cc in omega arith
 
 pub only-numbers : (t : Table) → OnlyNumbers t
-only-numbers t = record { other-labels = same; no-subject = λ g. refl; no-object = none }
+unfolding modesBetween
+only-numbers t = record { other-labels = same; no-subject = λ g. refl; no-object = none; by-it = λ s o. refl }
   where
     same : (ls : List (List ℕ)) (f g : Found) → ruleBetween (withLabels t ls) f g ≡ ruleBetween t f g
     same ls (At i) (At j) = refl
@@ -44,6 +46,14 @@ only-numbers t = record { other-labels = same; no-subject = λ g. refl; no-objec
     none : (f : Found) → ruleBetween t f Nothing ≡ Nothing
     none (At i) = refl
     none Nothing = refl
+
+pub equal-numbers : (t : Table) (s o : List ℕ) → EqualNumbers t s o
+equal-numbers t s o =
+    record {
+      both-known = λ i j p q. sym (same-numbers (t .labels) s o (At i) (At j) (sym p) (sym q));
+      subject-known = λ i p q. sym (same-numbers (t .labels) s o (At i) Nothing (sym p) (sym q));
+      object-known = λ j p q. sym (same-numbers (t .labels) s o Nothing (At j) (sym p) (sym q));
+    }
 
 -- two texts with one newline behind each
 same-line : (a b : List ℕ) → (a ++ (newline ∷ [])) ≡ (b ++ (newline ∷ [])) → a ≡ b

@@ -1,10 +1,12 @@
 -- 02, Two: 'The rule search compares only numbers, and isn't begun where either label is unknown. Prove that in any table grown from a fresh one it
 -- finds the rule that the listing writes with these two labels, and none exactly when there is none.' The listing is what its call writes. Assumes nothing.
 use Prim.Native.Nat.{ℕ}
-use mathlib.Core.Bool.{true}
+use mathlib.Core.Bool.{true, false}
 use mathlib.Core.Path.{_≡_}
 use mathlib.Core.List.{List, [], _∷_, _++_}
 use mathlib.Core.Logic.{_↔_}
+use lib.Dec.{eqb}
+use Rattle.search.specs.Bytes.{sameBytes}
 use Rattle.search.specs.declared.Found.{Found}
 use Rattle.search.specs.declared.Found.the-variants.{At, Nothing}
 use Rattle.alphabet.specs.Alphabet.{newline, fields}
@@ -12,7 +14,7 @@ use Rattle.modes.specs.Modes.{readModes, ruleLetters}
 use Rattle.modes.specs.declared.Access.the-variants.{Modes}
 use Rattle.store.specs.Table.{Table, withLabels, labelIn}
 use Rattle.store.specs.Layout.{Store, tableOf}
-use Rattle.store.specs.Pairs.{has-modes, no-rule, ruleBetween, modesBetween}
+use Rattle.store.specs.Pairs.{has-modes, no-rule, ruleBetween, modesFound, modesBetween}
 use Rattle.rules.specs.Rules.{pairRule}
 use Rattle.listing.specs.Listing.{listAnswer, listOut}
 use Rattle.grown.specs.Relisted.{front}
@@ -23,6 +25,14 @@ pub record OnlyNumbers (t : Table) : Type 0 where
   pub other-labels : (ls : List (List ℕ)) (subject object : Found) → ruleBetween (withLabels t ls) subject object ≡ ruleBetween t subject object
   pub no-subject : (object : Found) → ruleBetween t Nothing object ≡ Nothing
   pub no-object : (subject : Found) → ruleBetween t subject Nothing ≡ Nothing
+  -- rule 6 goes by what it finds, of the first numbers of the two labels
+  pub by-it : (s o : List ℕ) → modesBetween t s o ≡ modesFound (t .rules) (pairRule t s o)
+
+-- rule 5 needs no bytes but where both labels are unknown: two known ones are equal exactly where their numbers are, and a known one equals no unknown one
+pub record EqualNumbers (t : Table) (s o : List ℕ) : Type 0 where
+  pub both-known : (i j : ℕ) → labelIn t s ≡ At i → labelIn t o ≡ At j → sameBytes s o ≡ eqb i j
+  pub subject-known : (i : ℕ) → labelIn t s ≡ At i → labelIn t o ≡ Nothing → sameBytes s o ≡ false
+  pub object-known : (j : ℕ) → labelIn t s ≡ Nothing → labelIn t o ≡ At j → sameBytes s o ≡ false
 
 -- asked for rule number k, the listing call puts at the front of its buffer a line with these two labels: its fields are they and an access field
 pub record ListedAs (st : Store) (out : List ℕ) (k : ℕ) (s o : List ℕ) : Type 0 where

@@ -20,7 +20,7 @@ ghost use Rattle.grown.specs.Sane.{Sane};
 ghost use Rattle.grown.specs.Pairs.{SoundTable, Triple, ChangeText, hasRoom, isAccepted, SetsPair};
 ghost use Rattle.grown.specs.Order.{Asks, ByFirst};
 ghost use Rattle.grown.specs.Relisted.{LoadsBack, ListedByNumber};
-ghost use Rattle.grown.specs.Numbered.{OnlyNumbers, FindsListed};
+ghost use Rattle.grown.specs.Numbered.{OnlyNumbers, EqualNumbers, FindsListed};
 
 // What holds of every grown table.
 pub fn grown_is_sane()
@@ -83,10 +83,12 @@ pub fn demand_2_listed_by_number_loads_back()
     ensures { λ _. ⌜ ((st : Store) → undamagedOf st ≡ true → ListedByNumber st) ⌝ }
 {}
 
-// 02, Two: the rule search compares only numbers, and isn't begun where a label has none. In a grown table it finds the rule that the listing call
+// 02, Two: the rule search compares only numbers, and finds nothing where a label has none; rule 5 can go by the numbers too, but where both labels are
+// unknown. In a grown table the search finds the rule that the listing call
 // writes with these two labels, into any buffer that is long enough for every rule, and none exactly when there is none.
 pub fn number_search_finds_the_listed_rule()
     ensures { λ _. ⌜ ((t : Table) → OnlyNumbers t) ⌝ }
+    ensures { λ _. ⌜ ((t : Table) (s o : List ℕ) → EqualNumbers t s o) ⌝ }
     ensures { λ _. ⌜ ((st : Store) (out s o : List ℕ) → undamagedOf st ≡ true → Grown (tableOf st) → longestRule ≤ length out →
         FindsListed st out s o) ⌝ }
 {}
