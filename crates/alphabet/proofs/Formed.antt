@@ -25,7 +25,7 @@ tests-agree {s = s} t b h shown e = shown b refl (sym (entries-at s true 256 b h
 pub sum-fits : (v : ℕ) → v < 2 ^ 7 → v + 127 < 2 ^ 8
 sum-fits v h = omega arith
 
--- the smaller of two highBit where both do
+-- the smaller of two numbers has the bit where both have it
 smaller-highBit : (x y : ℕ) → highBit (min x y) ≡ (highBit x && highBit y)
 smaller-highBit x y = by-test (highBit x) (highBit y) refl refl
   where

@@ -69,18 +69,18 @@ formed-by line start end joined h i so =
     by-test false true c = refl
     by-test false false c = refl
 
--- what the reader of words answers, by where the two runs end
-pub word-ends : (line : List ℕ) (from start : ℕ) → start ≡ from + run true (drop from line) → length line ≤ start → labelFieldAt line from ≡ labelField.End
-word-ends line from start e h = ap (withForm line) (reader-ends line from start e h)
+-- what the reader of label fields answers, by where the two runs end
+pub label-field-ends : (line : List ℕ) (from start : ℕ) → start ≡ from + run true (drop from line) → length line ≤ start → labelFieldAt line from ≡ labelField.End
+label-field-ends line from start e h = ap (withForm line) (reader-ends line from start e h)
 
-pub word-finds :
+pub label-field-finds :
     (line : List ℕ) (from start end joined : ℕ) →
     start ≡ from + run true (drop from line) →
     end ≡ start + run false (drop start line) →
     start < length line →
     eqb joined 0 ≡ all labelByte (part line start end) →
     labelFieldAt line from ≡ labelField.Part start end ((eqb joined 0 && leb (end - start) labelLongest) && not (eqb (getD line start 0) dash))
-word-finds line from start end joined e z h so =
+label-field-finds line from start end joined e z h so =
     let found = reader-finds line from start end e z h in
     let field = field-some line from start end found in
     ap (withForm line) found ∙ ap (labelField.Part start end) (sym (formed-by line start end joined (field .starts) (field .ends) so))

@@ -74,6 +74,6 @@ unfoldable pub labelBytes : List ℕ → ℕ → ℕ → Bool
 unfolding labelByte
 labelBytes l start end = all labelByte (part l start end)
 
--- whether the number by which a byte, or a part of a label, was withForm says yes: 128 or more
+-- whether the number that tells of a byte, or of a part of a label, says yes: it has the bit 128
 abbrev pub highBit : ℕ → Bool
 highBit r = ltb 127 r

@@ -337,10 +337,10 @@ pub fn label_fault(label: &[u8]) -> Found
 // The first byte past those of labels.
 const DELETE: u8 = 127;
 
-// 128 or more exactly where a byte is a label byte, class 0 of the table above: without the table or a branch, so that the compiler can take many bytes at a time. Of the low
-// seven bits v: v + 95 is 128 or more where v is 33 or more, and (v ^ c) + 127 where v is not c; ' and / differ in the bit 8 alone, so one test
-// serves both. b ^ 255 is 128 or more where b is below 128. `&` keeps the bit 128 where all six have it.
-// Which number it is beyond that is left open, here and in the four functions that follow: nobody reads it.
+// 128 or more exactly where a byte is a label byte, class 0 of the table above: without the table or a branch, so that the compiler can take many
+// bytes at a time. Of the low seven bits v: v + 95 is 128 or more where v is 33 or more, and (v ^ c) + 127 where v is not c; ' and / differ in the
+// bit 8 alone, so one test serves both. b ^ 255 is 128 or more where b is below 128. `&` keeps the bit 128 where all six have it. Which number it
+// is beyond that is left open, here and in the four functions that follow: nobody reads it.
 fn label_high(b: u8) -> u8
     ensures { λ r. ⌜ highBit r ≡ labelByte b ⌝ }
 {

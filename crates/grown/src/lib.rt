@@ -84,8 +84,8 @@ pub fn demand_2_listed_by_number_loads_back()
 {}
 
 // 02, Two: the rule search compares only numbers, and finds nothing where a label has none; rule 5 can go by the numbers too, but where both labels are
-// unknown. In a grown table the search finds the rule that the listing call
-// writes with these two labels, into any buffer that is long enough for every rule, and none exactly when there is none.
+// unknown. In a grown table the search finds the rule that the listing call writes with these two labels, into any buffer that is long enough for
+// every rule, and none exactly when there is none.
 pub fn number_search_finds_the_listed_rule()
     ensures { λ _. ⌜ ((t : Table) → OnlyNumbers t) ⌝ }
     ensures { λ _. ⌜ ((t : Table) (s o : List ℕ) → EqualNumbers t s o) ⌝ }

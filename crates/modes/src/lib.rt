@@ -71,8 +71,8 @@ fn bit_where(small: u8, entry: Letter) -> u8
     if small == entry.letter { entry.bit } else { 0 }
 }
 
-// The bit of a letter in either case, or 0 for any other byte. A byte, with the bit SMALL set, is a small letter exactly where the byte is that letter in
-// one case or the other. The whole table is searched, with no exit, since which letter it is can't be guessed.
+// The bit of a letter in either case, or 0 for any other byte. A byte, with the bit SMALL set, is a small letter exactly where the byte is that
+// letter in one case or the other. The whole table is searched, with no exit, since which letter it is can't be guessed.
 fn bit_of(b: u8) -> u8
     ensures { λ r. ⌜ r ≡ bitOf b ⌝ }
 {

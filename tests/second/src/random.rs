@@ -1326,12 +1326,16 @@ impl Generator<'_> {
             object = subject.clone();
         }
         let request = self.request();
+        self.emit_question(&subject, &object, &request);
+    }
+
+    fn emit_question(&mut self, subject: &[u8], object: &[u8], request: &[u8]) {
         let capability = self.random.below(2);
         self.emit(&format!(
             "question {} {} {} {capability}",
-            write_hex(&subject),
-            write_hex(&object),
-            write_hex(&request)
+            write_hex(subject),
+            write_hex(object),
+            write_hex(request)
         ));
     }
 
@@ -1543,13 +1547,7 @@ impl Generator<'_> {
                 }
             }
         }
-        let capability = self.random.below(2);
-        self.emit(&format!(
-            "question {} {} {} {capability}",
-            write_hex(&subject),
-            write_hex(&object),
-            write_hex(&request)
-        ));
+        self.emit_question(&subject, &object, &request);
     }
 
     /// A question, or now and then another call that seeks a label.

@@ -1,4 +1,4 @@
--- `alphabet::label_high` meets its contract: no sum highBit 255, and the 256 values are computed. Assumes nothing.
+-- `alphabet::label_high` meets its contract: no sum is over 255, and the 256 values are computed. Assumes nothing.
 use mathlib.Core.Path.{refl}
 use Prim.Native.Nat.{_<_, _^_}
 use native.Mathlib.Omega.{arith}

@@ -13,7 +13,7 @@ use Rattle.search.specs.Search.{all}
 use Rattle.alphabet.specs.Alphabet.{labelByte}
 use Rattle.alphabet.specs.Within.{run, part}
 use Rattle.alphabet.proofs.Laws.{blank-told, run-stop, run-more, run-past}
-use Rattle.alphabet.proofs.Joined.{joined-none, joined-more, word-ends, word-finds}
+use Rattle.alphabet.proofs.Joined.{joined-none, joined-more, label-field-ends, label-field-finds}
 use Rattle.alphabet.proofs.next_label_field.Statement.{statement}
 use Rattle.alphabet.proofs.next_label_field.Tie as tie
 
@@ -28,7 +28,7 @@ skip-requires : tie.Need-skip-requires Inv-loop μ-loop
 skip-requires c κs = c .before .before .pre
 
 returns : tie.Need-returns Inv-loop μ-loop
-returns c = sym (word-ends _ _ _ (c .before .skip .ensures) (c .if1 .taken))
+returns c = sym (label-field-ends _ _ _ (c .before .skip .ensures) (c .if1 .taken))
 
 loop-holds : tie.Need-loop-holds Inv-loop μ-loop
 loop-holds c = (omega arith, omega arith, refl, joined-none (c .before .before .before .before .args .line .now) (c .before .skip .result))
@@ -74,7 +74,7 @@ returns-2 c =
     let l = c .before .before in
     let i = l .loop .inv in
     let stop = stopped (c .before) in
-    sym (word-finds _ _ _ _ (l .loop .joined) (l .before .before .skip .ensures) (omega arith) (l .before .if1 .left) (i .3))
+    sym (label-field-finds _ _ _ _ (l .loop .joined) (l .before .before .skip .ensures) (omega arith) (l .before .if1 .left) (i .3))
 
 pub next-label-field-spec : {M : Type 1} → statement M
 next-label-field-spec =
