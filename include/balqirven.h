@@ -16,6 +16,14 @@
  * the tables, the line, the loader and every lent buffer are as they were. Otherwise `number` is 0, but for a question, where it is the
  * rule's number. What a field of an answer does not speak of is 0.
  *
+ * Where the bad byte is. bq_written, bq_counted, bq_mapped, bq_decision and bq_report have a `place`: beside 3, where the first bad byte of the first
+ * bad label stands, as an index from 0. In a line or a write of fields it counts from the first byte of that line or write, blanks too; where the
+ * label itself is lent, from the label's first byte; in a question it is in the subject or, where that is well formed, in the object, and which of the
+ * two it is the answer does not say. At the place stands a byte that no label may have; or a dash that the label begins with; or, in a label that is
+ * too long and has no earlier fault, its byte 255, the first too many. An empty label has place 0. So beside 3 the place 0 is the first byte, or
+ * where it would be; beside every other number, and where nothing is refused, `place` is 0 and says nothing. bq_length has no place: the two calls of
+ * old records tell none.
+ *
  *    0  BQ_DAMAGED                the lent state has a part not of its full size, a count or length over its limit, a number that names
  *                                 no stored label, or an unknown mode or category bit. It comes before every other number.
  *    1  BQ_TOO_LONG               a line or a write has over 600 bytes
@@ -53,8 +61,8 @@ extern "C" {
 /* The version of this interface. MINOR is raised where something is added (a call, a name, a refusal number) and an older host need not
  * change; MAJOR, with MINOR at 0 again, where a struct, a size, a parameter or what a call answers changes, so that each host has to be
  * looked at and compiled again. */
-#define BQ_VERSION_MAJOR 1
-#define BQ_VERSION_MINOR 1
+#define BQ_VERSION_MAJOR 2
+#define BQ_VERSION_MINOR 0
 
 /* The sizes of the lent parts, in elements: bytes, bytes, 64-bit words, bytes. */
 #define BQ_LABELS 16384
@@ -96,19 +104,20 @@ enum bq_refusal {
     BQ_NOT_IN_A_RECORD = 15
 };
 
+/* The report: lines read, accepted, skipped and refused; the number (from 1) and the reason of the first refused line, 0 and 0 where
+ * none is. Each is the true number or 4294967295, whichever is smaller. `place` belongs to that first refused line: where its reason is 3, the
+ * place of its first bad byte, from 0, in the line, however the text was cut; 0 for any other reason, and where no line is refused. */
+typedef struct {
+    uint32_t lines, accepted, skipped, refused, first;
+    uint8_t reason;
+    size_t place;
+} bq_report;
+
 /* The loader between two calls: how many bytes of the line under way are kept (601: it has over 600), and the report so far. */
 typedef struct {
     size_t kept;
-    uint32_t lines, accepted, skipped, refused, first;
-    uint8_t reason;
+    bq_report report;
 } bq_loader;
-
-/* The report: lines read, accepted, skipped and refused; the number (from 1) and the reason of the first refused line, 0 and 0 where
- * none is. Each is the true number or 4294967295, whichever is smaller. */
-typedef struct {
-    uint32_t lines, accepted, skipped, refused, first;
-    uint8_t reason;
-} bq_report;
 
 /* A record of a run: a label number, a level and a set, of any content. */
 typedef struct {
@@ -119,6 +128,7 @@ typedef struct {
 typedef struct {
     bool refused;
     uint8_t number;
+    size_t place;
 } bq_written;
 
 /* What revoke answers: how many rules have that subject. */
@@ -126,6 +136,7 @@ typedef struct {
     bool refused;
     uint8_t number;
     size_t count;
+    size_t place;
 } bq_counted;
 
 /* What a piece answers: the loader for the next call. On a refusal it is the one that was handed in. */
@@ -160,6 +171,7 @@ typedef struct {
     uint8_t level;
     uint32_t count; /* how many categories are in the set */
     uint64_t set;
+    size_t place;
 } bq_mapped;
 
 /* What a look-up by level and set answers. */
@@ -177,6 +189,7 @@ typedef struct {
     uint8_t kind;
     uint8_t number;
     bool bringup;
+    size_t place;
 } bq_decision;
 
 /* Where a label stands in the lent label store: `length` bytes from labels + start on. */

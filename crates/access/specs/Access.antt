@@ -8,11 +8,11 @@ use lib.Dec.{eqb}
 use Rattle.search.specs.Search.{first}
 use Rattle.search.specs.declared.Found.{Found}
 use Rattle.search.specs.declared.Found.the-variants.{At, Nothing}
-use Rattle.alphabet.specs.Alphabet.{wellFormed}
+use Rattle.alphabet.specs.Alphabet.{wellFormed, badByteOfTwo}
 use Rattle.modes.specs.Modes.{readModes, requestLetters}
 use Rattle.modes.specs.declared.Access.{Access}
 use Rattle.modes.specs.declared.Access.the-variants.{Modes, Bad}
-use Rattle.refusals.specs.Refusals.{damaged, badLabel, badRequest}
+use Rattle.refusals.specs.Refusals.{damaged, badLabelAt, badRequest}
 use Rattle.store.specs.Table.{Table, labelIn}
 use Rattle.store.specs.Layout.{Store, tableOf, undamagedOf}
 use Rattle.access.specs.SevenRules.{firstOf, sevenRules}
@@ -60,12 +60,12 @@ abbrev pub byRequest : Table → List ℕ → List ℕ → Bool → Access → A
 byRequest t s o capable (Modes wanted) = decide t s o wanted capable
 byRequest t s o capable Bad = Refused badRequest
 
--- 3 a label is not well formed
+-- 3 a label is not well formed, with the place of the first bad byte: in the subject or, where that is well formed, in the object
 unfoldable pub answer : Table → List ℕ → List ℕ → List ℕ → Bool → Answer
 answer t s o request capable =
     cond (wellFormed s && wellFormed o)
     (cond (eqb (length request) 0) (Refused badRequest) (byRequest t s o capable (readModes requestLetters false request)))
-    (Refused badLabel)
+    (Refused (badLabelAt (badByteOfTwo s o)))
 
 -- of a lent state: 0 before every other where it is damaged
 unfoldable pub questionOf : Store → List ℕ → List ℕ → List ℕ → Bool → Answer

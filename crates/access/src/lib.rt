@@ -1,6 +1,7 @@
 // The access check (01: a question): the seven published rules in their order, and the override capability (CAP_MAC_OVERRIDE with onlycap).
 // A question changes nothing.
 use modes::Access;
+use refusals::Refusal;
 use search::Found;
 ghost use mathlib.Core.Path.{_≡_};
 ghost use mathlib.Core.List.{[], _∷_};
@@ -37,12 +38,12 @@ pub struct Ruling {
 }
 
 // The answer to a question: granted, with the rule's number and whether rule 6 found the bring-up mode; denied, with the rule that denies;
-// granted by override, with the rule that would have denied; refused, with its number.
+// granted by override, with the rule that would have denied; refused, with its number and place.
 pub enum Answer {
     Granted(u8, bool),
     Denied(Denial),
     Override(Denial),
-    Refused(u8),
+    Refused(Refusal),
 }
 
 // The labels that have a rule of their own: _ ^ *.
@@ -269,10 +270,10 @@ pub fn question(
         return Answer::Refused(refusals::DAMAGED);
     }
     if !alphabet::well_formed(subject) {
-        return Answer::Refused(refusals::BAD_LABEL);
+        return Answer::Refused(alphabet::bad_label(subject));
     }
     if !alphabet::well_formed(object) {
-        return Answer::Refused(refusals::BAD_LABEL);
+        return Answer::Refused(alphabet::bad_label(object));
     }
     if request.len() == 0 {
         return Answer::Refused(refusals::BAD_REQUEST);

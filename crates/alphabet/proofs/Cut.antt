@@ -17,7 +17,7 @@ is-blank b e = blank-is b .0 e
 no-blank : (b : ℕ) → isBlank b ≡ false → Blank b → ⊥
 no-blank b e h = no (sym e ∙ blank-is b .1 h)
 
-unblank : (b : ℕ) → (Blank b → ⊥) → isBlank b ≡ false
+pub unblank : (b : ℕ) → (Blank b → ⊥) → isBlank b ≡ false
 unblank b h = not-so (isBlank b) (λ e. h (is-blank b e))
 
 -- lists of blanks and of other bytes, by their first byte
@@ -63,7 +63,7 @@ ends-with (y ∷ ys) o h = is-blank y (not-false (isBlank y) o)
 cut-begins : (b : ℕ) {l : List ℕ} {fs : List (List ℕ)} → (Blank b → ⊥) → opens l ≡ false → Cut l fs → Cut (b ∷ l) ((b ∷ []) ∷ fs)
 cut-begins b {l} {fs} x o c = Cut.field [] (b ∷ []) l fs no-bytes (omega arith) (one-byte b x) (λ h. ends-with l o (omega arith)) c
 
-fields-cut-line : (line : List ℕ) → Cut line (fields line)
+pub fields-cut-line : (line : List ℕ) → Cut line (fields line)
 fields-cut-line [] = rw no-fields (Cut.blanks [] no-bytes)
 fields-cut-line (b ∷ bs) = rw (fields-cons b bs) (by-test (isBlank b) refl (opens bs) refl (fields-cut-line bs))
   where
@@ -86,7 +86,7 @@ fields-of-blanks (b ∷ bs) l h =
     fields-cons b (bs ++ l)
     ∙ rw (blank-is b .1 (h zero (omega arith))) (fields-of-blanks bs l (λ k i. h (suc k) (suc-le-suc i)))
 
-closed : (rest : List ℕ) → (1 ≤ length rest → Blank (getD rest 0 0)) → opens rest ≡ false
+pub closed : (rest : List ℕ) → (1 ≤ length rest → Blank (getD rest 0 0)) → opens rest ≡ false
 closed [] ends = refl
 closed (y ∷ ys) ends = rw (blank-is y .1 (ends (omega arith)))
 

@@ -14,8 +14,8 @@ use Rattle.search.specs.Search.{first, all, those, later}
 use Rattle.search.specs.declared.Found.{Found}
 use Rattle.search.specs.declared.Found.the-variants.{At, Nothing}
 use Rattle.search.proofs.Laws.{no, and-both, eqb-is, or-is, not-is, number-is, all-at, all-by, first-at, first-none, entries-length, entries-at}
-use Rattle.alphabet.specs.Alphabet.{isNewline, isBlank, labelByte, classBy, classOf, LabelByte, Blank, ByteClass, ByteClasses, wellFormed, LabelForm, onto, parts, hasByte, fields, labelLongest}
-use Rattle.alphabet.specs.Within.{classTable, run, startOf, endOf, fieldAt, part, withForm, labelFieldAt, faultOf, orTooLong}
+use Rattle.alphabet.specs.Alphabet.{isNewline, isBlank, labelByte, classBy, classOf, LabelByte, Blank, ByteClass, ByteClasses, wellFormed, LabelForm, onto, parts, hasByte, fields, labelLongest, faultOf, orTooLong}
+use Rattle.alphabet.specs.Within.{classTable, run, startOf, endOf, fieldAt, part, withForm, labelFieldAt}
 use Rattle.alphabet.specs.declared.Field.{Field}
 use Rattle.alphabet.specs.declared.Field.the-variants.{Part, End}
 use Rattle.alphabet.specs.declared.LabelField.the-variants as labelField
@@ -27,7 +27,7 @@ neither true b e = absurd (no (sym e))
 neither false b e = (refl, e)
 
 -- the two tests of a byte say what 01 says
-label-is : (b : ℕ) → (labelByte b ≡ true) ↔ LabelByte b
+pub label-is : (b : ℕ) → (labelByte b ≡ true) ↔ LabelByte b
 unfolding labelByte
 label-is b = (there, back)
   where

@@ -1,14 +1,16 @@
--- 01, Labels 1 and 4, and the fields of 'Rule text': the class of a byte, a well-formed label, and the fields of a line.
+-- 01, Labels 1 and 4, and the fields of 'Rule text': the class of a byte, a well-formed label, and the fields of a line; 02, Three: where the first bad byte is.
 -- The alphabet is that of the kernel's Smack text (source documents 000, 001 and 004); the 23-character limit of the
 -- first version (source document 003) is overruled. Assumes nothing.
-use Prim.Native.Nat.{ℕ, _<_, _≤_}
+use Prim.Native.Nat.{ℕ, _+_, _<_, _≤_}
 use mathlib.Core.Path.{_≡_}
 use mathlib.Core.Logic.{_↔_, _≢_, _⊎_}
 use mathlib.Core.Bool.{Bool, true, false, cond, not, _&&_, _||_}
 use mathlib.Core.List.{List, [], _∷_, _++_}
-use lib.ListN.{length, getD}
+use lib.ListN.{length, take, getD}
 use lib.Dec.{eqb, leb}
-use Rattle.search.specs.Search.{all, those}
+use Rattle.search.specs.Search.{first, all, those, placeOf}
+use Rattle.search.specs.declared.Found.{Found}
+use Rattle.search.specs.declared.Found.the-variants.{At, Nothing}
 
 -- ---- bytes
 
@@ -87,6 +89,45 @@ pub record WellFormed (l : List ℕ) : Type 0 where
 abbrev pub LabelForm : Type 0
 LabelForm = (l : List ℕ) → (wellFormed l ≡ true) ↔ WellFormed l
 
+-- ---- 02, Three: the place of a label's first bad byte
+
+-- 0 where the label is empty or begins with a dash, the first byte that is no label byte, or 255 where it is too long and has no earlier fault; nothing
+-- where it is well formed
+abbrev pub orTooLong : Found → ℕ → Found
+orTooLong (At k) n = At k
+orTooLong Nothing n = cond (leb n labelLongest) Nothing (At labelLongest)
+
+unfoldable pub faultOf : List ℕ → Found
+unfolding labelByte
+faultOf l =
+    cond (eqb (length l) 0)
+    (At 0)
+    (cond (eqb (getD l 0 0) dash)
+    (At 0)
+    (orTooLong (first (λ (b : ℕ). not (labelByte b)) (take labelLongest l)) (length l)))
+
+-- the same as a number, of a label that is not well formed
+abbrev pub badByte : List ℕ → ℕ
+badByte l = placeOf (faultOf l) 0
+
+-- What 02 says of that place, without the search above. What can stand there: nothing, since the label is empty; a leading dash; a byte that is no label
+-- byte; the byte 255 of a label that is too long
+pub data BadAt : List ℕ → ℕ → Type 0 where
+  empty : BadAt [] 0
+  leading-dash : (l : List ℕ) → getD l 0 0 ≡ 45 → BadAt l 0
+  no-label-byte : (l : List ℕ) (k : ℕ) → k < length l → k < 255 → (LabelByte (getD l k 0) → ⊥) → BadAt l k
+  too-long : (l : List ℕ) → 255 < length l → BadAt l 255
+
+-- and there is no earlier fault: every byte before it is a label byte, and where there is one the first is no dash
+pub record FirstBad (l : List ℕ) (place : ℕ) : Type 0 where
+  pub fault : BadAt l place
+  pub before : (k : ℕ) → k < place → LabelByte (getD l k 0)
+  pub no-dash : 0 < place → getD l 0 0 ≢ 45
+
+-- of two labels, in the first that is not well formed
+abbrev pub badByteOfTwo : List ℕ → List ℕ → ℕ
+badByteOfTwo s o = cond (wellFormed s) (badByte o) (badByte s)
+
 -- ---- lines
 
 -- a line, and a single write, has at most 600 bytes
@@ -109,6 +150,19 @@ hasByte (b ∷ bs) = true
 
 unfoldable pub fields : List ℕ → List (List ℕ)
 fields line = those hasByte (parts line)
+
+-- 02, Three: the place in a line or a write of the first bad byte of its first field that is no label, by the parts that the blanks leave and the index at
+-- which the first of them begins. Where a line or a write is refused with 3 that field is the first bad label in order, since its labels stand before its
+-- other fields
+abbrev pub isBad : List ℕ → Bool
+isBad p = hasByte p && not (wellFormed p)
+
+abbrev pub badByteFrom : ℕ → List (List ℕ) → ℕ
+badByteFrom start [] = 0
+badByteFrom start (p ∷ ps) = cond (isBad p) (start + badByte p) (badByteFrom (start + (length p + 1)) ps)
+
+unfoldable pub badByteIn : List ℕ → ℕ
+badByteIn text = badByteFrom 0 (parts text)
 
 -- What 01 says of the fields, without the parts above. Every byte is a blank, and no byte is one:
 abbrev pub Blanks : List ℕ → Type 0
@@ -133,3 +187,30 @@ pub data Cut : List ℕ → List (List ℕ) → Type 0 where
 -- these are the fields of a line, and no others
 abbrev pub FieldsOfALine : Type 0
 FieldsOfALine = (line : List ℕ) (fs : List (List ℕ)) → (fields line ≡ fs) ↔ Cut line fs
+
+-- What 02 says of a place in a text, without the parts above: past blanks stands a field, as above; where it is no label the place is that of its first bad
+-- byte, counted from the beginning of the text, and where it is one the place stands in the rest. (`start` is the index at which this part of the text begins)
+pub data BadIn : ℕ → List ℕ → ℕ → Type 0 where
+  here :
+      (start : ℕ) (bs f rest : List ℕ) (k : ℕ) →
+      Blanks bs →
+      1 ≤ length f →
+      NoBlanks f →
+      (1 ≤ length rest → Blank (getD rest 0 0)) →
+      FirstBad f k →
+      BadIn start (bs ++ (f ++ rest)) (start + (length bs + k))
+  behind :
+      (start : ℕ) (bs f rest : List ℕ) (place : ℕ) →
+      Blanks bs →
+      NoBlanks f →
+      (1 ≤ length rest → Blank (getD rest 0 0)) →
+      WellFormed f →
+      BadIn (start + (length bs + length f)) rest place →
+      BadIn start (bs ++ (f ++ rest)) place
+
+-- so it is of every label, and of every text with a field that is no label; and there is no other such place
+pub record FirstBadByte : Type 0 where
+  pub label : (l : List ℕ) (k : ℕ) → (faultOf l ≡ At k) ↔ FirstBad l k
+  pub well-formed : (l : List ℕ) → (faultOf l ≡ Nothing) ↔ WellFormed l
+  pub text : (text : List ℕ) → all wellFormed (fields text) ≡ false → BadIn 0 text (badByteIn text)
+  pub no-other : (text : List ℕ) (place : ℕ) → BadIn 0 text place → badByteIn text ≡ place

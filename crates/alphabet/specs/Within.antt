@@ -1,14 +1,11 @@
--- What only contracts inside the library and proofs speak of: the table of the byte classes, the place of a label's first fault, whether a part of a label
--- is label bytes, and where in a line its fields stand. Nobody has to believe it: what it says of lines is held to `fields` by the laws. Assumes nothing.
+-- What only contracts inside the library and proofs speak of: the table of the byte classes, whether a part of a label is label bytes, and where in a line its fields stand. Nobody has to believe it: what it says of lines is held to `fields` by the laws. Assumes nothing.
 use Prim.Native.Nat.{ℕ, zero, suc, _+_, _-_}
-use mathlib.Core.Bool.{Bool, true, false, cond, not}
+use mathlib.Core.Bool.{Bool, true, false, cond}
 use mathlib.Core.List.{List, [], _∷_}
-use lib.ListN.{length, take, drop, getD}
-use lib.Dec.{eqb, leb, ltb}
-use Rattle.search.specs.Search.{first, all, entries}
-use Rattle.search.specs.declared.Found.{Found}
-use Rattle.search.specs.declared.Found.the-variants.{At, Nothing}
-use Rattle.alphabet.specs.Alphabet.{isBlank, classOf, labelByte, dash, labelLongest, wellFormed}
+use lib.ListN.{length, take, drop}
+use lib.Dec.{ltb}
+use Rattle.search.specs.Search.{all, entries}
+use Rattle.alphabet.specs.Alphabet.{isBlank, classOf, labelByte, wellFormed}
 use Rattle.alphabet.specs.declared.Field.{Field}
 use Rattle.alphabet.specs.declared.Field.the-variants.{Part, End}
 use Rattle.alphabet.specs.declared.LabelField.{LabelField}
@@ -53,21 +50,6 @@ withForm line End = labelField.End
 
 abbrev pub labelFieldAt : List ℕ → ℕ → LabelField
 labelFieldAt line from = withForm line (fieldAt line from)
-
--- the place of a label's first fault: 0 where it is empty or begins with a dash, the first byte that is no label byte, or 255 where it is too
--- long and has no earlier fault; nothing where it is well formed
-abbrev pub orTooLong : Found → ℕ → Found
-orTooLong (At k) n = At k
-orTooLong Nothing n = cond (leb n labelLongest) Nothing (At labelLongest)
-
-unfoldable pub faultOf : List ℕ → Found
-unfolding labelByte
-faultOf l =
-    cond (eqb (length l) 0)
-    (At 0)
-    (cond (eqb (getD l 0 0) dash)
-    (At 0)
-    (orTooLong (first (λ (b : ℕ). not (labelByte b)) (take labelLongest l)) (length l)))
 
 -- whether the bytes of a label from start to end are label bytes
 unfoldable pub labelBytes : List ℕ → ℕ → ℕ → Bool

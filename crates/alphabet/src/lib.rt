@@ -1,10 +1,12 @@
 // The bytes of labels and lines: the class of each byte, what a well-formed label is, and the fields of a line (01, Labels and Rule text).
+use refusals::Refusal;
 use search::Found;
 ghost use mathlib.Core.Path.{_≡_};
 ghost use Prim.Native.Nat.{_+_, _≤_};
 ghost use lib.ListN.{drop, getD, length};
-ghost use Rattle.alphabet.specs.Alphabet.{labelByte, classOf, ByteClasses, wellFormed, FieldsOfALine};
-ghost use Rattle.alphabet.specs.Within.{classTable, run, fieldAt, labelFieldAt, faultOf, labelBytes, highBit};
+ghost use Rattle.refusals.specs.Refusals.{badLabelAt};
+ghost use Rattle.alphabet.specs.Alphabet.{labelByte, classOf, ByteClasses, wellFormed, faultOf, badByte, badByteIn, FieldsOfALine, FirstBadByte};
+ghost use Rattle.alphabet.specs.Within.{classTable, run, fieldAt, labelFieldAt, labelBytes, highBit};
 
 // The bytes that have a part of their own.
 pub const NEWLINE: u8 = b'\n';
@@ -334,6 +336,31 @@ pub fn label_fault(label: &[u8]) -> Found
     Found::Nothing
 }
 
+// Refusal 3 of a label that is not well formed, with the place of its first bad byte.
+pub fn bad_label(label: &[u8]) -> Refusal
+    ensures { λ r. ⌜ r ≡ badLabelAt (badByte (now (label .entry))) ⌝ }
+{
+    match label_fault(label) {
+        Found::At(place) => Refusal {
+            number: refusals::BAD_LABEL.number,
+            place,
+        },
+        Found::Nothing => refusals::BAD_LABEL,
+    }
+}
+
+// The same of a label that is a field of a text, with the place in that text, of which it begins at `start`. Who calls it has tested how long the text is.
+pub fn bad_label_at(label: &[u8], start: usize) -> Refusal
+    requires { ⌜ start ≤ 1000 ⌝ }
+    ensures { λ r. ⌜ r ≡ badLabelAt (start + badByte (now (label .entry))) ⌝ }
+{
+    let bad = bad_label(label);
+    Refusal {
+        number: bad.number,
+        place: start + bad.place,
+    }
+}
+
 // The first byte past those of labels.
 const DELETE: u8 = 127;
 
@@ -516,4 +543,28 @@ pub fn next_label_field(classes: &[u8], line: &[u8], from: usize) -> LabelField
 // The claim that the fields of a line are those that 01 says: the longest runs of bytes that are neither space nor tab.
 pub fn fields_of_a_line()
     ensures { λ _. ⌜ FieldsOfALine ⌝ }
+{}
+
+// Refusal 3 of a line or a write with a field that is no label, with the place of the first bad byte of the first such field. Who calls it has tested
+// how long the text is.
+pub fn bad_label_in(text: &[u8]) -> Refusal
+    requires { ⌜ length (now text) ≤ 1000 ⌝ }
+    ensures { λ r. ⌜ r ≡ badLabelAt (badByteIn (now (text .entry))) ⌝ }
+{
+    let classes = classes();
+    let mut at = 0;
+    loop {
+        let LabelField::Part { start, end, formed } = next_label_field(&classes, text, at) else {
+            return refusals::BAD_LABEL;
+        };
+        if !formed {
+            return bad_label_at(&text[start..end], start);
+        }
+        at = end;
+    }
+}
+
+// The claim that the place of the first bad byte is the one that 02 says, in a label and in a text.
+pub fn first_bad_byte()
+    ensures { λ _. ⌜ FirstBadByte ⌝ }
 {}

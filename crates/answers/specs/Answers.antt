@@ -1,6 +1,8 @@
 -- 01's number and values for each case of each answer that is an enum: what a host gets for it, as plain numbers. The promises of the
--- exported functions use these definitions. Where an answer is refused the number is the refusal's, and otherwise 0 (but for a question); what a
--- case has no value for is 0. Assumes nothing.
+-- exported functions use these definitions. Where an answer is refused the number and the place are the refusal's, and otherwise 0 (but for the number
+-- of a question); what a case has no value for is 0. A call that tells no place
+-- (a piece, the end call, what is written to a lent output, by level and set, the label by its number) has none in its answer; the fresh table and the call
+-- beside the label of a number answer as a write does, with place 0. Assumes nothing.
 use Prim.Native.Nat.{ℕ}
 use mathlib.Core.Bool.{true, false}
 use Rattle.store.specs.declared.Done.{Done}
@@ -18,6 +20,7 @@ use Rattle.lookups.specs.declared.Label.the-variants as label
 use Rattle.output.specs.declared.Output.{Output}
 use Rattle.output.specs.declared.Output.the-variants as output
 use Rattle.reports.specs.declared.Loader.{Loader}
+use Rattle.reports.specs.Report.{emptyReport}
 use Rattle.load.specs.declared.Fed.{Fed}
 use Rattle.load.specs.declared.Fed.the-variants as fed
 use Rattle.load.specs.declared.Ended.{Ended}
@@ -34,20 +37,20 @@ use Rattle.answers.specs.declared.Part.{Part}
 
 -- a question: kind 0 granted, 1 denied, 2 granted by override, 3 refused; the number is the rule's, or the refusal's. (01 does not number the kinds)
 abbrev pub shown : Answer → Shown
-shown (answer.Granted n b) = record { kind = 0; number = n; bringup = b }
-shown (answer.Denied by) = record { kind = 1; number = denialNumber by; bringup = false }
-shown (answer.Override by) = record { kind = 2; number = denialNumber by; bringup = false }
-shown (answer.Refused n) = record { kind = 3; number = n; bringup = false }
+shown (answer.Granted n b) = record { kind = 0; number = n; bringup = b; place = 0 }
+shown (answer.Denied by) = record { kind = 1; number = denialNumber by; bringup = false; place = 0 }
+shown (answer.Override by) = record { kind = 2; number = denialNumber by; bringup = false; place = 0 }
+shown (answer.Refused r) = record { kind = 3; number = r .number; bringup = false; place = r .place }
 
--- a write, and the call beside the label of a number: done, or refused with its number
+-- a write, and the call beside the label of a number: done, or refused with its number and place
 abbrev pub writeShown : Done → Written
-writeShown done.Done = record { refused = false; number = 0 }
-writeShown (done.Refused n) = record { refused = true; number = n }
+writeShown done.Done = record { refused = false; number = 0; place = 0 }
+writeShown (done.Refused r) = record { refused = true; number = r .number; place = r .place }
 
 -- revoke-subject: how many rules have that subject
 abbrev pub revokeShown : Revoked → Counted
-revokeShown (revoked.Count k) = record { refused = false; number = 0; count = k }
-revokeShown (revoked.Refused n) = record { refused = true; number = n; count = 0 }
+revokeShown (revoked.Count k) = record { refused = false; number = 0; count = k; place = 0 }
+revokeShown (revoked.Refused r) = record { refused = true; number = r .number; count = 0; place = r .place }
 
 -- a piece: done, with the loader for the next call; refused, with the loader that was handed in
 abbrev pub pieceShown : Loader → Fed → Taken
@@ -57,8 +60,7 @@ pieceShown old (fed.Refused n) = record { refused = true; number = n; loader = o
 -- the end call: the report; refused, with a report of zeros and the loader that was handed in
 abbrev pub endShown : Loader → Ended → Finished
 endShown old (ended.Report r l) = record { refused = false; number = 0; report = r; loader = l }
-endShown old (ended.Refused n) =
-    record { refused = true; number = n; report = record { lines = 0; accepted = 0; skipped = 0; refused = 0; first = 0; reason = 0 }; loader = old }
+endShown old (ended.Refused n) = record { refused = true; number = n; report = emptyReport; loader = old }
 
 -- a text written to a lent output, as the listing of a rule is: its length
 abbrev pub outputShown : Output → Length
@@ -67,9 +69,9 @@ outputShown (output.Refused n) = record { refused = true; number = n; length = 0
 
 -- a look-up by label: kind 0 a mapping, with level, set and how many categories are in the set; 1 none; 2 refused
 abbrev pub lookupShown : Lookup → Mapped
-lookupShown (lookup.Mapped level s count) = record { kind = 0; number = 0; level = level; count = count; set = s }
-lookupShown lookup.Unmapped = record { kind = 1; number = 0; level = 0; count = 0; set = 0 }
-lookupShown (lookup.Refused n) = record { kind = 2; number = n; level = 0; count = 0; set = 0 }
+lookupShown (lookup.Mapped level s count) = record { kind = 0; number = 0; level = level; count = count; set = s; place = 0 }
+lookupShown lookup.Unmapped = record { kind = 1; number = 0; level = 0; count = 0; set = 0; place = 0 }
+lookupShown (lookup.Refused r) = record { kind = 2; number = r .number; level = 0; count = 0; set = 0; place = r .place }
 
 -- a look-up by level and set, in the table or in a run: kind 0 a label, by its number; 1 none; 2 refused
 abbrev pub searchShown : Label → Lowest
@@ -80,4 +82,4 @@ searchShown (label.Refused n) = record { kind = 2; number = n; label = 0 }
 -- a label by its number, whose length is n: where it stands in the label store
 abbrev pub partShown : ℕ → ℕ → Done → Part
 partShown k n done.Done = record { refused = false; number = 0; start = labelStart k; length = n }
-partShown k n (done.Refused number) = record { refused = true; number = number; start = 0; length = 0 }
+partShown k n (done.Refused r) = record { refused = true; number = r .number; start = 0; length = 0 }

@@ -21,13 +21,16 @@ pub struct Shown {
     pub kind: u8,
     pub number: u8,
     pub bringup: bool,
+    pub place: usize,
 }
 
-// What a write answers. `number` is the refusal's number where `refused` is true and 0 otherwise; so in all that follow.
+// What a write answers. `number` and `place` are the refusal's where `refused` is true and 0 otherwise; so in those that follow, where they
+// have them.
 #[repr(C)]
 pub struct Written {
     pub refused: bool,
     pub number: u8,
+    pub place: usize,
 }
 
 // What revoke-subject answers: how many rules have that subject.
@@ -36,6 +39,7 @@ pub struct Counted {
     pub refused: bool,
     pub number: u8,
     pub count: usize,
+    pub place: usize,
 }
 
 // What a piece of rule text answers: the loader for the next call.
@@ -71,6 +75,7 @@ pub struct Mapped {
     pub level: u8,
     pub count: u32,
     pub set: u64,
+    pub place: usize,
 }
 
 // What a look-up by level and set answers, in the table or in a run. Kind 0 is a label, by its number, 1 none, 2 refused.
@@ -109,21 +114,25 @@ pub fn show(answer: Answer) -> Shown
             kind: 0,
             number: rule,
             bringup: b,
+            place: 0,
         },
         Answer::Denied(rule) => Shown {
             kind: 1,
             number: denial_number(rule),
             bringup: false,
+            place: 0,
         },
         Answer::Override(rule) => Shown {
             kind: 2,
             number: denial_number(rule),
             bringup: false,
+            place: 0,
         },
-        Answer::Refused(number) => Shown {
+        Answer::Refused(refusal) => Shown {
             kind: 3,
-            number,
+            number: refusal.number,
             bringup: false,
+            place: refusal.place,
         },
     }
 }
@@ -136,10 +145,12 @@ pub fn write_shown(answer: Done) -> Written
         Done::Done => Written {
             refused: false,
             number: 0,
+            place: 0,
         },
-        Done::Refused(number) => Written {
+        Done::Refused(refusal) => Written {
             refused: true,
-            number,
+            number: refusal.number,
+            place: refusal.place,
         },
     }
 }
@@ -153,11 +164,13 @@ pub fn revoke_shown(answer: Revoked) -> Counted
             refused: false,
             number: 0,
             count,
+            place: 0,
         },
-        Revoked::Refused(number) => Counted {
+        Revoked::Refused(refusal) => Counted {
             refused: true,
-            number,
+            number: refusal.number,
             count: 0,
+            place: refusal.place,
         },
     }
 }
@@ -194,14 +207,7 @@ pub fn end_shown(before: Loader, answer: Ended) -> Finished
         Ended::Refused(number) => Finished {
             refused: true,
             number,
-            report: Report {
-                lines: 0,
-                accepted: 0,
-                skipped: 0,
-                refused: 0,
-                first: 0,
-                reason: 0,
-            },
+            report: reports::ZEROS,
             loader: before,
         },
     }
@@ -236,6 +242,7 @@ pub fn lookup_shown(answer: Lookup) -> Mapped
             level,
             count,
             set,
+            place: 0,
         },
         Lookup::Unmapped => Mapped {
             kind: 1,
@@ -243,13 +250,15 @@ pub fn lookup_shown(answer: Lookup) -> Mapped
             level: 0,
             count: 0,
             set: 0,
+            place: 0,
         },
-        Lookup::Refused(number) => Mapped {
+        Lookup::Refused(refusal) => Mapped {
             kind: 2,
-            number,
+            number: refusal.number,
             level: 0,
             count: 0,
             set: 0,
+            place: refusal.place,
         },
     }
 }

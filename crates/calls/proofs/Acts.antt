@@ -8,7 +8,8 @@ use lib.Dec.{ltb, eqb}
 use lib.ListN.{length}
 use borrow.Author.Tests.{lt-ltb}
 use Rattle.search.specs.Bytes.{sameBytes}
-use Rattle.alphabet.specs.Alphabet.{wellFormed, fields}
+use Rattle.refusals.specs.Refusals.{tooLong, sameLabels, labelsFull, rulesFull, mappingsFull, badLabelAt}
+use Rattle.alphabet.specs.Alphabet.{wellFormed, fields, badByte, badByteIn}
 use Rattle.modes.specs.Modes.{readModes, ruleLetters, changeLetters}
 use Rattle.modes.specs.declared.Access.{Access}
 use Rattle.modes.specs.declared.Access.the-variants.{Modes, Bad}
@@ -73,22 +74,22 @@ no-change line = by-length (ltb 600 (length line))
     by-access s o b Bad = tt
     by-access s o b (Modes n) = by-same (sameBytes s o)
       where
-        by-same : (c : Bool) → NoChange (cond c (refused 5) (rule s o n))
+        by-same : (c : Bool) → NoChange (cond c (refused sameLabels) (rule s o n))
         by-same true = tt
         by-same false = tt
 
-    by-formed : (s o : List ℕ) (x : Access) (b : Bool) → NoChange (cond b (ruleWith s o x) (refused 3))
+    by-formed : (s o : List ℕ) (x : Access) (b : Bool) → NoChange (cond b (ruleWith s o x) (refused (badLabelAt (badByteIn line))))
     by-formed s o x true = by-access s o true x
     by-formed s o x false = tt
 
-    by-fields : (fs : List (List ℕ)) → NoChange (ruleFields fs)
+    by-fields : (fs : List (List ℕ)) → NoChange (ruleFields (badByteIn line) fs)
     by-fields [] = tt
     by-fields (s ∷ []) = tt
     by-fields (s ∷ o ∷ []) = tt
     by-fields (s ∷ o ∷ a ∷ []) = by-formed s o (readModes ruleLetters true a) (wellFormed s && wellFormed o)
     by-fields (s ∷ o ∷ a ∷ x ∷ more) = tt
 
-    by-length : (b : Bool) → NoChange (cond b (refused 1) (ruleFields (fields line)))
+    by-length : (b : Bool) → NoChange (cond b (refused tooLong) (ruleFields (badByteIn line) (fields line)))
     by-length true = tt
     by-length false = by-fields (fields line)
 
@@ -134,15 +135,15 @@ only-change text = by-length (ltb 600 (length text))
     by-access s o (Modes a) Bad = tt
     by-access s o (Modes a) (Modes d) = by-same (sameBytes s o)
       where
-        by-same : (c : Bool) → OnlyChange (cond c (refused 5) (change s o a d))
+        by-same : (c : Bool) → OnlyChange (cond c (refused sameLabels) (change s o a d))
         by-same true = tt
         by-same false = tt
 
-    by-formed : (s o : List ℕ) (x y : Access) (b : Bool) → OnlyChange (cond b (changeWith s o x y) (refused 3))
+    by-formed : (s o : List ℕ) (x y : Access) (b : Bool) → OnlyChange (cond b (changeWith s o x y) (refused (badLabelAt (badByteIn text))))
     by-formed s o x y true = by-access s o x y
     by-formed s o x y false = tt
 
-    by-fields : (fs : List (List ℕ)) → OnlyChange (changeFields fs)
+    by-fields : (fs : List (List ℕ)) → OnlyChange (changeFields (badByteIn text) fs)
     by-fields [] = tt
     by-fields (s ∷ []) = tt
     by-fields (s ∷ o ∷ []) = tt
@@ -150,7 +151,7 @@ only-change text = by-length (ltb 600 (length text))
     by-fields (s ∷ o ∷ a ∷ d ∷ []) = by-formed s o (readModes changeLetters true a) (readModes changeLetters true d) (wellFormed s && wellFormed o)
     by-fields (s ∷ o ∷ a ∷ d ∷ x ∷ more) = tt
 
-    by-length : (b : Bool) → OnlyChange (cond b (refused 1) (changeFields (fields text)))
+    by-length : (b : Bool) → OnlyChange (cond b (refused tooLong) (changeFields (badByteIn text) (fields text)))
     by-length true = tt
     by-length false = by-fields (fields text)
 
@@ -163,7 +164,7 @@ not-skipped : (t : Table) (w : Write) → NotSkipped (judgeWrite w t)
 unfolding revokeWrite mappingWrite
 not-skipped t (r.change text) = by-said (changeOf text) (only-change text)
   where
-    by-tests : (a b : Bool) (t′ : Table) → NotSkipped (cond a (is-refused 6) (cond b (is-refused 7) (is-accepted t′)))
+    by-tests : (a b : Bool) (t′ : Table) → NotSkipped (cond a (is-refused labelsFull) (cond b (is-refused rulesFull) (is-accepted t′)))
     by-tests true b t′ = tt
     by-tests false true t′ = tt
     by-tests false false t′ = tt
@@ -176,14 +177,14 @@ not-skipped t (r.change text) = by-said (changeOf text) (only-change text)
         by-tests (ltb 64 (length (pairLabels t s o))) (noPlace (pairRule t s o) (length (t .rules)) 256) (withPair t s o (changed (modesSoFar (modesBetween t s o)) a d))
 not-skipped t (r.revoke l) = by-tests (ltb 600 (length l)) (wellFormed l)
   where
-    by-tests : (a b : Bool) → NotSkipped (cond a (is-refused 1) (cond b (is-accepted (withoutModes t (labelIn t l))) (is-refused 3)))
+    by-tests : (a b : Bool) → NotSkipped (cond a (is-refused tooLong) (cond b (is-accepted (withoutModes t (labelIn t l))) (is-refused (badLabelAt (badByte l)))))
     by-tests true b = tt
     by-tests false true = tt
     by-tests false false = tt
 not-skipped t (r.onlycap text) = by-case NotSkipped t text (λ n. tt) tt (λ a b c d. tt)
 not-skipped t (r.mapping text) = by-said (cipso.mappingOf text)
   where
-    by-tests : (a b : Bool) (t′ : Table) → NotSkipped (cond a (is-refused 6) (cond b (is-refused 10) (is-accepted t′)))
+    by-tests : (a b : Bool) (t′ : Table) → NotSkipped (cond a (is-refused labelsFull) (cond b (is-refused mappingsFull) (is-accepted t′)))
     by-tests true b t′ = tt
     by-tests false true t′ = tt
     by-tests false false t′ = tt

@@ -73,7 +73,7 @@ use Rattle.listing.specs.Listing.{listAnswer, listOut, labelGiven, labelAnswer}
 use Rattle.access.specs.Access.{questionOf}
 use Rattle.answers.specs.Answers.{shown}
 use Rattle.reports.specs.declared.Loader.{Loader}
-use Rattle.reports.specs.Report.{freshLoader, reportOf}
+use Rattle.reports.specs.Report.{freshLoader}
 use Rattle.load.specs.declared.Fed.the-variants as f
 use Rattle.load.specs.declared.Ended.the-variants as e
 use Rattle.load.specs.Loader.{Load, load, ready, stepPiece, stepEnd, pieceAnswer, pieceAfter, endAnswer, endAfter}
@@ -147,7 +147,7 @@ end-loader s = by-test (ready s)
   where
     by-test :
         (b : Bool) →
-        endShown (s .loader) (cond b (e.Report (reportOf (stepEnd s .loader)) freshLoader) (e.Refused 0)) .loader
+        endShown (s .loader) (cond b (e.Report (stepEnd s .loader .report) freshLoader) (e.Refused 0)) .loader
         ≡ cond b (load (stepEnd s .store) (stepEnd s .line) freshLoader) s .loader
     by-test true = refl
     by-test false = refl

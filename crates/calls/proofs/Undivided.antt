@@ -4,6 +4,7 @@ use mathlib.Core.Path.{_≡_, refl, sym, ap, _∙_, subst}
 use mathlib.Core.Bool.{true, false}
 use mathlib.Core.List.{List, [], _∷_, foldl, map}
 use denote.Ref.{now}
+use Rattle.refusals.specs.Refusals as refusal
 use Rattle.store.specs.declared.Done.{Done}
 use Rattle.store.specs.declared.Done.the-variants as d
 use Rattle.store.specs.Table.{Table}
@@ -151,11 +152,11 @@ unfolding ready
 never-ready s e = rw e
 
 module _ {s : Load} (u : undamagedOf (s .store) ≡ false) where
-  piece-refused : (text : List ℕ) {s′ : Load} → s′ ≡ pieceAfter s text → (fed-reply (pieceAnswer s text) ≡ r.refusal 0) × (s′ ≡ s)
+  piece-refused : (text : List ℕ) {s′ : Load} → s′ ≡ pieceAfter s text → (fed-reply (pieceAnswer s text) ≡ r.refusal refusal.damaged) × (s′ ≡ s)
   unfolding pieceAnswer pieceAfter
   piece-refused text q = let z = never-ready s u in (rw z, rw z at q)
 
-  end-refused : {s′ : Load} → s′ ≡ endAfter s → (end-reply (endAnswer s) ≡ r.refusal 0) × (s′ ≡ s)
+  end-refused : {s′ : Load} → s′ ≡ endAfter s → (end-reply (endAnswer s) ≡ r.refusal refusal.damaged) × (s′ ≡ s)
   unfolding endAnswer endAfter
   end-refused q = let z = never-ready s u in (rw z, rw z at q)
 

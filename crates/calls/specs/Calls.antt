@@ -30,6 +30,7 @@ use Rattle.host.proofs.bq_label_check.Kinds as label-check-kinds
 use Rattle.host.proofs.bq_label_check.Reads as label-check-reads
 use Rattle.host.proofs.bq_label.Kinds as label-kinds
 use Rattle.host.proofs.bq_label.Reads as label-reads
+use Rattle.refusals.specs.Refusals.{plain}
 use Rattle.alphabet.specs.Alphabet.{lineLimit}
 use Rattle.store.specs.Layout.{Store, store, undamagedOf}
 use Rattle.reports.specs.declared.Loader.{Loader}
@@ -53,26 +54,26 @@ pub record Fresh (s : Load) : Type 0 where
   pub line : length (s .line) ≡ lineLimit
   pub loader : s .loader ≡ freshLoader
 
--- ---- what a host reads of an answer: where it is refused the number, and otherwise the values
+-- ---- what a host reads of an answer: where it is refused the number and the place (0 where the answer has none), and otherwise the values
 
 abbrev pub taken-reply : Taken → Reply
-taken-reply a = cond (a .refused) (r.refusal (a .number)) r.done
+taken-reply a = cond (a .refused) (r.refusal (plain (a .number))) r.done
 
 abbrev pub totals-of : Report → Totals
-totals-of a = record { lines = a .lines; accepted = a .accepted; skipped = a .skipped; refused = a .refused; first = a .first; reason = a .reason }
+totals-of a = record { lines = a .lines; accepted = a .accepted; skipped = a .skipped; refused = a .refused; first = a .first; reason = a .reason; place = a .place }
 
 abbrev pub finished-reply : Finished → Reply
-finished-reply a = cond (a .refused) (r.refusal (a .number)) (r.report (totals-of (a .report)))
+finished-reply a = cond (a .refused) (r.refusal (plain (a .number))) (r.report (totals-of (a .report)))
 
 abbrev pub written-reply : Written → Reply
-written-reply a = cond (a .refused) (r.refusal (a .number)) r.done
+written-reply a = cond (a .refused) (r.refusal (record { number = a .number; place = a .place })) r.done
 
 abbrev pub counted-reply : Counted → Reply
-counted-reply a = cond (a .refused) (r.refusal (a .number)) (r.count (a .count))
+counted-reply a = cond (a .refused) (r.refusal (record { number = a .number; place = a .place })) (r.count (a .count))
 
 -- a label by its number is what stands there in the lent labels
 abbrev pub part-reply : Part → List ℕ → Reply
-part-reply a labels = cond (a .refused) (r.refusal (a .number)) (r.label-is (take (a .length) (drop (a .start) labels)))
+part-reply a labels = cond (a .refused) (r.refusal (plain (a .number))) (r.label-is (take (a .length) (drop (a .start) labels)))
 
 -- ---- a call on the tables alone, as a host makes it: with the tables that it is lent, what it is asked, and what is read of its answer. What is lent
 -- by `&` has no last value, and is as it was

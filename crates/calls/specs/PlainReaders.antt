@@ -4,6 +4,7 @@ use mathlib.Core.Path.{_≡_}
 use mathlib.Core.Bool.{true, cond}
 use mathlib.Core.List.{List, [], _∷_, _++_}
 use Rattle.refusals.specs.Refusals.{damaged}
+use Rattle.refusals.specs.declared.Refusal.{Refusal}
 use Rattle.alphabet.specs.Alphabet.{isNewline, fields}
 use Rattle.store.specs.Table.{Table}
 use Rattle.store.specs.Layout.{tableOf}
@@ -63,7 +64,7 @@ Sets t t₁ (r.mapping text) = (l : List ℕ) × (level : ℕ) × (set : ℕ) ×
 pub data Made : Table → List Act → Table → Type 0 where
   none : {t : Table} → Made t [] t
   skipped : {t t′ : Table} {bytes : List ℕ} {rest : List Act} → judged t (ruleOf bytes) ≡ is-skipped → Made t rest t′ → Made t (line bytes ∷ rest) t′
-  refused : {t t′ : Table} {bytes : List ℕ} {rest : List Act} (n : ℕ) → judged t (ruleOf bytes) ≡ is-refused n → Made t rest t′ → Made t (line bytes ∷ rest) t′
+  refused : {t t′ : Table} {bytes : List ℕ} {rest : List Act} (why : Refusal) → judged t (ruleOf bytes) ≡ is-refused why → Made t rest t′ → Made t (line bytes ∷ rest) t′
   accepted :
       {t t₁ t′ : Table} {bytes : List ℕ} {rest : List Act} (s o : List ℕ) (m : ℕ) →
       judged t (ruleOf bytes) ≡ is-accepted t₁ →
@@ -73,7 +74,7 @@ pub data Made : Table → List Act → Table → Type 0 where
       KeepsPlaces t t₁ s o →
       Made t₁ rest t′ →
       Made t (line bytes ∷ rest) t′
-  write-refused : {t t′ : Table} {rest : List Act} (w : Write) (n : ℕ) → judgeWrite w t ≡ is-refused n → Made t rest t′ → Made t (single w ∷ rest) t′
+  write-refused : {t t′ : Table} {rest : List Act} (w : Write) (why : Refusal) → judgeWrite w t ≡ is-refused why → Made t rest t′ → Made t (single w ∷ rest) t′
   write-accepted : {t t₁ t′ : Table} {rest : List Act} (w : Write) → judgeWrite w t ≡ is-accepted t₁ → Sets t t₁ w →
       Made t₁ rest t′ → Made t (single w ∷ rest) t′
 
@@ -97,7 +98,7 @@ refusal-of r.end-call = r.refusal damaged
 refusal-of (r.write w) = r.refusal damaged
 refusal-of (r.ask (r.question s o request capable)) = r.answered (shown (answer.Refused damaged))
 refusal-of (r.ask (r.by-label l)) = r.mapped (lookupShown (lookup.Refused damaged))
-refusal-of (r.ask (r.by-level level set)) = r.lowest (searchShown (label.Refused damaged))
-refusal-of (r.ask (r.list-rule k out)) = r.listed (outputShown (listed.Refused damaged)) out
+refusal-of (r.ask (r.by-level level set)) = r.lowest (searchShown (label.Refused (damaged .number)))
+refusal-of (r.ask (r.list-rule k out)) = r.listed (outputShown (listed.Refused (damaged .number))) out
 refusal-of (r.ask (r.label k)) = r.refusal damaged
 refusal-of (r.ask (r.label-check k)) = r.refusal damaged

@@ -30,7 +30,7 @@ abbrev pub LineInside : List ℕ → Line → Type 0
 LineInside text (line.Refused n) = Unit {0}
 LineInside text (line.Mapping start end level s) = (start < end) × (end ≤ length text) × (length (part text start end) ≤ 255)
 
--- where a label's mapping stands or goes, or the refusal's number
+-- where a label's mapping stands or goes, or the refusal
 abbrev pub placeBy : Table → Found → Place
 placeBy t l =
     cond (noPlace l (length (t .labels)) labelLimit)

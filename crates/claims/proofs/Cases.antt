@@ -5,7 +5,7 @@ use mathlib.Core.List.{List, [], _∷_}
 use Prim.Native.Nat.{ℕ}
 use Rattle.search.specs.Search.{first, all, put, entries}
 use Rattle.search.specs.Bytes.{ascii, sameBytes}
-use Rattle.alphabet.specs.Alphabet.{isBlank, labelByte, wellFormed, fields}
+use Rattle.alphabet.specs.Alphabet.{isBlank, labelByte, wellFormed, faultOf, fields}
 use Rattle.modes.specs.Modes.{bitOf, allowedByte, modesOf, readModes, modesText}
 use Rattle.numbers.specs.Numbers.{numberOf}
 use Rattle.numbers.specs.Categories.{categories, withCategory}
@@ -49,5 +49,5 @@ unfolding all right first put sameBytes isBlank labelByte wellFormed fields bitO
 cases-right = and-true (right (maps write Vault7 9 (1 ∷ 63 ∷ []) 2)) ∙ mapped
 
 pub further-right : all right furtherCases ≡ true
-unfolding all right first put sameBytes isBlank labelByte wellFormed fields bitOf allowedByte modesOf readModes modesText ruleBy ruleOf changeBy changeOf isPair withPair modesBetween effective decide answer
+unfolding all right first put sameBytes isBlank labelByte wellFormed faultOf fields bitOf allowedByte modesOf readModes modesText ruleBy ruleOf changeBy changeOf isPair withPair modesBetween effective decide answer
 further-right = refl

@@ -1,4 +1,4 @@
--- 01's examples are computed on the definitions. Assumes nothing.
+-- 01's examples, and those of 02, are computed on the definitions. Assumes nothing.
 use Prim.Native.Nat.{ℕ}
 use mathlib.Core.Path.{_≡_, refl}
 use mathlib.Core.Bool.{true}
@@ -8,12 +8,15 @@ use borrow.Author.Tests.{eqb-true, eq-eqb}
 use Rattle.search.specs.Search.{first, all, put}
 use Rattle.search.specs.Bytes.{sameBytes}
 use Rattle.search.proofs.Laws.{and-both}
-use Rattle.alphabet.specs.Alphabet.{isBlank, labelByte, wellFormed, fields}
+use Rattle.alphabet.specs.Alphabet.{isBlank, labelByte, wellFormed, faultOf, fields, badByteIn}
 use Rattle.modes.specs.Modes.{bitOf, allowedByte, modesOf, readModes}
+use Rattle.numbers.specs.Numbers.{numberOf}
 use Rattle.store.specs.Table.{isPair}
 use Rattle.store.specs.Pairs.{modesBetween}
 use Rattle.lines.specs.Lines.{ruleBy, ruleOf}
 use Rattle.rules.specs.Rules.{withPair}
+use Rattle.onlycap.specs.Onlycap.{onlycapWrite}
+use Rattle.cipso.specs.Cipso.{saidBy, mappingOf, mappingWrite, categoriesOf}
 use Rattle.access.specs.Access.{effective, decide, answer}
 use Rattle.lists.specs.Reader.{endLine, takeByte, finish, limited}
 use Rattle.replies.specs.Replies.{decimal, answerLine}
@@ -21,7 +24,7 @@ use Rattle.rule_text.specs.RuleText.{textOf}
 use Rattle.run.specs.declared.Record.{Record}
 use Rattle.run.specs.Run.{matches}
 use Rattle.program.specs.Program.{answerTo, reportLine, output}
-use Rattle.claims.specs.Examples.{ExamplesOf01}
+use Rattle.claims.specs.Examples.{ExamplesOf01, ExamplesOf02}
 
 matching : (level set : ℕ) (r : Record) → (matches level set r ≡ true) ↔ ((r .level ≡ level) × (r .set ≡ set))
 matching level set r = (
@@ -36,7 +39,23 @@ examples-of-01 =
       program = refl;
       report = refl;
       questions = refl;
-      answers = (refl, refl, refl, refl, refl);
+      answers = (refl, refl, refl, refl, λ place. refl);
       listed = refl;
       matching = matching;
+    }
+
+pub examples-of-02 : ExamplesOf02
+unfolding all first put sameBytes isBlank labelByte wellFormed faultOf fields badByteIn bitOf allowedByte modesOf readModes ruleBy ruleOf onlycapWrite saidBy mappingOf mappingWrite numberOf categoriesOf isPair withPair modesBetween endLine takeByte finish limited effective decide answer decimal answerLine answerTo reportLine output
+examples-of-02 =
+    record {
+      subject = refl;
+      object = refl;
+      leading-dash = refl;
+      other-fault = refl;
+      override-list = refl;
+      mapping = refl;
+      program-line = refl;
+      first-refused = refl;
+      first-refused-cut = refl;
+      another-first = refl;
     }

@@ -4,3 +4,4 @@ pub mod Program
 pub mod Numbers
 pub mod Examples
 pub mod EachRule
+pub mod ReportCounts

@@ -14,7 +14,7 @@ pub numbers-of-01 : NumbersOf01
 unfolding withCategory
 numbers-of-01 =
     record {
-      refusals = refl;
+      refused-by = refl;
       sizes = refl;
       fresh-table = refl;
       from-none = refl;
@@ -40,4 +40,11 @@ numbers-of-01 =
     }
 
 pub numbers-of-02 : NumbersOf02
-numbers-of-02 = record { old-records = refl }
+numbers-of-02 =
+    record {
+      old-records = refl;
+      bad-label = λ p. refl;
+      plain = λ n. refl;
+      written = (refl, λ r. refl);
+      revoked = (λ k. refl, λ r. refl);
+    }

@@ -35,7 +35,7 @@ abbrev pub pairModes : Table → List ℕ → List ℕ → ℕ
 pairModes t s o = modesSoFar (modesBetween t s o)
 
 abbrev pub sameShown : Shown → Shown → Bool
-sameShown a b = eqb (a .kind) (b .kind) && (eqb (a .number) (b .number) && Bool·beq (a .bringup) (b .bringup))
+sameShown a b = eqb (a .kind) (b .kind) && (eqb (a .number) (b .number) && (Bool·beq (a .bringup) (b .bringup) && eqb (a .place) (b .place)))
 
 abbrev pub sameLookup : Lookup → ℕ → List ℕ → ℕ → Bool
 sameLookup (l.Mapped level set count) x cs n = eqb level x && (sameBytes (categories set) cs && eqb count n)
@@ -51,16 +51,20 @@ right (maps write label level cs count) = sameLookup (labelLookup (tableAfter fr
 -- ---- the answers
 
 abbrev pub granted : ℕ → Shown
-granted n = record { kind = 0; number = n; bringup = false }
+granted n = record { kind = 0; number = n; bringup = false; place = 0 }
 
 abbrev pub granted-b : Shown
-granted-b = record { kind = 0; number = 6; bringup = true }
+granted-b = record { kind = 0; number = 6; bringup = true; place = 0 }
 
 abbrev pub denied : ℕ → Shown
-denied n = record { kind = 1; number = n; bringup = false }
+denied n = record { kind = 1; number = n; bringup = false; place = 0 }
 
 abbrev pub refusedWith : ℕ → Shown
-refusedWith n = record { kind = 3; number = n; bringup = false }
+refusedWith n = record { kind = 3; number = n; bringup = false; place = 0 }
+
+-- 02, Three: with 3, and where the first bad byte of the first bad label is
+abbrev pub refusedAt : ℕ → Shown
+refusedAt place = record { kind = 3; number = 3; bringup = false; place = place }
 
 -- ---- the table of cases
 
@@ -103,7 +107,10 @@ furtherCases =
     ∷ asks (ascii "Probe3 Air w" ∷ []) (ascii "Probe3") (ascii "Air") (ascii "a") (denied 7)
     ∷ asks (ascii "Probe3 Air a-R" ∷ []) (ascii "Probe3") (ascii "Air") (ascii "ra") (granted 6)
     ∷ asks (ascii "Probe3 Air rwxat" ∷ ascii "Probe3 Air -" ∷ []) (ascii "Probe3") (ascii "Air") (ascii "r") (denied 7)
-    ∷ asks [] (ascii "-Door") (ascii "Air") (ascii "q") (refusedWith 3)
+    ∷ asks [] (ascii "-Door") (ascii "Air") (ascii "q") (refusedAt 0)
+    ∷ asks [] (ascii "Doo/r") (ascii "A/ir") (ascii "r") (refusedAt 3)
+    ∷ asks [] (ascii "Door") (ascii "A/ir") (ascii "r") (refusedAt 1)
+    ∷ asks [] [] (ascii "A/ir") (ascii "r") (refusedAt 0)
     ∷ asks [] (ascii "Door") (ascii "Air") (ascii "rt") (refusedWith 8)
     ∷ asks [] (ascii "Door") (ascii "Air") [] (refusedWith 8)
     ∷ changes (ascii "Air Door r") (ascii "Probe3 Air xt -") (ascii "Probe3") (ascii "Air") (ascii "xt")

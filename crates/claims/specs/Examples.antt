@@ -1,10 +1,18 @@
--- 01's examples, byte for byte: what the program writes for its example input, and further inputs whose reports have every column; each form of an answer line; a
--- record of a run that matches. Assumes nothing.
+-- 01's examples and further ones of 02, byte for byte: what the program writes for its example input, and further inputs whose reports have every column; each form of an answer line; a
+-- record of a run that matches; where the first bad byte is. Assumes nothing.
 use Prim.Native.Nat.{ℕ}
 use mathlib.Core.Path.{_≡_}
 use mathlib.Core.Bool.{true, false}
 use mathlib.Core.Logic.{_↔_}
+use mathlib.Core.List.{[], _∷_}
 use Rattle.search.specs.Bytes.{ascii}
+use Rattle.refusals.specs.Refusals.{plain, badLabelAt}
+use Rattle.store.specs.Table.{fresh}
+use Rattle.store.specs.Judged.{is-refused}
+use Rattle.lines.specs.Lines.{ruleOf, refused}
+use Rattle.onlycap.specs.Onlycap.{onlycapWrite}
+use Rattle.cipso.specs.Cipso.{mappingWrite}
+use Rattle.lists.specs.Reader.{piece, end-call, report, startOn, saysAll, reports}
 use Rattle.access.specs.declared.Denial.the-variants.{StarSubject, AnyOther}
 use Rattle.access.specs.declared.Answer.the-variants.{Granted, Denied, Override, Refused}
 use Rattle.replies.specs.Replies.{answerLine}
@@ -25,8 +33,34 @@ pub record ExamplesOf01 : Type 0 where
       × (answerLine (Granted 6 true) ≡ ascii "granted 6 b\n")
       × (answerLine (Denied AnyOther) ≡ ascii "denied 7\n")
       × (answerLine (Override StarSubject) ≡ ascii "override 1\n")
-      × (answerLine (Refused 3) ≡ ascii "refused 3\n")
+      × ((place : ℕ) → answerLine (Refused (badLabelAt place)) ≡ ascii "refused 3\n")
   -- a rule as it is listed
   pub listed : textOf (ascii "Probe3") (ascii "Air") (ascii "w") ≡ ascii "Probe3 Air w\n"
   -- a record matches where its level and its set are those that are sought
   pub matching : (level set : ℕ) (r : Record) → (matches level set r ≡ true) ↔ ((r .level ≡ level) × (r .set ≡ set))
+
+-- 02, Three: where the first bad byte is, counted from 0
+pub record ExamplesOf02 : Type 0 where
+  -- in a line: past blanks, in the subject or else in the object; a leading dash; and other faults have no place
+  pub subject : ruleOf (ascii " \tAir/2 Do\\or q") ≡ refused (badLabelAt 5)
+  pub object : ruleOf (ascii "Air  Do'or r") ≡ refused (badLabelAt 7)
+  pub leading-dash : ruleOf (ascii "Air -Door r") ≡ refused (badLabelAt 4)
+  pub other-fault : ruleOf (ascii "Air/2 Door r w") ≡ refused (plain 2)
+  -- in an override list and a mapping
+  pub override-list : onlycapWrite (ascii "Air - Door") fresh ≡ is-refused (badLabelAt 4)
+  pub mapping : mappingWrite (ascii " Air\" 999") fresh ≡ is-refused (badLabelAt 4)
+  -- the program prints as before
+  pub program-line : output (ascii "Air/2 Door r\n?\nAir/2 Door r\n") ≡ ascii "1 0 0 1 1 3\nrefused 3\n"
+  -- the report keeps the place of the first refused line, however the text is cut
+  pub first-refused :
+      reports (saysAll (startOn fresh) (piece (ascii "Air Door r\n\tAir/2 Door r\nAir\n/ Door r\n") ∷ end-call ∷ []))
+      ≡ report (record { lines = 4; accepted = 1; skipped = 0; refused = 3; first = 2; reason = 3; place = 4 }) ∷ []
+  pub first-refused-cut :
+      reports
+      (saysAll (startOn fresh)
+      (piece (ascii "Air Door r\n\tAi") ∷ piece (ascii "r/") ∷ piece (ascii "2 Door r\nAir\n/ Doo") ∷ piece (ascii "r r") ∷ end-call ∷ []))
+      ≡ report (record { lines = 4; accepted = 1; skipped = 0; refused = 3; first = 2; reason = 3; place = 4 }) ∷ []
+  -- and 0 where the first has another reason, though a later one is a 3
+  pub another-first :
+      reports (saysAll (startOn fresh) (piece (ascii "Air\nAir/2 Door r\n") ∷ end-call ∷ []))
+      ≡ report (record { lines = 2; accepted = 0; skipped = 0; refused = 2; first = 1; reason = 2; place = 0 }) ∷ []

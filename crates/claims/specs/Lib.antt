@@ -6,3 +6,4 @@ pub mod RunSearch
 pub mod Numbers
 pub mod Examples
 pub mod EachRule
+pub mod ReportCounts

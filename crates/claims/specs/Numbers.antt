@@ -4,9 +4,10 @@ use Prim.Native.Nat.{ℕ}
 use mathlib.Core.Path.{_≡_}
 use mathlib.Core.Bool.{Bool, true, false, _&&_}
 use lib.Dec.{leb}
-use mathlib.Core.List.{List, [], _∷_}
+use mathlib.Core.List.{List, [], _∷_, map}
 use Rattle.search.specs.Bytes.{ascii}
 use Rattle.refusals.specs.Refusals as refusal
+use Rattle.refusals.specs.declared.Refusal.{Refusal}
 use Rattle.alphabet.specs.Alphabet.{labelLongest, lineLimit}
 use Rattle.numbers.specs.Categories.{levelLimit, isLevel, categoryLimit, isCategory, noCategories, withCategory}
 use Rattle.store.specs.Table.{fresh, labelLimit, ruleLimit, mappingLimit, onlycapLimit}
@@ -19,12 +20,14 @@ use Rattle.access.specs.declared.Answer.the-variants as answer
 use Rattle.lookups.specs.declared.Lookup.the-variants as lookup
 use Rattle.lookups.specs.declared.Label.the-variants as label
 use Rattle.output.specs.declared.Output.the-variants as output
-use Rattle.answers.specs.Answers.{shown, lookupShown, searchShown, outputShown}
+use Rattle.store.specs.declared.Done.the-variants as done
+use Rattle.revoke.specs.declared.Revoked.the-variants as revoked
+use Rattle.answers.specs.Answers.{shown, writeShown, revokeShown, lookupShown, searchShown, outputShown}
 use Rattle.store.specs.Pairs.{no-rule, modesSoFar}
 
 -- the refusals and the limits, in 01's order
-abbrev pub refusalNumbers : List ℕ
-refusalNumbers =
+abbrev pub refusals : List Refusal
+refusals =
     refusal.damaged ∷ refusal.tooLong ∷ refusal.wrongFields ∷ refusal.badLabel ∷ refusal.badAccess ∷ refusal.sameLabels ∷ refusal.labelsFull
     ∷ refusal.rulesFull ∷ refusal.badRequest ∷ refusal.badLevelOrCategory ∷ refusal.mappingsFull ∷ refusal.tooManyOverrides ∷ refusal.outputTooShort
     ∷ refusal.noSuchNumber ∷ []
@@ -33,7 +36,7 @@ abbrev pub limits : List ℕ
 limits = labelLongest ∷ labelLimit ∷ ruleLimit ∷ mappingLimit ∷ onlycapLimit ∷ lineLimit ∷ levelLimit ∷ categoryLimit ∷ countLimit ∷ longestRule ∷ []
 
 pub record NumbersOf01 : Type 0 where
-  pub refusals : refusalNumbers ≡ 0 ∷ 1 ∷ 2 ∷ 3 ∷ 4 ∷ 5 ∷ 6 ∷ 7 ∷ 8 ∷ 9 ∷ 10 ∷ 11 ∷ 12 ∷ 13 ∷ []
+  pub refused-by : refusals ≡ map refusal.plain (0 ∷ 1 ∷ 2 ∷ 3 ∷ 4 ∷ 5 ∷ 6 ∷ 7 ∷ 8 ∷ 9 ∷ 10 ∷ 11 ∷ 12 ∷ 13 ∷ [])
   pub sizes : limits ≡ 255 ∷ 64 ∷ 256 ∷ 32 ∷ 8 ∷ 600 ∷ 255 ∷ 63 ∷ 4294967295 ∷ 519 ∷ []
   -- a fresh table has the five labels and nothing else; a change of a pair that has no rule starts from no letter
   pub fresh-table :
@@ -41,23 +44,26 @@ pub record NumbersOf01 : Type 0 where
       ≡ record { labels = ascii "_" ∷ ascii "^" ∷ ascii "*" ∷ ascii "?" ∷ ascii "@" ∷ []; rules = []; mappings = []; onlycap = [] }
   pub from-none : modesSoFar no-rule ≡ 0
   -- a fresh loader has kept nothing and counted nothing, and an end call that is not refused leaves one
-  pub fresh-loader : freshLoader ≡ record { kept = 0; lines = 0; accepted = 0; skipped = 0; refused = 0; first = 0; reason = 0 }
+  pub fresh-loader : freshLoader ≡ record { kept = 0; report = record { lines = 0; accepted = 0; skipped = 0; refused = 0; first = 0; reason = 0; place = 0 } }
   pub after-the-end : (s : Load) → ready s ≡ true → endAfter s .loader ≡ freshLoader
   -- levels are 0 to 255 and categories 1 to 63; category 1 is the highest bit of a u64, and 63 the lowest but one
   pub levels : (n : ℕ) → isLevel n ≡ leb n 255
   pub categories : (n : ℕ) → isCategory n ≡ (leb 1 n && leb n 63)
   pub first-and-last : withCategory (withCategory noCategories 1) 63 ≡ 9223372036854775810
   -- a question: 0 granted, 1 denied, 2 granted by override, 3 refused, with the number that applies
-  pub granted : (n : ℕ) (b : Bool) → shown (answer.Granted n b) ≡ record { kind = 0; number = n; bringup = b }
-  pub denied-1 : shown (answer.Denied StarSubject) ≡ record { kind = 1; number = 1; bringup = false }
-  pub denied-7 : shown (answer.Denied AnyOther) ≡ record { kind = 1; number = 7; bringup = false }
-  pub override-1 : shown (answer.Override StarSubject) ≡ record { kind = 2; number = 1; bringup = false }
-  pub override-7 : shown (answer.Override AnyOther) ≡ record { kind = 2; number = 7; bringup = false }
-  pub refused : (n : ℕ) → shown (answer.Refused n) ≡ record { kind = 3; number = n; bringup = false }
+  pub granted : (n : ℕ) (b : Bool) → shown (answer.Granted n b) ≡ record { kind = 0; number = n; bringup = b; place = 0 }
+  pub denied-1 : shown (answer.Denied StarSubject) ≡ record { kind = 1; number = 1; bringup = false; place = 0 }
+  pub denied-7 : shown (answer.Denied AnyOther) ≡ record { kind = 1; number = 7; bringup = false; place = 0 }
+  pub override-1 : shown (answer.Override StarSubject) ≡ record { kind = 2; number = 1; bringup = false; place = 0 }
+  pub override-7 : shown (answer.Override AnyOther) ≡ record { kind = 2; number = 7; bringup = false; place = 0 }
+  pub refused : (r : Refusal) → shown (answer.Refused r) ≡ record { kind = 3; number = r .number; bringup = false; place = r .place }
   -- a look-up: 0 found, 1 none, 2 refused
-  pub mapped : (level set count : ℕ) → lookupShown (lookup.Mapped level set count) ≡ record { kind = 0; number = 0; level = level; count = count; set = set }
-  pub unmapped : lookupShown lookup.Unmapped ≡ record { kind = 1; number = 0; level = 0; count = 0; set = 0 }
-  pub look-up-refused : (n : ℕ) → lookupShown (lookup.Refused n) ≡ record { kind = 2; number = n; level = 0; count = 0; set = 0 }
+  pub mapped :
+      (level set count : ℕ) →
+      lookupShown (lookup.Mapped level set count) ≡ record { kind = 0; number = 0; level = level; count = count; set = set; place = 0 }
+  pub unmapped : lookupShown lookup.Unmapped ≡ record { kind = 1; number = 0; level = 0; count = 0; set = 0; place = 0 }
+  pub look-up-refused :
+      (r : Refusal) → lookupShown (lookup.Refused r) ≡ record { kind = 2; number = r .number; level = 0; count = 0; set = 0; place = r .place }
   pub found : (k : ℕ) → searchShown (label.Number k) ≡ record { kind = 0; number = 0; label = k }
   pub none : searchShown label.Nothing ≡ record { kind = 1; number = 0; label = 0 }
   pub search-refused : (n : ℕ) → searchShown (label.Refused n) ≡ record { kind = 2; number = n; label = 0 }
@@ -66,6 +72,12 @@ pub record NumbersOf01 : Type 0 where
   pub not-listed : (n : ℕ) → outputShown (output.Refused n) ≡ record { refused = true; number = n; length = 0 }
 
 -- what 02 adds, request by request. One: the refusals 14 and 15; the most bytes of a label in an old record, the bytes of a label's place, and those
--- of the record
+-- of the record. Three: the place beside a 3, as every answer that has one shows it; a refusal is plain where its place is 0
 pub record NumbersOf02 : Type 0 where
-  pub old-records : (refusal.badRecord ∷ refusal.notInARecord ∷ recordLabel ∷ labelPlace ∷ recordSize ∷ []) ≡ 14 ∷ 15 ∷ 23 ∷ 24 ∷ 53 ∷ []
+  pub old-records : (refusal.badRecord .number ∷ refusal.notInARecord .number ∷ recordLabel ∷ labelPlace ∷ recordSize ∷ []) ≡ 14 ∷ 15 ∷ 23 ∷ 24 ∷ 53 ∷ []
+  pub bad-label : (p : ℕ) → refusal.badLabelAt p ≡ record { number = 3; place = p }
+  pub plain : (n : ℕ) → refusal.plain n ≡ record { number = n; place = 0 }
+  pub written : (writeShown done.Done ≡ record { refused = false; number = 0; place = 0 })
+      × ((r : Refusal) → writeShown (done.Refused r) ≡ record { refused = true; number = r .number; place = r .place })
+  pub revoked : ((k : ℕ) → revokeShown (revoked.Count k) ≡ record { refused = false; number = 0; count = k; place = 0 })
+      × ((r : Refusal) → revokeShown (revoked.Refused r) ≡ record { refused = true; number = r .number; count = 0; place = r .place })

@@ -18,8 +18,8 @@ pub record SearchesTheRun : Type 0 where
   pub none : (run : List Record) (level set : ℕ) → runOf run level set ≡ label.Nothing → Unmatched run level set
   pub unmatched : (run : List Record) (level set : ℕ) → sought level set ≡ true → Unmatched run level set → runOf run level set ≡ label.Nothing
   -- 9 is answered exactly where the level or the set cannot be searched for
-  pub refused : (run : List Record) (level set : ℕ) → sought level set ≡ false → runOf run level set ≡ label.Refused badLevelOrCategory
-  pub only-9 : (run : List Record) (level set k : ℕ) → runOf run level set ≡ label.Refused k → (k ≡ badLevelOrCategory) × (sought level set ≡ false)
+  pub refused : (run : List Record) (level set : ℕ) → sought level set ≡ false → runOf run level set ≡ label.Refused (badLevelOrCategory .number)
+  pub only-9 : (run : List Record) (level set k : ℕ) → runOf run level set ≡ label.Refused k → (k ≡ badLevelOrCategory .number) × (sought level set ≡ false)
   -- a run whose fields stand in three slices has as many records as the shortest has elements, and record i has element i of each
   pub as-many : (labels levels sets : List ℕ) → Shortest (length labels) (length levels) (length sets) (length (recordsOf labels levels sets))
   pub each :

@@ -14,10 +14,11 @@ ghost use Rattle.calls.specs.PlainReaders.{PlainReaders, refusal-of};
 ghost use Rattle.lists.specs.Tables.{TablesFollow};
 ghost use Rattle.claims.specs.Cases.{right, cases, furtherCases};
 ghost use Rattle.claims.specs.EachRule.{EachRule};
-ghost use Rattle.claims.specs.Examples.{ExamplesOf01};
+ghost use Rattle.claims.specs.Examples.{ExamplesOf01, ExamplesOf02};
 ghost use Rattle.claims.specs.Exported.{ExportedCalls};
 ghost use Rattle.claims.specs.Numbers.{NumbersOf01, NumbersOf02};
 ghost use Rattle.claims.specs.Program.{ProgramOutput};
+ghost use Rattle.claims.specs.ReportCounts.{FirstRefusedLine};
 ghost use Rattle.claims.specs.Unchanged.{NothingChanges};
 ghost use Rattle.claims.specs.RunSearch.{SearchesTheRun};
 
@@ -90,6 +91,16 @@ pub fn numbers_of_02()
 // 01's examples, byte for byte, and further ones.
 pub fn examples_of_01()
     ensures { λ _. ⌜ ExamplesOf01 ⌝ }
+{}
+
+// Examples of 02: where the first bad byte is, in a line, a write and the report; and what the program writes.
+pub fn examples_of_02()
+    ensures { λ _. ⌜ ExamplesOf02 ⌝ }
+{}
+
+// What each judged line does to the report's numbers; of the first refused line the number, the reason and the place are kept (02, Three).
+pub fn first_refused_line()
+    ensures { λ _. ⌜ FirstRefusedLine ⌝ }
 {}
 
 // Each of the seven rules as 01 says it, with the labels and the letters as text.

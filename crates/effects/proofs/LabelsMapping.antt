@@ -7,7 +7,8 @@ use native.Mathlib.Omega.{arith}
 use lib.ListN.{length}
 use Rattle.search.specs.declared.Found.{Found}
 use Rattle.search.specs.declared.Found.the-variants.{At, Nothing}
-use Rattle.alphabet.specs.Alphabet.{wellFormed}
+use Rattle.refusals.specs.Refusals.{badLabelAt}
+use Rattle.alphabet.specs.Alphabet.{wellFormed, badByte}
 use Rattle.numbers.specs.Categories.{categories}
 use Rattle.store.specs.Table.{Table, labelIn, mappingIn, mappingNumbered}
 use Rattle.lookups.specs.declared.Lookup.the-variants.{Mapped, Unmapped, Refused}
@@ -70,7 +71,7 @@ module _ (t : Table) (l : List ℕ) where
       by-test :
           (b : Bool) →
           wellFormed l ≡ b →
-          cond b (lookupBy t (labelIn t l)) (Refused 3) ≡ Mapped level s count →
+          cond b (lookupBy t (labelIn t l)) (Refused (badLabelAt (badByte l))) ≡ Mapped level s count →
           (wellFormed l ≡ true) × (lookupBy t (labelIn t l) ≡ Mapped level s count)
       by-test true q e = (q, e)
       by-test false q e = let z : _≡_ {A = ℕ} 0 1 = cc in absurd (omega arith)
@@ -82,7 +83,7 @@ module _ (t : Table) (l : List ℕ) where
       by-test :
           (b : Bool) →
           wellFormed l ≡ b →
-          cond b (lookupBy t (labelIn t l)) (Refused 3) ≡ Unmapped →
+          cond b (lookupBy t (labelIn t l)) (Refused (badLabelAt (badByte l))) ≡ Unmapped →
           (wellFormed l ≡ true) × (lookupBy t (labelIn t l) ≡ Unmapped)
       by-test true q e = (q, e)
       by-test false q e = let z : _≡_ {A = ℕ} 0 1 = cc in absurd (omega arith)

@@ -13,7 +13,8 @@ use Rattle.search.specs.Bytes.{sameBytes}
 use Rattle.search.specs.declared.Found.{Found}
 use Rattle.search.specs.declared.Found.the-variants.{At, Nothing}
 use Rattle.search.proofs.Laws.{no, same-refl, same-equal, all-by, front-same}
-use Rattle.alphabet.specs.Alphabet.{wellFormed, fields}
+use Rattle.refusals.specs.Refusals.{tooLong, labelsFull, tooManyOverrides, badLabelAt}
+use Rattle.alphabet.specs.Alphabet.{wellFormed, fields, badByteIn}
 use Rattle.store.specs.Table.{Table, withOnlycap, numberIn}
 use Rattle.store.specs.Judged.{is-refused, is-accepted}
 use Rattle.onlycap.specs.Onlycap.{different, labelsWith, withList, loneDash, onlycapFields, onlycapWrite}
@@ -116,9 +117,9 @@ module _ (t : Table) (sound : SoundTable t) where
   labelled-set : (f : List ℕ) (more : List (List ℕ)) → loneDash (f ∷ more) ≡ false → SetsFields t (withList t (f ∷ more)) (f ∷ more)
   labelled-set f more e = record { lone-dash = λ q. absurd (no (sym e ∙ dash-is (f ∷ more) .1 q)); its-labels = λ q. labels-set f more }
 
-  fields-set : (fs : List (List ℕ)) (t′ : Table) → onlycapFields t fs ≡ is-accepted t′ → SetsFields t t′ fs
-  fields-set [] t′ e = let z : _≡_ {A = ℕ} 0 1 = cc in absurd (omega arith)
-  fields-set (f ∷ more) t′ e =
+  fields-set : (place : ℕ) (fs : List (List ℕ)) (t′ : Table) → onlycapFields place t fs ≡ is-accepted t′ → SetsFields t t′ fs
+  fields-set place [] t′ e = let z : _≡_ {A = ℕ} 0 1 = cc in absurd (omega arith)
+  fields-set place (f ∷ more) t′ e =
       by-tests (loneDash (f ∷ more)) refl (all wellFormed (f ∷ more)) (ltb 8 (length (different (f ∷ more)))) (ltb 64 (length (labelsWith t (f ∷ more)))) e
     where
       by-tests :
@@ -127,7 +128,7 @@ module _ (t : Table) (sound : SoundTable t) where
           (b c d : Bool) →
           cond a
           (is-accepted (withOnlycap t []))
-          (cond b (cond c (is-refused 11) (cond d (is-refused 6) (is-accepted (withList t (f ∷ more))))) (is-refused 3))
+          (cond b (cond c (is-refused tooManyOverrides) (cond d (is-refused labelsFull) (is-accepted (withList t (f ∷ more))))) (is-refused (badLabelAt place)))
           ≡ is-accepted t′ →
           SetsFields t t′ (f ∷ more)
       by-tests true q b c d e = let z : withOnlycap t [] ≡ t′ = cc in subst (λ (x : Table). SetsFields t x (f ∷ more)) z (dash-set (f ∷ more) q)
@@ -141,6 +142,6 @@ pub list-sets : (t t′ : Table) (text : List ℕ) → SoundTable t → onlycapW
 unfolding onlycapWrite
 list-sets t t′ text sound e = by-size (ltb 600 (length text)) e
   where
-    by-size : (b : Bool) → cond b (is-refused 1) (onlycapFields t (fields text)) ≡ is-accepted t′ → SetsFields t t′ (fields text)
+    by-size : (b : Bool) → cond b (is-refused tooLong) (onlycapFields (badByteIn text) t (fields text)) ≡ is-accepted t′ → SetsFields t t′ (fields text)
     by-size true e = let z : _≡_ {A = ℕ} 0 1 = cc in absurd (omega arith)
-    by-size false e = fields-set t sound (fields text) t′ e
+    by-size false e = fields-set t sound (badByteIn text) (fields text) t′ e

@@ -16,7 +16,8 @@ use Rattle.search.specs.declared.Found.{Found}
 use Rattle.search.specs.declared.Found.the-variants.{At, Nothing}
 use Rattle.search.proofs.Laws.{and-both, not-so, same-equal, all-at, first-is, first-place, first-none, Front, front-first, front-beyond}
 use Rattle.search.proofs.Laws.{first-put, first-put-other, found-put-other, put-at, put-other, length-put}
-use Rattle.alphabet.specs.Alphabet.{wellFormed}
+use Rattle.refusals.specs.Refusals.{labelsFull, mappingsFull, badLabelAt}
+use Rattle.alphabet.specs.Alphabet.{wellFormed, badByte}
 use Rattle.numbers.specs.Categories.{categories}
 use Rattle.store.specs.declared.Mapping.{Mapping}
 use Rattle.store.specs.Table.{Table, labelIn, enter, names, mappingIn, soundMapping, noPlace}
@@ -102,7 +103,7 @@ pub lookups-kept :
     (t t′ : Table) → SoundTable t → Front (t .labels) (t′ .labels) → t′ .mappings ≡ t .mappings → (x : List ℕ) → labelLookup t′ x ≡ labelLookup t x
 unfolding labelLookup
 lookups-kept t t′ sound front same x =
-    ap (λ (r : Lookup). cond (wellFormed x) r (Refused 3))
+    ap (λ (r : Lookup). cond (wellFormed x) r (Refused (badLabelAt (badByte x))))
     (by-found (labelIn t x) (labelIn t′ x) (λ i e. front-first (sameBytes x) i front e) (λ i e q. front-beyond (sameBytes x) i front e q))
   where
     by-found :
@@ -166,7 +167,7 @@ module _ (t : Table) (sound : SoundTable t) (l : List ℕ) (level s : ℕ) (form
   maps =
       record {
         found = rw (formed, enter-number (t .labels) l) (own-found (t .mappings) (numberFor t l) level s);
-        others = λ x apart. ap (λ (r : Lookup). cond (wellFormed x) r (Refused 3)) (others-kept x apart);
+        others = λ x apart. ap (λ (r : Lookup). cond (wellFormed x) r (Refused (badLabelAt (badByte x)))) (others-kept x apart);
         places = names-kept (t .mappings) (numberFor t l) level s;
         other-mappings = λ k h apart. put-other none (mappingFor t l) (t .mappings) _ k h (λ z. apart (place-own k h z));
         replaced = λ h. length-put (mappingFor t l) (t .mappings) _ ∙ counted (mappingFor t l) (λ e. h (looked-up ∙ ap (lookedUp (t .mappings)) e));
@@ -199,7 +200,7 @@ unfolding mappingWrite withMapping
 mapping-maps t t′ text l level s sound m e =
     by-tests (noPlace (labelIn t l) (length (t .labels)) 64) (noPlace (mappingFor t l) (length (t .mappings)) 32) (ap (saidJudged t) (sym m) ∙ e)
   where
-    by-tests : (a b : Bool) → cond a (is-refused 6) (cond b (is-refused 10) (is-accepted (withMapping t l level s))) ≡ is-accepted t′ → Maps t t′ l level s
+    by-tests : (a b : Bool) → cond a (is-refused labelsFull) (cond b (is-refused mappingsFull) (is-accepted (withMapping t l level s))) ≡ is-accepted t′ → Maps t t′ l level s
     by-tests true b e = let z : _≡_ {A = ℕ} 0 1 = cc in absurd (omega arith)
     by-tests false true e = let z : _≡_ {A = ℕ} 0 1 = cc in absurd (omega arith)
     by-tests false false e =

@@ -11,7 +11,8 @@ use lib.Bits.{or-lt}
 use lib.ListN.{length, getD}
 use borrow.Author.Tests.{eqb-true, le-ltb, ltb-false, leb-true}
 use Rattle.search.proofs.Laws.{no, and-both, or-is, eqb-is}
-use Rattle.alphabet.specs.Alphabet.{wellFormed, fields}
+use Rattle.refusals.specs.Refusals.{tooLong, badLevelOrCategory, badLabelAt}
+use Rattle.alphabet.specs.Alphabet.{wellFormed, fields, badByteIn}
 use Rattle.numbers.specs.Numbers.{numberOf}
 use Rattle.numbers.specs.Categories.{isLevel, isCategory, categoryBit, hasCategory, withCategory, knownSet}
 use Rattle.numbers.specs.declared.Number.{Number}
@@ -178,7 +179,7 @@ text-says text l level s e = by-length (ltb 600 (length text)) refl e
         numberOf f ≡ number.Value n →
         (b : Bool) →
         isLevel n ≡ b →
-        cond b (withSet x n (foldl withField (read.Set 0) cs)) (refused 9) ≡ mapping l level s →
+        cond b (withSet x n (foldl withField (read.Set 0) cs)) (refused badLevelOrCategory) ≡ mapping l level s →
         MappingText text l level s
     by-level x f cs n short parts formed q true is-level e = by-set x f cs n short parts formed q is-level (foldl withField (read.Set 0) cs) refl e
     by-level x f cs n short parts formed q false is-level e = let z : _≡_ {A = ℕ} 0 1 = cc in absurd (omega arith)
@@ -201,17 +202,17 @@ text-says text l level s e = by-length (ltb 600 (length text)) refl e
         fields text ≡ x ∷ f ∷ cs →
         (b : Bool) →
         wellFormed x ≡ b →
-        cond b (withLevel x (numberOf f) (foldl withField (read.Set 0) cs)) (refused 3) ≡ mapping l level s →
+        cond b (withLevel x (numberOf f) (foldl withField (read.Set 0) cs)) (refused (badLabelAt (badByteIn text))) ≡ mapping l level s →
         MappingText text l level s
     by-formed x f cs short parts true formed e = by-number x f cs short parts formed (numberOf f) refl e
     by-formed x f cs short parts false formed e = let z : _≡_ {A = ℕ} 0 1 = cc in absurd (omega arith)
 
-    by-fields : (fs : List (List ℕ)) → fields text ≡ fs → length text ≤ 600 → saidFields fs ≡ mapping l level s → MappingText text l level s
+    by-fields : (fs : List (List ℕ)) → fields text ≡ fs → length text ≤ 600 → saidFields (badByteIn text) fs ≡ mapping l level s → MappingText text l level s
     by-fields [] parts short e = let z : _≡_ {A = ℕ} 0 1 = cc in absurd (omega arith)
     by-fields (x ∷ []) parts short e = let z : _≡_ {A = ℕ} 0 1 = cc in absurd (omega arith)
     by-fields (x ∷ f ∷ cs) parts short e = by-formed x f cs short parts (wellFormed x) refl e
 
-    by-length : (b : Bool) → ltb 600 (length text) ≡ b → cond b (refused 1) (saidFields (fields text)) ≡ mapping l level s → MappingText text l level s
+    by-length : (b : Bool) → ltb 600 (length text) ≡ b → cond b (refused tooLong) (saidFields (badByteIn text) (fields text)) ≡ mapping l level s → MappingText text l level s
     by-length true q e = let z : _≡_ {A = ℕ} 0 1 = cc in absurd (omega arith)
     by-length false q e = by-fields (fields text) refl (ltb-false _ _ q) e
 

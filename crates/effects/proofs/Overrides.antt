@@ -10,7 +10,9 @@ use lib.ListN.{length}
 use borrow.Author.Tests.{eqb-true}
 use Rattle.search.specs.Search.{first}
 use Rattle.search.proofs.Laws.{no, eqb-is, or-is}
-use Rattle.alphabet.specs.Alphabet.{wellFormed}
+use Rattle.refusals.specs.Refusals.{badRequest, badLabelAt}
+use Rattle.refusals.specs.declared.Refusal.{Refusal}
+use Rattle.alphabet.specs.Alphabet.{wellFormed, badByteOfTwo}
 use Rattle.modes.specs.Modes.{readModes, requestLetters}
 use Rattle.modes.specs.declared.Access.{Access}
 use Rattle.modes.specs.declared.Access.the-variants.{Modes, Bad}
@@ -37,7 +39,7 @@ verdict-never (Grants n b) by e = let z : _≡_ {A = ℕ} 0 1 = cc in omega arit
 verdict-never (Denies d) by e = let z : _≡_ {A = ℕ} 0 1 = cc in omega arith
 verdict-never Undecided by e = let z : _≡_ {A = ℕ} 0 1 = cc in omega arith
 
-refused-stays : (e : Bool) (n : ℕ) → Refused n ≡ cond e (overridden (Refused n)) (Refused n)
+refused-stays : (e : Bool) (n : Refusal) → Refused n ≡ cond e (overridden (Refused n)) (Refused n)
 refused-stays true n = refl
 refused-stays false n = refl
 
@@ -46,7 +48,7 @@ module _ (t : Table) (s o request : List ℕ) where
       (r : Access) → byRequest t s o true r ≡ cond (effective t (labelIn t s) true) (overridden (byRequest t s o false r)) (byRequest t s o false r)
   unfolding decide effective
   request-overridden (Modes wanted) = verdict-overridden (effective t (labelIn t s) true) (firstOf (sevenRules t s o wanted))
-  request-overridden Bad = refused-stays (effective t (labelIn t s) true) 8
+  request-overridden Bad = refused-stays (effective t (labelIn t s) true) badRequest
 
   answer-overridden : answer t s o request true ≡ cond (effective t (labelIn t s) true) (overridden (answer t s o request false)) (answer t s o request false)
   unfolding answer
@@ -54,13 +56,13 @@ module _ (t : Table) (s o request : List ℕ) where
     where
       by-tests :
           (a b : Bool) (r : Access) →
-          cond a (cond b (Refused 8) (byRequest t s o true r)) (Refused 3)
+          cond a (cond b (Refused badRequest) (byRequest t s o true r)) (Refused (badLabelAt (badByteOfTwo s o)))
           ≡ cond (effective t (labelIn t s) true)
-          (overridden (cond a (cond b (Refused 8) (byRequest t s o false r)) (Refused 3)))
-          (cond a (cond b (Refused 8) (byRequest t s o false r)) (Refused 3))
-      by-tests true true r = refused-stays (effective t (labelIn t s) true) 8
+          (overridden (cond a (cond b (Refused badRequest) (byRequest t s o false r)) (Refused (badLabelAt (badByteOfTwo s o)))))
+          (cond a (cond b (Refused badRequest) (byRequest t s o false r)) (Refused (badLabelAt (badByteOfTwo s o))))
+      by-tests true true r = refused-stays (effective t (labelIn t s) true) badRequest
       by-tests true false r = request-overridden r
-      by-tests false b r = refused-stays (effective t (labelIn t s) true) 3
+      by-tests false b r = refused-stays (effective t (labelIn t s) true) (badLabelAt (badByteOfTwo s o))
 
   request-never : (r : Access) (by : Denial) → byRequest t s o false r ≡ Override by → ⊥
   unfolding decide effective
@@ -71,7 +73,7 @@ module _ (t : Table) (s o request : List ℕ) where
   unfolding answer
   answer-never by e = by-tests (wellFormed s && wellFormed o) (eqb (length request) 0) (readModes requestLetters false request) e
     where
-      by-tests : (a b : Bool) (r : Access) → cond a (cond b (Refused 8) (byRequest t s o false r)) (Refused 3) ≡ Override by → ⊥
+      by-tests : (a b : Bool) (r : Access) → cond a (cond b (Refused badRequest) (byRequest t s o false r)) (Refused (badLabelAt (badByteOfTwo s o))) ≡ Override by → ⊥
       by-tests true true r e = let z : _≡_ {A = ℕ} 0 1 = cc in omega arith
       by-tests true false r e = request-never r by e
       by-tests false b r e = let z : _≡_ {A = ℕ} 0 1 = cc in omega arith

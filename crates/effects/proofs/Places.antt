@@ -15,6 +15,7 @@ use Rattle.search.specs.Bytes.{sameBytes}
 use Rattle.search.specs.declared.Found.{Found}
 use Rattle.search.specs.declared.Found.the-variants.{At, Nothing}
 use Rattle.search.proofs.Laws.{no, and-both, same-refl, first-is, put-at, put-other, length-put, Front, front-more, front-first}
+use Rattle.refusals.specs.Refusals.{labelsFull, rulesFull}
 use Rattle.store.specs.declared.Rule.{Rule}
 use Rattle.store.specs.Table.{Table, labelIn, enter, numberIn, isPair, noPlace}
 use Rattle.store.specs.Pairs.{ruleBetween, modesFound, modesBetween, modesSoFar}
@@ -147,7 +148,7 @@ module _ (t : Table) (s o : List ℕ) where
     pub pair-keeps : (t′ : Table) → judged t (rule s o m) ≡ is-accepted t′ → KeepsPlaces t t′ s o
     pair-keeps t′ e = by-tests (ltb 64 (length ls)) (noPlace (pairRule t s o) (length (t .rules)) 256) e
       where
-        by-tests : (a b : Bool) → cond a (is-refused 6) (cond b (is-refused 7) (is-accepted (withPair t s o m))) ≡ is-accepted t′ → KeepsPlaces t t′ s o
+        by-tests : (a b : Bool) → cond a (is-refused labelsFull) (cond b (is-refused rulesFull) (is-accepted (withPair t s o m))) ≡ is-accepted t′ → KeepsPlaces t t′ s o
         by-tests true b e = let z : _≡_ {A = ℕ} 0 1 = cc in absurd (omega arith)
         by-tests false true e = let z : _≡_ {A = ℕ} 0 1 = cc in absurd (omega arith)
         by-tests false false e = let z : withPair t s o m ≡ t′ = cc in subst (λ (x : Table). KeepsPlaces t x s o) z kept

@@ -13,7 +13,8 @@ use Rattle.search.specs.Bytes.{sameBytes}
 use Rattle.search.specs.declared.Found.{Found}
 use Rattle.search.specs.declared.Found.the-variants.{At, Nothing}
 use Rattle.search.proofs.Laws.{no, and-both, not-so, same-refl, same-equal, first-is, first-map, first-same, map-at}
-use Rattle.alphabet.specs.Alphabet.{wellFormed}
+use Rattle.refusals.specs.Refusals.{tooLong, badLabelAt}
+use Rattle.alphabet.specs.Alphabet.{wellFormed, badByte}
 use Rattle.store.specs.declared.Rule.{Rule}
 use Rattle.store.specs.Table.{Table, labelIn, labelNumbered, isPair, soundRule}
 use Rattle.store.specs.Pairs.{has-modes, ruleBetween, modesFound, modesBetween}
@@ -181,7 +182,7 @@ revoke-clears t t′ l e = by-tests (ltb 600 (length l)) (wellFormed l) (labelIn
     by-tests :
         (a b : Bool) (f : Found) →
         labelIn t l ≡ f →
-        cond a (is-refused 1) (cond b (is-accepted (withoutModes t f)) (is-refused 3)) ≡ is-accepted t′ →
+        cond a (is-refused tooLong) (cond b (is-accepted (withoutModes t f)) (is-refused (badLabelAt (badByte l)))) ≡ is-accepted t′ →
         Revokes t t′ l
     by-tests true b f q e = let z : _≡_ {A = ℕ} 0 1 = cc in absurd (omega arith)
     by-tests false true (At n) q e = let z : withoutModes t (At n) ≡ t′ = cc in subst (λ (x : Table). Revokes t x l) z (revokes-at t l n q)

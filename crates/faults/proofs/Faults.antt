@@ -13,7 +13,9 @@ use Rattle.search.specs.Bytes.{ascii, sameBytes}
 use Rattle.search.specs.declared.Found.{Found}
 use Rattle.search.specs.declared.Found.the-variants.{At, Nothing}
 use Rattle.search.proofs.Laws.{no, and-both, entries-length, all-at, first-none}
-use Rattle.alphabet.specs.Alphabet.{wellFormed, fields}
+use Rattle.refusals.specs.Refusals.{damaged, tooLong, wrongFields, badAccess, sameLabels, labelsFull, rulesFull, badRequest, badLevelOrCategory, mappingsFull, tooManyOverrides, noSuchNumber, badLabelAt}
+use Rattle.refusals.specs.declared.Refusal.{Refusal}
+use Rattle.alphabet.specs.Alphabet.{wellFormed, badByte, badByteOfTwo, fields, badByteIn}
 use Rattle.modes.specs.Modes.{allowedByte, modesOf, readModes, ruleLetters, changeLetters, requestLetters}
 use Rattle.modes.specs.declared.Access.the-variants.{Modes, Bad}
 use Rattle.numbers.specs.Categories.{isLevel, isCategory, knownSet, withCategory}
@@ -72,13 +74,13 @@ use Rattle.faults.proofs.Records.{refuses, output-by, of-output, not-le
 use Rattle.faults.specs.Faults.{
   Fault,
   _when_,
-  Refusal,
+  First,
   none,
   by,
   firstFault,
   Refuses,
   badLabels,
-  badBytes,
+  badAccessField,
   freePlaces,
   pairFaults,
   lineFieldFaults,
@@ -116,82 +118,82 @@ use Rattle.faults.specs.Faults.{
 
 -- ---- what each answer is refused by
 
-abbrev done-by : Done → Refusal
+abbrev done-by : Done → First Refusal
 done-by d.Done = none
 done-by (d.Refused n) = by n
 
-of-done : (x : Done) (faults : List Fault) → done-by x ≡ firstFault faults → Refuses x d.Refused faults
+of-done : (x : Done) (faults : List (Fault Refusal)) → done-by x ≡ firstFault faults → Refuses x d.Refused faults
 of-done = refuses d.Refused done-by (λ n. refl) from
   where
-    from : (x : Done) (n : ℕ) → done-by x ≡ by n → x ≡ d.Refused n
+    from : (x : Done) (n : Refusal) → done-by x ≡ by n → x ≡ d.Refused n
     from d.Done n q = let z : _≡_ {A = ℕ} 0 1 = cc in absurd (omega arith)
     from (d.Refused m) n q = let z : m ≡ n = cc in ap d.Refused z
 
-abbrev fed-by : Fed → Refusal
+abbrev fed-by : Fed → First ℕ
 fed-by (f.Done x) = none
 fed-by (f.Refused n) = by n
 
-of-fed : (x : Fed) (faults : List Fault) → fed-by x ≡ firstFault faults → Refuses x f.Refused faults
+of-fed : (x : Fed) (faults : List (Fault ℕ)) → fed-by x ≡ firstFault faults → Refuses x f.Refused faults
 of-fed = refuses f.Refused fed-by (λ n. refl) from
   where
     from : (x : Fed) (n : ℕ) → fed-by x ≡ by n → x ≡ f.Refused n
     from (f.Done x) n q = let z : _≡_ {A = ℕ} 0 1 = cc in absurd (omega arith)
     from (f.Refused m) n q = let z : m ≡ n = cc in ap f.Refused z
 
-abbrev ended-by : Ended → Refusal
+abbrev ended-by : Ended → First ℕ
 ended-by (e.Report x y) = none
 ended-by (e.Refused n) = by n
 
-of-ended : (x : Ended) (faults : List Fault) → ended-by x ≡ firstFault faults → Refuses x e.Refused faults
+of-ended : (x : Ended) (faults : List (Fault ℕ)) → ended-by x ≡ firstFault faults → Refuses x e.Refused faults
 of-ended = refuses e.Refused ended-by (λ n. refl) from
   where
     from : (x : Ended) (n : ℕ) → ended-by x ≡ by n → x ≡ e.Refused n
     from (e.Report x y) n q = let z : _≡_ {A = ℕ} 0 1 = cc in absurd (omega arith)
     from (e.Refused m) n q = let z : m ≡ n = cc in ap e.Refused z
 
-abbrev outcome-by : Outcome → Refusal
+abbrev outcome-by : Outcome → First Refusal
 outcome-by v.Skipped = none
 outcome-by v.Accepted = none
 outcome-by (v.Refused n) = by n
 
-of-outcome : (x : Outcome) (faults : List Fault) → outcome-by x ≡ firstFault faults → Refuses x v.Refused faults
+of-outcome : (x : Outcome) (faults : List (Fault Refusal)) → outcome-by x ≡ firstFault faults → Refuses x v.Refused faults
 of-outcome = refuses v.Refused outcome-by (λ n. refl) from
   where
-    from : (x : Outcome) (n : ℕ) → outcome-by x ≡ by n → x ≡ v.Refused n
+    from : (x : Outcome) (n : Refusal) → outcome-by x ≡ by n → x ≡ v.Refused n
     from v.Skipped n q = let z : _≡_ {A = ℕ} 0 1 = cc in absurd (omega arith)
     from v.Accepted n q = let z : _≡_ {A = ℕ} 0 1 = cc in absurd (omega arith)
     from (v.Refused m) n q = let z : m ≡ n = cc in ap v.Refused z
 
-abbrev revoked-by : Revoked → Refusal
+abbrev revoked-by : Revoked → First Refusal
 revoked-by (r.Count x) = none
 revoked-by (r.Refused n) = by n
 
-of-revoked : (x : Revoked) (faults : List Fault) → revoked-by x ≡ firstFault faults → Refuses x r.Refused faults
+of-revoked : (x : Revoked) (faults : List (Fault Refusal)) → revoked-by x ≡ firstFault faults → Refuses x r.Refused faults
 of-revoked = refuses r.Refused revoked-by (λ n. refl) from
   where
-    from : (x : Revoked) (n : ℕ) → revoked-by x ≡ by n → x ≡ r.Refused n
+    from : (x : Revoked) (n : Refusal) → revoked-by x ≡ by n → x ≡ r.Refused n
     from (r.Count x) n q = let z : _≡_ {A = ℕ} 0 1 = cc in absurd (omega arith)
     from (r.Refused m) n q = let z : m ≡ n = cc in ap r.Refused z
 
-abbrev lookup-by : Lookup → Refusal
+abbrev lookup-by : Lookup → First Refusal
 lookup-by (lookup.Mapped x y w) = none
 lookup-by lookup.Unmapped = none
 lookup-by (lookup.Refused n) = by n
 
-of-lookup : (x : Lookup) (faults : List Fault) → lookup-by x ≡ firstFault faults → Refuses x lookup.Refused faults
+of-lookup : (x : Lookup) (faults : List (Fault Refusal)) → lookup-by x ≡ firstFault faults → Refuses x lookup.Refused faults
 of-lookup = refuses lookup.Refused lookup-by (λ n. refl) from
   where
-    from : (x : Lookup) (n : ℕ) → lookup-by x ≡ by n → x ≡ lookup.Refused n
+    from : (x : Lookup) (n : Refusal) → lookup-by x ≡ by n → x ≡ lookup.Refused n
     from (lookup.Mapped x y w) n q = let z : _≡_ {A = ℕ} 0 1 = cc in absurd (omega arith)
     from lookup.Unmapped n q = let z : _≡_ {A = ℕ} 0 1 = cc in absurd (omega arith)
     from (lookup.Refused m) n q = let z : m ≡ n = cc in ap lookup.Refused z
 
-abbrev label-by : Label → Refusal
+abbrev label-by : Label → First ℕ
 label-by (label.Number x) = none
 label-by label.Nothing = none
 label-by (label.Refused n) = by n
 
-of-label : (x : Label) (faults : List Fault) → label-by x ≡ firstFault faults → Refuses x label.Refused faults
+of-label : (x : Label) (faults : List (Fault ℕ)) → label-by x ≡ firstFault faults → Refuses x label.Refused faults
 of-label = refuses label.Refused label-by (λ n. refl) from
   where
     from : (x : Label) (n : ℕ) → label-by x ≡ by n → x ≡ label.Refused n
@@ -199,29 +201,29 @@ of-label = refuses label.Refused label-by (λ n. refl) from
     from label.Nothing n q = let z : _≡_ {A = ℕ} 0 1 = cc in absurd (omega arith)
     from (label.Refused m) n q = let z : m ≡ n = cc in ap label.Refused z
 
-abbrev answer-by : Answer → Refusal
+abbrev answer-by : Answer → First Refusal
 answer-by (a.Granted x y) = none
 answer-by (a.Denied x) = none
 answer-by (a.Override x) = none
 answer-by (a.Refused n) = by n
 
-of-answer : (x : Answer) (faults : List Fault) → answer-by x ≡ firstFault faults → Refuses x a.Refused faults
+of-answer : (x : Answer) (faults : List (Fault Refusal)) → answer-by x ≡ firstFault faults → Refuses x a.Refused faults
 of-answer = refuses a.Refused answer-by (λ n. refl) from
   where
-    from : (x : Answer) (n : ℕ) → answer-by x ≡ by n → x ≡ a.Refused n
+    from : (x : Answer) (n : Refusal) → answer-by x ≡ by n → x ≡ a.Refused n
     from (a.Granted x y) n q = let z : _≡_ {A = ℕ} 0 1 = cc in absurd (omega arith)
     from (a.Denied x) n q = let z : _≡_ {A = ℕ} 0 1 = cc in absurd (omega arith)
     from (a.Override x) n q = let z : _≡_ {A = ℕ} 0 1 = cc in absurd (omega arith)
     from (a.Refused m) n q = let z : m ≡ n = cc in ap a.Refused z
 
 -- and what a write is judged by
-abbrev stateFaults : Store → List Fault → List Fault
-stateFaults st more = 0 when not (undamagedOf st) ∷ more
+abbrev stateFaults : Store → List (Fault Refusal) → List (Fault Refusal)
+stateFaults st more = damaged when not (undamagedOf st) ∷ more
 
-abbrev writeFaults : List ℕ → List Fault → List Fault
-writeFaults text more = 1 when ltb 600 (length text) ∷ more
+abbrev writeFaults : List ℕ → List (Fault Refusal) → List (Fault Refusal)
+writeFaults text more = tooLong when ltb 600 (length text) ∷ more
 
-abbrev judged-by : Judged → Refusal
+abbrev judged-by : Judged → First Refusal
 judged-by is-skipped = none
 judged-by (is-refused n) = by n
 judged-by (is-accepted t) = none
@@ -244,10 +246,10 @@ count-judged k (is-accepted t) = refl
 -- ---- the test of the state comes first
 
 state-first :
-    {A : Type 0} (refusal : A → Refusal) (b : Bool) (x y : A) (more : Refusal) →
-    refusal y ≡ by 0 →
+    {A R : Type 0} (refusal : A → First R) (b : Bool) (x y : A) (more : First R) {z : R} →
+    refusal y ≡ by z →
     (b ≡ true → refusal x ≡ more) →
-    refusal (cond b x y) ≡ cond (not b) (by 0) more
+    refusal (cond b x y) ≡ cond (not b) (by z) more
 state-first refusal true x y more e h = h refl
 state-first refusal false x y more e h = e
 
@@ -255,7 +257,7 @@ state-first refusal false x y more e h = e
 
 fresh-first : (st : Store) → Refuses (freshAnswer st) d.Refused (freshFaults st)
 unfolding freshAnswer freshWrite
-fresh-first st = of-done _ (freshFaults st) (state-first (λ j. done-by (doneOf j)) (fullSizes st) (is-accepted fresh) (is-refused 0) none refl (λ u. refl))
+fresh-first st = of-done _ (freshFaults st) (state-first (λ j. done-by (doneOf j)) (fullSizes st) (is-accepted fresh) (is-refused damaged) none refl (λ u. refl))
 
 piece-first : (s : Load) (text : List ℕ) → Refuses (pieceAnswer s text) f.Refused (loaderFaults s)
 unfolding pieceAnswer
@@ -308,7 +310,7 @@ module _ (t : Table) (few-labels : length (t .labels) ≤ 64) (few-rules : lengt
         no-rule-place (pairRule t s o),
       )
     where
-      by-tests : (a b : Bool) → judged-by (cond a (is-refused 6) (cond b (is-refused 7) (is-accepted (withPair t s o m)))) ≡ cond a (by 6) (cond b (by 7) none)
+      by-tests : (a b : Bool) → judged-by (cond a (is-refused labelsFull) (cond b (is-refused rulesFull) (is-accepted (withPair t s o m)))) ≡ cond a (by labelsFull) (cond b (by rulesFull) none)
       by-tests true b = refl
       by-tests false true = refl
       by-tests false false = refl
@@ -316,34 +318,35 @@ module _ (t : Table) (few-labels : length (t .labels) ≤ 64) (few-rules : lengt
   -- ---- a line of rule text
 
   rule-first :
-      (s o x : List ℕ) →
-      judged-by (judged t (ruleBy s o x))
-      ≡ cond (badLabels s o) (by 3) (cond (badBytes ruleLetters true x) (by 4) (cond (sameBytes s o) (by 5) (firstFault (pairFaults t s o))))
+      (place : ℕ) (s o x : List ℕ) →
+      judged-by (judged t (ruleBy place s o x))
+      ≡ cond (badLabels s o) (by (badLabelAt place)) (cond (badAccessField ruleLetters true x) (by badAccess) (cond (sameBytes s o) (by sameLabels) (firstFault (pairFaults t s o))))
   unfolding ruleBy readModes
-  rule-first s o x = by-tests (wellFormed s) (wellFormed o) (all (allowedByte ruleLetters true) x)
+  rule-first place s o x = by-tests (wellFormed s) (wellFormed o) (all (allowedByte ruleLetters true) x)
     where
       by-same :
           (b : Bool) →
           sameBytes s o ≡ b →
-          judged-by (judged t (cond b (refused 5) (rule s o (modesOf x)))) ≡ cond b (by 5) (firstFault (pairFaults t s o))
+          judged-by (judged t (cond b (refused sameLabels) (rule s o (modesOf x)))) ≡ cond b (by sameLabels) (firstFault (pairFaults t s o))
       by-same true q = refl
       by-same false q = pair-first s o (modesOf x) q
 
       by-tests :
           (a b c : Bool) →
-          judged-by (judged t (cond (a && b) (ruleWith s o (cond c (Modes (modesOf x)) Bad)) (refused 3)))
-          ≡ cond (not a || not b) (by 3) (cond (not c) (by 4) (cond (sameBytes s o) (by 5) (firstFault (pairFaults t s o))))
+          judged-by (judged t (cond (a && b) (ruleWith s o (cond c (Modes (modesOf x)) Bad)) (refused (badLabelAt place))))
+          ≡ cond (not a || not b) (by (badLabelAt place)) (cond (not c) (by badAccess) (cond (sameBytes s o) (by sameLabels) (firstFault (pairFaults t s o))))
       by-tests false b c = refl
       by-tests true false c = refl
       by-tests true true false = refl
       by-tests true true true = by-same (sameBytes s o) refl
 
-  line-fields : (fs : List (List ℕ)) → judged-by (judged t (ruleFields fs)) ≡ firstFault (cond (eqb (length fs) 0) [] (lineFieldFaults t fs))
-  line-fields [] = refl
-  line-fields (s ∷ []) = refl
-  line-fields (s ∷ o ∷ []) = refl
-  line-fields (s ∷ o ∷ x ∷ []) = rule-first s o x
-  line-fields (s ∷ o ∷ x ∷ y ∷ more) =
+  line-fields :
+      (place : ℕ) (fs : List (List ℕ)) → judged-by (judged t (ruleFields place fs)) ≡ firstFault (cond (eqb (length fs) 0) [] (lineFieldFaults t place fs))
+  line-fields place [] = refl
+  line-fields place (s ∷ []) = refl
+  line-fields place (s ∷ o ∷ []) = refl
+  line-fields place (s ∷ o ∷ x ∷ []) = rule-first place s o x
+  line-fields place (s ∷ o ∷ x ∷ y ∷ more) =
       rw (ne-eqb (length (s ∷ o ∷ x ∷ y ∷ more)) 0 (λ q. omega arith), ne-eqb (length (s ∷ o ∷ x ∷ y ∷ more)) 3 (λ q. omega arith))
 
   line-first : (text : List ℕ) → judged-by (judged t (ruleOf text)) ≡ firstFault (lineFaults t text)
@@ -352,55 +355,55 @@ module _ (t : Table) (few-labels : length (t .labels) ≤ 64) (few-rules : lengt
     where
       by-length :
           (b : Bool) →
-          judged-by (judged t (cond b (refused 1) (ruleFields (fields text))))
-          ≡ cond b (by 1) (firstFault (cond (eqb (length (fields text)) 0) [] (lineFieldFaults t (fields text))))
+          judged-by (judged t (cond b (refused tooLong) (ruleFields (badByteIn text) (fields text))))
+          ≡ cond b (by tooLong) (firstFault (cond (eqb (length (fields text)) 0) [] (lineFieldFaults t (badByteIn text) (fields text))))
       by-length true = refl
-      by-length false = line-fields (fields text)
+      by-length false = line-fields (badByteIn text) (fields text)
 
   -- ---- change
 
   change-by :
-      (s o x y : List ℕ) →
-      judged-by (judged t (changeBy s o x y))
-      ≡ cond (badLabels s o) (by 3)
-      (cond (badBytes changeLetters true x || badBytes changeLetters true y) (by 4) (cond (sameBytes s o) (by 5) (firstFault (pairFaults t s o))))
+      (place : ℕ) (s o x y : List ℕ) →
+      judged-by (judged t (changeBy place s o x y))
+      ≡ cond (badLabels s o) (by (badLabelAt place))
+      (cond (badAccessField changeLetters true x || badAccessField changeLetters true y) (by badAccess) (cond (sameBytes s o) (by sameLabels) (firstFault (pairFaults t s o))))
   unfolding changeBy readModes
-  change-by s o x y = by-tests (wellFormed s) (wellFormed o) (all (allowedByte changeLetters true) x) (all (allowedByte changeLetters true) y)
+  change-by place s o x y = by-tests (wellFormed s) (wellFormed o) (all (allowedByte changeLetters true) x) (all (allowedByte changeLetters true) y)
     where
       by-same :
           (b : Bool) →
           sameBytes s o ≡ b →
-          judged-by (judged t (cond b (refused 5) (change s o (modesOf x) (modesOf y)))) ≡ cond b (by 5) (firstFault (pairFaults t s o))
+          judged-by (judged t (cond b (refused sameLabels) (change s o (modesOf x) (modesOf y)))) ≡ cond b (by sameLabels) (firstFault (pairFaults t s o))
       by-same true q = refl
       by-same false q = pair-first s o (changed (modesSoFar (modesBetween t s o)) (modesOf x) (modesOf y)) q
 
       by-tests :
           (a b c d : Bool) →
-          judged-by (judged t (cond (a && b) (changeWith s o (cond c (Modes (modesOf x)) Bad) (cond d (Modes (modesOf y)) Bad)) (refused 3)))
-          ≡ cond (not a || not b) (by 3) (cond (not c || not d) (by 4) (cond (sameBytes s o) (by 5) (firstFault (pairFaults t s o))))
+          judged-by (judged t (cond (a && b) (changeWith s o (cond c (Modes (modesOf x)) Bad) (cond d (Modes (modesOf y)) Bad)) (refused (badLabelAt place))))
+          ≡ cond (not a || not b) (by (badLabelAt place)) (cond (not c || not d) (by badAccess) (cond (sameBytes s o) (by sameLabels) (firstFault (pairFaults t s o))))
       by-tests false b c d = refl
       by-tests true false c d = refl
       by-tests true true false d = refl
       by-tests true true true false = refl
       by-tests true true true true = by-same (sameBytes s o) refl
 
-  change-fields : (fs : List (List ℕ)) → judged-by (judged t (changeFields fs)) ≡ firstFault (changeFieldFaults t fs)
-  change-fields [] = refl
-  change-fields (s ∷ []) = refl
-  change-fields (s ∷ o ∷ []) = refl
-  change-fields (s ∷ o ∷ x ∷ []) = refl
-  change-fields (s ∷ o ∷ x ∷ y ∷ []) = change-by s o x y
-  change-fields (s ∷ o ∷ x ∷ y ∷ z ∷ more) = rw (ne-eqb (length (s ∷ o ∷ x ∷ y ∷ z ∷ more)) 4 (λ q. omega arith))
+  change-fields : (place : ℕ) (fs : List (List ℕ)) → judged-by (judged t (changeFields place fs)) ≡ firstFault (changeFieldFaults t place fs)
+  change-fields place [] = refl
+  change-fields place (s ∷ []) = refl
+  change-fields place (s ∷ o ∷ []) = refl
+  change-fields place (s ∷ o ∷ x ∷ []) = refl
+  change-fields place (s ∷ o ∷ x ∷ y ∷ []) = change-by place s o x y
+  change-fields place (s ∷ o ∷ x ∷ y ∷ z ∷ more) = rw (ne-eqb (length (s ∷ o ∷ x ∷ y ∷ z ∷ more)) 4 (λ q. omega arith))
 
-  change-judged : (text : List ℕ) → judged-by (changeWrite text t) ≡ cond (ltb 600 (length text)) (by 1) (firstFault (changeFieldFaults t (fields text)))
+  change-judged : (text : List ℕ) → judged-by (changeWrite text t) ≡ cond (ltb 600 (length text)) (by tooLong) (firstFault (changeFieldFaults t (badByteIn text) (fields text)))
   unfolding changeOf
   change-judged text = by-length (ltb 600 (length text))
     where
       by-length :
           (b : Bool) →
-          judged-by (judged t (cond b (refused 1) (changeFields (fields text)))) ≡ cond b (by 1) (firstFault (changeFieldFaults t (fields text)))
+          judged-by (judged t (cond b (refused tooLong) (changeFields (badByteIn text) (fields text)))) ≡ cond b (by tooLong) (firstFault (changeFieldFaults t (badByteIn text) (fields text)))
       by-length true = refl
-      by-length false = change-fields (fields text)
+      by-length false = change-fields (badByteIn text) (fields text)
 
 -- ---- of a lent state
 
@@ -415,13 +418,13 @@ mappings-few st u = rw (entries-length (mappingAt (st .entries) (st .words)) (ge
 
 -- a write that answers done
 write-first :
-    (st : Store) (write : Table → Judged) (more : List Fault) →
+    (st : Store) (write : Table → Judged) (more : List (Fault Refusal)) →
     (undamagedOf st ≡ true → judged-by (write (tableOf st)) ≡ firstFault more) →
     Refuses (doneOf (onState st write)) d.Refused (stateFaults st more)
 unfolding onState
 write-first st write more h =
     of-done _ (stateFaults st more)
-    (state-first (λ j. done-by (doneOf j)) (undamagedOf st) (write (tableOf st)) (is-refused 0) (firstFault more) refl
+    (state-first (λ j. done-by (doneOf j)) (undamagedOf st) (write (tableOf st)) (is-refused damaged) (firstFault more) refl
     (λ u. done-judged (write (tableOf st)) ∙ h u))
 
 -- an outcome that is no skip
@@ -430,25 +433,25 @@ isSkipped v.Skipped = true
 isSkipped v.Accepted = false
 isSkipped (v.Refused n) = false
 
-not-skipped-refused : {n : ℕ} → v.Refused n ≡ v.Skipped → ⊥
+not-skipped-refused : {n : Refusal} → v.Refused n ≡ v.Skipped → ⊥
 unfolding isSkipped
 not-skipped-refused e = no (ap isSkipped e)
 
-never-skipped : (t : Table) (s o access : List ℕ) → outcomeOf (judged t (ruleBy s o access)) ≡ v.Skipped → ⊥
+never-skipped : (t : Table) (place : ℕ) (s o access : List ℕ) → outcomeOf (judged t (ruleBy place s o access)) ≡ v.Skipped → ⊥
 unfolding isSkipped ruleBy readModes
-never-skipped t s o access e = no (sym (by-tests (wellFormed s && wellFormed o) (all (allowedByte 63 true) access) (sameBytes s o)) ∙ ap isSkipped e)
+never-skipped t place s o access e = no (sym (by-tests (wellFormed s && wellFormed o) (all (allowedByte 63 true) access) (sameBytes s o)) ∙ ap isSkipped e)
   where
-    by-room : (p q : Bool) (u : Table) → isSkipped (outcomeOf (cond p (is-refused 6) (cond q (is-refused 7) (is-accepted u)))) ≡ false
+    by-room : (p q : Bool) (u : Table) → isSkipped (outcomeOf (cond p (is-refused labelsFull) (cond q (is-refused rulesFull) (is-accepted u)))) ≡ false
     by-room true q u = refl
     by-room false true u = refl
     by-room false false u = refl
 
-    by-tests : (p q same : Bool) → isSkipped (outcomeOf (judged t (cond p (ruleWith s o (cond q (Modes (modesOf access)) Bad)) (refused 3)))) ≡ false
+    by-tests : (p q same : Bool) → isSkipped (outcomeOf (judged t (cond p (ruleWith s o (cond q (Modes (modesOf access)) Bad)) (refused (badLabelAt place))))) ≡ false
     by-tests false q same = refl
     by-tests true false same = refl
     by-tests true true same = by-same (sameBytes s o)
       where
-        by-same : (b : Bool) → isSkipped (outcomeOf (judged t (cond b (refused 5) (rule s o (modesOf access))))) ≡ false
+        by-same : (b : Bool) → isSkipped (outcomeOf (judged t (cond b (refused sameLabels) (rule s o (modesOf access))))) ≡ false
         by-same true = refl
         by-same false = by-room (ltb 64 (length (pairLabels t s o))) (noPlace (pairRule t s o) (length (t .rules)) 256) (withPair t s o (modesOf access))
 
@@ -466,25 +469,25 @@ line-skipped st text = (λ e. by-length (isTooLong text) refl e, λ h. rw (h .0,
     t : Table
     t = tableOf st
 
-    by-fields : (fs : List (List ℕ)) → outcomeOf (judged t (ruleFields fs)) ≡ v.Skipped → fs ≡ []
-    by-fields [] e = refl
-    by-fields (s ∷ []) e = absurd (not-skipped-refused e)
-    by-fields (s ∷ o ∷ []) e = absurd (not-skipped-refused e)
-    by-fields (s ∷ o ∷ a ∷ []) e = absurd (never-skipped t s o a e)
-    by-fields (s ∷ o ∷ a ∷ x ∷ more) e = absurd (not-skipped-refused e)
+    by-fields : (place : ℕ) (fs : List (List ℕ)) → outcomeOf (judged t (ruleFields place fs)) ≡ v.Skipped → fs ≡ []
+    by-fields place [] e = refl
+    by-fields place (s ∷ []) e = absurd (not-skipped-refused e)
+    by-fields place (s ∷ o ∷ []) e = absurd (not-skipped-refused e)
+    by-fields place (s ∷ o ∷ a ∷ []) e = absurd (never-skipped t place s o a e)
+    by-fields place (s ∷ o ∷ a ∷ x ∷ more) e = absurd (not-skipped-refused e)
 
     by-length :
         (b : Bool) →
         isTooLong text ≡ b →
-        outcomeOf (judged t (cond b (refused 1) (ruleFields (fields text)))) ≡ v.Skipped →
+        outcomeOf (judged t (cond b (refused tooLong) (ruleFields (badByteIn text) (fields text)))) ≡ v.Skipped →
         (isTooLong text ≡ false) × (fields text ≡ [])
     by-length true q e = absurd (not-skipped-refused e)
-    by-length false q e = (q, by-fields (fields text) e)
+    by-length false q e = (q, by-fields (badByteIn text) (fields text) e)
 
 change-refused : (st : Store) (text : List ℕ) → Refuses (changeAnswer st text) d.Refused (changeFaults st text)
 unfolding changeAnswer
 change-refused st text =
-    write-first st (changeWrite text) (writeFaults text (changeFieldFaults (tableOf st) (fields text)))
+    write-first st (changeWrite text) (writeFaults text (changeFieldFaults (tableOf st) (badByteIn text) (fields text)))
     (λ u. change-judged (tableOf st) (labels-few st u) (rules-few st u) text)
 
 -- ---- revoke
@@ -493,7 +496,7 @@ revoke-refused : (st : Store) (text : List ℕ) → Refuses (revokeAnswer st tex
 unfolding revokeAnswer onState revokeWrite
 revoke-refused st text =
     of-revoked _ (revokeFaults st text)
-    (state-first (λ j. revoked-by (countOf k j)) (undamagedOf st) (revokeWrite text (tableOf st)) (is-refused 0) _ refl
+    (state-first (λ j. revoked-by (countOf k j)) (undamagedOf st) (revokeWrite text (tableOf st)) (is-refused damaged) _ refl
     (λ u. count-judged k (revokeWrite text (tableOf st)) ∙ by-tests (ltb 600 (length text)) (wellFormed text)))
   where
     k : ℕ
@@ -501,8 +504,8 @@ revoke-refused st text =
 
     by-tests :
         (a b : Bool) →
-        judged-by (cond a (is-refused 1) (cond b (is-accepted (withoutModes (tableOf st) (labelIn (tableOf st) text))) (is-refused 3)))
-        ≡ cond a (by 1) (cond (not b) (by 3) none)
+        judged-by (cond a (is-refused tooLong) (cond b (is-accepted (withoutModes (tableOf st) (labelIn (tableOf st) text))) (is-refused (badLabelAt (badByte text)))))
+        ≡ cond a (by tooLong) (cond (not b) (by (badLabelAt (badByte text))) none)
     by-tests true b = refl
     by-tests false true = refl
     by-tests false false = refl
@@ -513,15 +516,15 @@ different-many : (fs : List (List ℕ)) → length (different fs) ≡ length (di
 different-many fs = let k = ap length (those-all (differentOnes fs)) in omega (arith, entered-many fs [])
 
 module _ (t : Table) (few-labels : length (t .labels) ≤ 64) where
-  labels-first : (fs : List (List ℕ)) → judged-by (onlycapLabels t fs) ≡ firstFault (onlycapLabelFaults t fs)
-  labels-first fs =
+  labels-first : (place : ℕ) (fs : List (List ℕ)) → judged-by (onlycapLabels place t fs) ≡ firstFault (onlycapLabelFaults t place fs)
+  labels-first place fs =
       by-tests (all wellFormed fs) (ltb 8 (length (different fs))) (ltb 64 (length (labelsWith t fs)))
       ∙ rw (different-many fs, entered-many fs (t .labels), over-free 64 (length (t .labels)) (length (newOnes (t .labels) fs)) few-labels)
     where
       by-tests :
           (a b c : Bool) →
-          judged-by (cond a (cond b (is-refused 11) (cond c (is-refused 6) (is-accepted (withList t fs)))) (is-refused 3))
-          ≡ cond (not a) (by 3) (cond b (by 11) (cond c (by 6) none))
+          judged-by (cond a (cond b (is-refused tooManyOverrides) (cond c (is-refused labelsFull) (is-accepted (withList t fs)))) (is-refused (badLabelAt place)))
+          ≡ cond (not a) (by (badLabelAt place)) (cond b (by tooManyOverrides) (cond c (by labelsFull) none))
       by-tests false b c = refl
       by-tests true true c = refl
       by-tests true false true = refl
@@ -532,34 +535,34 @@ module _ (t : Table) (few-labels : length (t .labels) ≤ 64) where
   lone-dash (x ∷ []) = refl
   lone-dash (x ∷ y ∷ more) = rw (ne-eqb (length (x ∷ y ∷ more)) 1 (λ q. omega arith))
 
-  override-first : (fs : List (List ℕ)) → judged-by (onlycapFields t fs) ≡ firstFault (onlycapFieldFaults t fs)
-  override-first [] = refl
-  override-first (x ∷ more) = rw (ne-eqb (length (x ∷ more)) 0 (λ q. omega arith)) (by-dash (loneDash (x ∷ more)) (lone-dash (x ∷ more)))
+  override-first : (place : ℕ) (fs : List (List ℕ)) → judged-by (onlycapFields place t fs) ≡ firstFault (onlycapFieldFaults t place fs)
+  override-first place [] = refl
+  override-first place (x ∷ more) = rw (ne-eqb (length (x ∷ more)) 0 (λ q. omega arith)) (by-dash (loneDash (x ∷ more)) (lone-dash (x ∷ more)))
     where
       by-dash :
           (b : Bool) →
           b ≡ clears (x ∷ more) →
-          judged-by (cond b (is-accepted (withOnlycap t [])) (onlycapLabels t (x ∷ more))) ≡ firstFault (cond (clears (x ∷ more)) [] (onlycapLabelFaults t (x ∷ more)))
+          judged-by (cond b (is-accepted (withOnlycap t [])) (onlycapLabels place t (x ∷ more))) ≡ firstFault (cond (clears (x ∷ more)) [] (onlycapLabelFaults t place (x ∷ more)))
       by-dash true q = rw (← q)
-      by-dash false q = rw (← q) (labels-first (x ∷ more))
+      by-dash false q = rw (← q) (labels-first place (x ∷ more))
 
-  onlycap-judged : (text : List ℕ) → judged-by (onlycapWrite text t) ≡ firstFault (writeFaults text (onlycapFieldFaults t (fields text)))
+  onlycap-judged : (text : List ℕ) → judged-by (onlycapWrite text t) ≡ firstFault (writeFaults text (onlycapFieldFaults t (badByteIn text) (fields text)))
   unfolding onlycapWrite
   onlycap-judged text = by-length (ltb 600 (length text))
     where
-      by-length : (b : Bool) → judged-by (cond b (is-refused 1) (onlycapFields t (fields text))) ≡ cond b (by 1) (firstFault (onlycapFieldFaults t (fields text)))
+      by-length : (b : Bool) → judged-by (cond b (is-refused tooLong) (onlycapFields (badByteIn text) t (fields text))) ≡ cond b (by tooLong) (firstFault (onlycapFieldFaults t (badByteIn text) (fields text)))
       by-length true = refl
-      by-length false = override-first (fields text)
+      by-length false = override-first (badByteIn text) (fields text)
 
 onlycap-refused : (st : Store) (text : List ℕ) → Refuses (onlycapAnswer st text) d.Refused (onlycapFaults st text)
 unfolding onlycapAnswer
 onlycap-refused st text =
-    write-first st (onlycapWrite text) (writeFaults text (onlycapFieldFaults (tableOf st) (fields text))) (λ u. onlycap-judged (tableOf st) (labels-few st u) text)
+    write-first st (onlycapWrite text) (writeFaults text (onlycapFieldFaults (tableOf st) (badByteIn text) (fields text))) (λ u. onlycap-judged (tableOf st) (labels-few st u) text)
 
 -- ---- mapping
 
 -- of what is built by a test, both ways that the test can go
-either : {A : Type 0} (refusal : A → Refusal) (b : Bool) {x y : A} {m n : Refusal} → refusal x ≡ m → refusal y ≡ n → refusal (cond b x y) ≡ cond b m n
+either : {A : Type 0} (refusal : A → First Refusal) (b : Bool) {x y : A} {m n : First Refusal} → refusal x ≡ m → refusal y ≡ n → refusal (cond b x y) ≡ cond b m n
 either refusal true g h = g
 either refusal false g h = h
 
@@ -608,9 +611,9 @@ module _ (t : Table) (few-labels : length (t .labels) ≤ 64) (few-mappings : le
       by-label (At n) = by-mapping (mappingIn t n)
       by-label Nothing = rw new-unmapped (full 32 (length (t .mappings)) few-mappings)
 
-  abbrev roomFaults : List ℕ → List Fault
+  abbrev roomFaults : List ℕ → List (Fault Refusal)
   roomFaults x =
-      6 when ltb (freePlaces t) (newLabels (labelIn t x)) ∷ 10 when (not (hasMapping t (labelIn t x)) && eqb (length (t .mappings)) 32) ∷ []
+      labelsFull when ltb (freePlaces t) (newLabels (labelIn t x)) ∷ mappingsFull when (not (hasMapping t (labelIn t x)) && eqb (length (t .mappings)) 32) ∷ []
 
   room-first : (x : List ℕ) (level s : ℕ) → judged-by (cipso.mappingJudged t x level s) ≡ firstFault (roomFaults x)
   room-first x level s =
@@ -619,7 +622,7 @@ module _ (t : Table) (few-labels : length (t .labels) ≤ 64) (few-mappings : le
     where
       by-tests :
           (a b : Bool) →
-          judged-by (cond a (is-refused 6) (cond b (is-refused 10) (is-accepted (cipso.withMapping t x level s)))) ≡ cond a (by 6) (cond b (by 10) none)
+          judged-by (cond a (is-refused labelsFull) (cond b (is-refused mappingsFull) (is-accepted (cipso.withMapping t x level s)))) ≡ cond a (by labelsFull) (cond b (by mappingsFull) none)
       by-tests true b = refl
       by-tests false true = refl
       by-tests false false = refl
@@ -627,18 +630,18 @@ module _ (t : Table) (few-labels : length (t .labels) ≤ 64) (few-mappings : le
   -- fields make a set exactly when each is a category: one that is none makes the fault, which stays
   with-fault :
       (x : List ℕ) (level : ℕ) (fs : List (List ℕ)) →
-      judged-by (cipso.saidJudged t (cipso.withSet x level (foldl cipso.withField (cipso.withNumber 0 number.Bad) fs))) ≡ by 9
+      judged-by (cipso.saidJudged t (cipso.withSet x level (foldl cipso.withField (cipso.withNumber 0 number.Bad) fs))) ≡ by badLevelOrCategory
   with-fault x level [] = refl
   with-fault x level (g ∷ fs) = with-fault x level fs
 
   with-categories :
       (x : List ℕ) (level s : ℕ) (fs : List (List ℕ)) →
-      judged-by (cipso.saidJudged t (cipso.withSet x level (categoriesFrom s fs))) ≡ cond (not (all categoryField fs)) (by 9) (firstFault (roomFaults x))
+      judged-by (cipso.saidJudged t (cipso.withSet x level (categoriesFrom s fs))) ≡ cond (not (all categoryField fs)) (by badLevelOrCategory) (firstFault (roomFaults x))
   unfolding all
   with-categories x level s [] = room-first x level s
   with-categories x level s (g ∷ fs) = by-number (numberOf g) (λ k. with-categories x level (withCategory s k) fs)
     where
-      by-test : (b c : Bool) → cond b (cond (not c) (by 9) (firstFault (roomFaults x))) (by 9) ≡ cond (not (b && c)) (by 9) (firstFault (roomFaults x))
+      by-test : (b c : Bool) → cond b (cond (not c) (by badLevelOrCategory) (firstFault (roomFaults x))) (by badLevelOrCategory) ≡ cond (not (b && c)) (by badLevelOrCategory) (firstFault (roomFaults x))
       by-test true c = refl
       by-test false c = refl
 
@@ -646,69 +649,69 @@ module _ (t : Table) (few-labels : length (t .labels) ≤ 64) (few-mappings : le
           (k : Number) →
           ((n : ℕ) →
           judged-by (cipso.saidJudged t (cipso.withSet x level (categoriesFrom (withCategory s n) fs)))
-          ≡ cond (not (all categoryField fs)) (by 9) (firstFault (roomFaults x))) →
+          ≡ cond (not (all categoryField fs)) (by badLevelOrCategory) (firstFault (roomFaults x))) →
           judged-by (cipso.saidJudged t (cipso.withSet x level (foldl cipso.withField (cipso.withNumber s k) fs)))
-          ≡ cond (not (numberPasses isCategory k && all categoryField fs)) (by 9) (firstFault (roomFaults x))
+          ≡ cond (not (numberPasses isCategory k && all categoryField fs)) (by badLevelOrCategory) (firstFault (roomFaults x))
       by-number number.Bad more = with-fault x level fs
       by-number (number.Value n) more =
           either (λ cs. judged-by (cipso.saidJudged t (cipso.withSet x level (foldl cipso.withField cs fs)))) (isCategory n) (more n) (with-fault x level fs)
           ∙ by-test (isCategory n) (all categoryField fs)
 
   mapping-by :
-      (x level : List ℕ) (fs : List (List ℕ)) →
-      judged-by (cipso.saidJudged t (cipso.saidBy x level fs))
-      ≡ cond (not (wellFormed x)) (by 3) (cond (not (levelField level) || not (all categoryField fs)) (by 9) (firstFault (roomFaults x)))
+      (place : ℕ) (x level : List ℕ) (fs : List (List ℕ)) →
+      judged-by (cipso.saidJudged t (cipso.saidBy place x level fs))
+      ≡ cond (not (wellFormed x)) (by (badLabelAt place)) (cond (not (levelField level) || not (all categoryField fs)) (by badLevelOrCategory) (firstFault (roomFaults x)))
   unfolding cipso.saidBy
-  mapping-by x level fs = by-formed (wellFormed x)
+  mapping-by place x level fs = by-formed (wellFormed x)
     where
       by-test :
           (n : ℕ) (b : Bool) →
-          judged-by (cipso.saidJudged t (cond b (cipso.withSet x n (cipso.categoriesOf fs)) (cipso.refused 9)))
-          ≡ cond (not b || not (all categoryField fs)) (by 9) (firstFault (roomFaults x))
+          judged-by (cipso.saidJudged t (cond b (cipso.withSet x n (cipso.categoriesOf fs)) (cipso.refused badLevelOrCategory)))
+          ≡ cond (not b || not (all categoryField fs)) (by badLevelOrCategory) (firstFault (roomFaults x))
       by-test n true = rw (categories-start fs) (with-categories x n 0 fs)
       by-test n false = refl
 
       by-level :
           (k : Number) →
           judged-by (cipso.saidJudged t (cipso.withLevel x k (cipso.categoriesOf fs)))
-          ≡ cond (not (numberPasses isLevel k) || not (all categoryField fs)) (by 9) (firstFault (roomFaults x))
+          ≡ cond (not (numberPasses isLevel k) || not (all categoryField fs)) (by badLevelOrCategory) (firstFault (roomFaults x))
       by-level number.Bad = refl
       by-level (number.Value n) = by-test n (isLevel n)
 
       by-formed :
           (b : Bool) →
-          judged-by (cipso.saidJudged t (cond b (cipso.withLevel x (numberOf level) (cipso.categoriesOf fs)) (cipso.refused 3)))
-          ≡ cond (not b) (by 3) (cond (not (levelField level) || not (all categoryField fs)) (by 9) (firstFault (roomFaults x)))
+          judged-by (cipso.saidJudged t (cond b (cipso.withLevel x (numberOf level) (cipso.categoriesOf fs)) (cipso.refused (badLabelAt place))))
+          ≡ cond (not b) (by (badLabelAt place)) (cond (not (levelField level) || not (all categoryField fs)) (by badLevelOrCategory) (firstFault (roomFaults x)))
       by-formed true = by-level (numberOf level)
       by-formed false = refl
 
-  mapping-fields : (fs : List (List ℕ)) → judged-by (cipso.saidJudged t (cipso.saidFields fs)) ≡ firstFault (mappingFieldFaults t fs)
-  mapping-fields [] = refl
-  mapping-fields (x ∷ []) = refl
-  mapping-fields (x ∷ level ∷ fs) = rw (le-ltb (length (x ∷ level ∷ fs)) 2 (omega arith)) (mapping-by x level fs)
+  mapping-fields : (place : ℕ) (fs : List (List ℕ)) → judged-by (cipso.saidJudged t (cipso.saidFields place fs)) ≡ firstFault (mappingFieldFaults t place fs)
+  mapping-fields place [] = refl
+  mapping-fields place (x ∷ []) = refl
+  mapping-fields place (x ∷ level ∷ fs) = rw (le-ltb (length (x ∷ level ∷ fs)) 2 (omega arith)) (mapping-by place x level fs)
 
-  mapping-judged : (text : List ℕ) → judged-by (cipso.mappingWrite text t) ≡ firstFault (writeFaults text (mappingFieldFaults t (fields text)))
+  mapping-judged : (text : List ℕ) → judged-by (cipso.mappingWrite text t) ≡ firstFault (writeFaults text (mappingFieldFaults t (badByteIn text) (fields text)))
   unfolding cipso.mappingWrite cipso.mappingOf
   mapping-judged text = by-length (ltb 600 (length text))
     where
       by-length :
           (b : Bool) →
-          judged-by (cipso.saidJudged t (cond b (cipso.refused 1) (cipso.saidFields (fields text))))
-          ≡ cond b (by 1) (firstFault (mappingFieldFaults t (fields text)))
+          judged-by (cipso.saidJudged t (cond b (cipso.refused tooLong) (cipso.saidFields (badByteIn text) (fields text))))
+          ≡ cond b (by tooLong) (firstFault (mappingFieldFaults t (badByteIn text) (fields text)))
       by-length true = refl
-      by-length false = mapping-fields (fields text)
+      by-length false = mapping-fields (badByteIn text) (fields text)
 
 mapping-refused : (st : Store) (text : List ℕ) → Refuses (cipso.mapAnswer st text) d.Refused (mappingFaults st text)
 unfolding cipso.mapAnswer
 mapping-refused st text =
-    write-first st (cipso.mappingWrite text) (writeFaults text (mappingFieldFaults (tableOf st) (fields text)))
+    write-first st (cipso.mappingWrite text) (writeFaults text (mappingFieldFaults (tableOf st) (badByteIn text) (fields text)))
     (λ u. mapping-judged (tableOf st) (labels-few st u) (mappings-few st u) (undamaged-sound st u) text)
 
 -- ---- the lookups
 
 by-label-refused : (st : Store) (x : List ℕ) → Refuses (byLabelOf st x) lookup.Refused (byLabelFaults st x)
 unfolding byLabelOf labelLookup
-by-label-refused st x = of-lookup _ (byLabelFaults st x) (state-first lookup-by (undamagedOf st) _ (lookup.Refused 0) _ refl (λ u. by-test (wellFormed x)))
+by-label-refused st x = of-lookup _ (byLabelFaults st x) (state-first lookup-by (undamagedOf st) _ (lookup.Refused damaged) _ refl (λ u. by-test (wellFormed x)))
   where
     by-mapping : (at : Found) → lookup-by (lookedUp (tableOf st .mappings) at) ≡ none
     by-mapping (At i) = refl
@@ -718,7 +721,7 @@ by-label-refused st x = of-lookup _ (byLabelFaults st x) (state-first lookup-by 
     by-place Nothing = refl
     by-place (At k) = by-mapping (mappingIn (tableOf st) k)
 
-    by-test : (b : Bool) → lookup-by (cond b (lookupBy (tableOf st) (labelIn (tableOf st) x)) (lookup.Refused 3)) ≡ cond (not b) (by 3) none
+    by-test : (b : Bool) → lookup-by (cond b (lookupBy (tableOf st) (labelIn (tableOf st) x)) (lookup.Refused (badLabelAt (badByte x)))) ≡ cond (not b) (by (badLabelAt (badByte x))) none
     by-test true = by-place (labelIn (tableOf st) x)
     by-test false = refl
 
@@ -770,8 +773,8 @@ asked-first t s o request capable = by-tests (wellFormed s) (wellFormed o) (eqb 
 
     by-tests :
         (p q m n : Bool) →
-        answer-by (cond (p && q) (cond m (a.Refused 8) (byRequest t s o capable (cond n (Modes (modesOf request)) Bad))) (a.Refused 3))
-        ≡ cond (not p || not q) (by 3) (cond (m || not n) (by 8) none)
+        answer-by (cond (p && q) (cond m (a.Refused badRequest) (byRequest t s o capable (cond n (Modes (modesOf request)) Bad))) (a.Refused (badLabelAt (badByteOfTwo s o))))
+        ≡ cond (not p || not q) (by (badLabelAt (badByteOfTwo s o))) (cond (m || not n) (by badRequest) none)
     by-tests false q m n = refl
     by-tests true false m n = refl
     by-tests true true true n = refl
@@ -782,7 +785,7 @@ question-refused : (st : Store) (s o request : List ℕ) (capable : Bool) → Re
 unfolding questionOf
 question-refused st s o request capable =
     of-answer _ (questionFaults st s o request)
-    (state-first answer-by (undamagedOf st) _ (a.Refused 0) _ refl (λ u. asked-first (tableOf st) s o request capable))
+    (state-first answer-by (undamagedOf st) _ (a.Refused damaged) _ refl (λ u. asked-first (tableOf st) s o request capable))
 
 -- ---- a question line of the program
 
@@ -792,13 +795,13 @@ question-line-refused t line = of-answer _ (questionLineFaults line) (by-length 
   where
     by-o :
         (s o request c : List ℕ) (b : Bool) →
-        answer-by (cond b (answer t s o request true) (a.Refused 2)) ≡ cond (not b) (by 2) (firstFault (askFaults s o request))
+        answer-by (cond b (answer t s o request true) (a.Refused wrongFields)) ≡ cond (not b) (by wrongFields) (firstFault (askFaults s o request))
     by-o s o request c true = asked-first t s o request true
     by-o s o request c false = refl
 
     by-fields :
         (fs : List (List ℕ)) →
-        answer-by (asked (answer t) fs) ≡ cond (not (asksAQuestion fs)) (by 2) (firstFault (askFaults (field fs 0) (field fs 1) (field fs 2)))
+        answer-by (asked (answer t) fs) ≡ cond (not (asksAQuestion fs)) (by wrongFields) (firstFault (askFaults (field fs 0) (field fs 1) (field fs 2)))
     by-fields [] = refl
     by-fields (s ∷ []) = refl
     by-fields (s ∷ o ∷ []) = refl
@@ -807,9 +810,9 @@ question-line-refused t line = of-answer _ (questionLineFaults line) (by-length 
     by-fields (s ∷ o ∷ r ∷ c ∷ x ∷ more) = rw (ne-eqb (length (s ∷ o ∷ r ∷ c ∷ x ∷ more)) 3 (λ e. omega arith), ne-eqb (length (s ∷ o ∷ r ∷ c ∷ x ∷ more)) 4 (λ e. omega arith))
 
     by-length :
-        (b : Bool) (x : Answer) {m : Refusal} →
+        (b : Bool) (x : Answer) {m : First Refusal} →
         answer-by x ≡ m →
-        answer-by (cond b (a.Refused 1) x) ≡ cond b (by 1) m
+        answer-by (cond b (a.Refused tooLong) x) ≡ cond b (by tooLong) m
     by-length true x e = refl
     by-length false x e = e
 
@@ -840,10 +843,10 @@ label-refused : (st : Store) (k : ℕ) → Refuses (labelAnswer st k) d.Refused 
 unfolding labelAnswer
 label-refused st k =
     of-done _ (labelByNumberFaults st k)
-    (state-first done-by (undamagedOf st) _ (d.Refused 0) _ refl
+    (state-first done-by (undamagedOf st) _ (d.Refused damaged) _ refl
     (λ u. by-test (ltb k (length (tableOf st .labels))) ∙ rw (not-ltb k (length (tableOf st .labels)))))
   where
-    by-test : (b : Bool) → done-by (cond b d.Done (d.Refused 13)) ≡ cond (not b) (by 13) none
+    by-test : (b : Bool) → done-by (cond b d.Done (d.Refused noSuchNumber)) ≡ cond (not b) (by noSuchNumber) none
     by-test true = refl
     by-test false = refl
 

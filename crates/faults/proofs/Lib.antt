@@ -1,3 +1,4 @@
 pub mod Different
 pub mod Records
 pub mod Faults
+pub mod Places

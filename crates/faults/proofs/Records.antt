@@ -14,7 +14,8 @@ use borrow.Author.Tests.{lt-ltb, le-ltb, ltb-true, le-leb, leb-true, leb-false, 
 use Rattle.search.specs.Search.{all}
 use Rattle.search.specs.Bytes.{ascii, sameBytes}
 use Rattle.search.proofs.Laws.{no, and-both, eqb-is, or-is}
-use Rattle.alphabet.specs.Alphabet.{space, dash, wellFormed, fields}
+use Rattle.refusals.specs.Refusals.{tooLong, badLabel, sameLabels, badRecord, badLabelAt}
+use Rattle.alphabet.specs.Alphabet.{space, dash, wellFormed, fields, badByteIn}
 use Rattle.modes.specs.Modes.{bitOf, allowedByte, modesOf, readModes, has, modesText, ruleLetters, Is, any, oneOf}
 use Rattle.modes.specs.declared.Access.the-variants.{Modes, Bad}
 use Rattle.modes.proofs.Laws.{letterAt, six-letters}
@@ -28,25 +29,25 @@ use Rattle.rule_text.specs.RuleText.{textOf}
 use Rattle.fixed_load.specs.Records.{subjectPlace, objectPlace, accessBytes, spaces, filled, placeLabel, isPlace, fiveLetters, inOwnPlaces, isRecord, saidBy, recordSays, ofRule, asLine, lineFrom, withoutNewline, inPlaces, recordOf, fitsARecord, ifItFits, recordFrom}
 use Rattle.fixed_load.proofs.Laws.{filled-length}
 use Rattle.fixed_load.proofs.Back.{own-byte}
-use Rattle.faults.specs.Faults.{Fault, _when_, Refusal, none, by, firstFault, Refuses, badLabels, badBytes, allSpaces, byteAfterSpace, endsInSpace, badPlace, badAccessBytes, recordFaults, hasB, overRecordLabel, toRecordFieldFaults, lineToRecordFaults}
+use Rattle.faults.specs.Faults.{Fault, _when_, First, none, by, firstFault, Refuses, badLabels, badAccessField, allSpaces, byteAfterSpace, endsInSpace, badLabelPlace, badAccessBytes, recordFaults, hasB, overRecordLabel, toRecordFieldFaults, lineToRecordFaults}
 
 -- ---- what an output is refused by
 
 -- an answer that is refused by what the faults come to
 pub refuses :
-    {A : Type 0} (R : ℕ → A) (refusal : A → Refusal) →
-    ((n : ℕ) → refusal (R n) ≡ by n) →
-    ((x : A) (n : ℕ) → refusal x ≡ by n → x ≡ R n) →
-    (x : A) (faults : List Fault) →
+    {A R : Type 0} (refused : R → A) (refusal : A → First R) →
+    ((n : R) → refusal (refused n) ≡ by n) →
+    ((x : A) (n : R) → refusal x ≡ by n → x ≡ refused n) →
+    (x : A) (faults : List (Fault R)) →
     refusal x ≡ firstFault faults →
-    Refuses x R faults
-refuses R refusal to from x faults e n = (λ q. sym e ∙ ap refusal q ∙ to n, λ q. from x n (e ∙ q))
+    Refuses x refused faults
+refuses refused refusal to from x faults e n = (λ q. sym e ∙ ap refusal q ∙ to n, λ q. from x n (e ∙ q))
 
-abbrev pub output-by : Output → Refusal
+abbrev pub output-by : Output → First ℕ
 output-by (l.Length x) = none
 output-by (l.Refused n) = by n
 
-pub of-output : (x : Output) (faults : List Fault) → output-by x ≡ firstFault faults → Refuses x l.Refused faults
+pub of-output : (x : Output) (faults : List (Fault ℕ)) → output-by x ≡ firstFault faults → Refuses x l.Refused faults
 of-output = refuses l.Refused output-by (λ n. refl) from
   where
     from : (x : Output) (n : ℕ) → output-by x ≡ by n → x ≡ l.Refused n
@@ -142,7 +143,7 @@ shorter (b ∷ c ∷ bs) e = by-test (eqb b space) e (λ q. shorter (c ∷ bs) q
     by-test false q ih = next-ltb (length (placeLabel (c ∷ bs))) (length (c ∷ bs)) ∙ ih q
 
 -- so a place of 24 bytes holds a label exactly where it is not bad
-place-tested : (p : List ℕ) → length p ≡ 24 → isPlace p ≡ not (badPlace p)
+place-tested : (p : List ℕ) → length p ≡ 24 → isPlace p ≡ not (badLabelPlace p)
 unfolding isPlace filled
 place-tested p long = rw (← long, label-and-spaces p) (by-test (byteAfterSpace p) refl)
   where
@@ -260,11 +261,11 @@ has-b access = six-letters .read access 98 refl ∙ any-same (λ (b : ℕ). eqb 
 
 -- ---- a record to a line
 
-abbrev answered-by : List ℕ → output.Text → Refusal
+abbrev answered-by : List ℕ → output.Text → First ℕ
 answered-by out x = output-by (textAnswer x out)
 
 -- of its labels and access bytes
-abbrev partFaults : List ℕ → List ℕ → List ℕ → List ℕ → List Fault
+abbrev partFaults : List ℕ → List ℕ → List ℕ → List ℕ → List (Fault ℕ)
 partFaults s o access out =
     3 when badLabels s o
     ∷ 4 when badAccessBytes access
@@ -281,13 +282,13 @@ part-first s o access out five = rw (access-tested access five) (by-tests (wellF
 
     by-same :
         (b : Bool) →
-        answered-by out (asLine (cond b (said.refused 5) (said.rule s o (modesOf access)))) ≡ cond b (by 5) (cond (ltb (length out) (length given)) (by 12) none)
+        answered-by out (asLine (cond b (said.refused sameLabels) (said.rule s o (modesOf access)))) ≡ cond b (by 5) (cond (ltb (length out) (length given)) (by 12) none)
     by-same true = refl
     by-same false = text-first given out
 
     by-tests :
         (a b c : Bool) →
-        answered-by out (asLine (cond (a && b) (ruleWith s o (cond (not c) (Modes (modesOf access)) Bad)) (said.refused 3)))
+        answered-by out (asLine (cond (a && b) (ruleWith s o (cond (not c) (Modes (modesOf access)) Bad)) (said.refused badLabel)))
         ≡ cond (not a || not b) (by 3) (cond c (by 4) (cond (sameBytes s o) (by 5) (cond (ltb (length out) (length given)) (by 12) none)))
     by-tests false b c = refl
     by-tests true false c = refl
@@ -307,7 +308,7 @@ record-first r out = by-size (eqb (length r) 53) refl
     by-places :
         (p q : Bool) →
         length (accessBytes r) ≡ 5 →
-        answered-by out (asLine (cond (not p && not q) (saidBy s o (accessBytes r)) (said.refused 14)))
+        answered-by out (asLine (cond (not p && not q) (saidBy s o (accessBytes r)) (said.refused badRecord)))
         ≡ cond (p || q) (by 14) (firstFault (partFaults s o (accessBytes r) out))
     by-places true q five = refl
     by-places false true five = refl
@@ -316,15 +317,15 @@ record-first r out = by-size (eqb (length r) 53) refl
     by-size :
         (b : Bool) →
         eqb (length r) 53 ≡ b →
-        answered-by out (asLine (cond (b && (isPlace (subjectPlace r) && isPlace (objectPlace r))) (saidBy s o (accessBytes r)) (said.refused 14)))
-        ≡ cond (not b || (badPlace (subjectPlace r) || badPlace (objectPlace r))) (by 14) (firstFault (partFaults s o (accessBytes r) out))
+        answered-by out (asLine (cond (b && (isPlace (subjectPlace r) && isPlace (objectPlace r))) (saidBy s o (accessBytes r)) (said.refused badRecord)))
+        ≡ cond (not b || (badLabelPlace (subjectPlace r) || badLabelPlace (objectPlace r))) (by 14) (firstFault (partFaults s o (accessBytes r) out))
     by-size false e = refl
     by-size true e =
         let long : length r ≡ 53 = eqb-true (length r) 53 e in
         let first : length (subjectPlace r) ≡ 24 = length-take-le 24 r (omega arith) in
         let second : length (objectPlace r) ≡ 24 = length-take-le 24 (drop 24 r) (omega (arith, length-drop 24 r)) in
         rw (place-tested (subjectPlace r) first, place-tested (objectPlace r) second)
-        (by-places (badPlace (subjectPlace r)) (badPlace (objectPlace r)) (omega (arith, length-drop 48 r)))
+        (by-places (badLabelPlace (subjectPlace r)) (badLabelPlace (objectPlace r)) (omega (arith, length-drop 48 r)))
 
 pub record-faults : (r out : List ℕ) → Refuses (textAnswer (lineFrom r) out) l.Refused (recordFaults r out)
 record-faults r out = of-output _ (recordFaults r out) (record-first r out)
@@ -336,7 +337,7 @@ unfolding recordOf
 record-long s o m h i = omega (arith, length-append (filled s) (filled o ++ inPlaces fiveLetters m), length-append (filled o) (inPlaces fiveLetters m), filled-length s h, filled-length o i)
 
 module _ (out : List ℕ) where
-  abbrev sized : Refusal
+  abbrev sized : First ℕ
   sized = cond (ltb (length out) 53) (by 12) none
 
   fits-first :
@@ -361,36 +362,36 @@ module _ (out : List ℕ) where
           ∙ rw (record-long s o (modesOf access) (leb-true (length s) 23 e) (leb-true (length o) 23 f))
 
   rule-first :
-      (s o access : List ℕ) →
-      answered-by out (ofRule ifItFits (ruleBy s o access))
+      (place : ℕ) (s o access : List ℕ) →
+      answered-by out (ofRule ifItFits (ruleBy place s o access))
       ≡ cond (badLabels s o) (by 3)
-      (cond (badBytes ruleLetters true access) (by 4)
+      (cond (badAccessField ruleLetters true access) (by 4)
       (cond (sameBytes s o) (by 5) (cond (overRecordLabel s || (overRecordLabel o || hasB access)) (by 15) sized)))
   unfolding ruleBy readModes
-  rule-first s o access = by-tests (wellFormed s) (wellFormed o) (all (allowedByte ruleLetters true) access)
+  rule-first place s o access = by-tests (wellFormed s) (wellFormed o) (all (allowedByte ruleLetters true) access)
     where
-      rest : Refusal
+      rest : First ℕ
       rest = cond (overRecordLabel s || (overRecordLabel o || hasB access)) (by 15) sized
 
-      by-same : (b : Bool) → answered-by out (ofRule ifItFits (cond b (said.refused 5) (said.rule s o (modesOf access)))) ≡ cond b (by 5) rest
+      by-same : (b : Bool) → answered-by out (ofRule ifItFits (cond b (said.refused sameLabels) (said.rule s o (modesOf access)))) ≡ cond b (by 5) rest
       by-same true = refl
       by-same false = fits-first s o access
 
       by-tests :
           (a b c : Bool) →
-          answered-by out (ofRule ifItFits (cond (a && b) (ruleWith s o (cond c (Modes (modesOf access)) Bad)) (said.refused 3)))
+          answered-by out (ofRule ifItFits (cond (a && b) (ruleWith s o (cond c (Modes (modesOf access)) Bad)) (said.refused (badLabelAt place))))
           ≡ cond (not a || not b) (by 3) (cond (not c) (by 4) (cond (sameBytes s o) (by 5) rest))
       by-tests false b c = refl
       by-tests true false c = refl
       by-tests true true false = refl
       by-tests true true true = by-same (sameBytes s o)
 
-  fields-first : (fs : List (List ℕ)) → answered-by out (ofRule ifItFits (ruleFields fs)) ≡ firstFault (toRecordFieldFaults fs out)
-  fields-first [] = refl
-  fields-first (s ∷ []) = refl
-  fields-first (s ∷ o ∷ []) = refl
-  fields-first (s ∷ o ∷ x ∷ []) = rule-first s o x
-  fields-first (s ∷ o ∷ x ∷ y ∷ more) = rw (ne-eqb (length (s ∷ o ∷ x ∷ y ∷ more)) 3 (λ q. omega arith))
+  fields-first : (place : ℕ) (fs : List (List ℕ)) → answered-by out (ofRule ifItFits (ruleFields place fs)) ≡ firstFault (toRecordFieldFaults fs out)
+  fields-first place [] = refl
+  fields-first place (s ∷ []) = refl
+  fields-first place (s ∷ o ∷ []) = refl
+  fields-first place (s ∷ o ∷ x ∷ []) = rule-first place s o x
+  fields-first place (s ∷ o ∷ x ∷ y ∷ more) = rw (ne-eqb (length (s ∷ o ∷ x ∷ y ∷ more)) 3 (λ q. omega arith))
 
   line-first : (line : List ℕ) → answered-by out (recordFrom line) ≡ firstFault (lineToRecordFaults line out)
   unfolding recordFrom ruleOf
@@ -398,10 +399,10 @@ module _ (out : List ℕ) where
     where
       by-length :
           (b : Bool) →
-          answered-by out (ofRule ifItFits (cond b (said.refused 1) (ruleFields (fields (withoutNewline line)))))
+          answered-by out (ofRule ifItFits (cond b (said.refused tooLong) (ruleFields (badByteIn (withoutNewline line)) (fields (withoutNewline line)))))
           ≡ cond b (by 1) (firstFault (toRecordFieldFaults (fields (withoutNewline line)) out))
       by-length true = refl
-      by-length false = fields-first (fields (withoutNewline line))
+      by-length false = fields-first (badByteIn (withoutNewline line)) (fields (withoutNewline line))
 
 pub line-faults : (line out : List ℕ) → Refuses (textAnswer (recordFrom line) out) l.Refused (lineToRecordFaults line out)
 line-faults line out = of-output _ (lineToRecordFaults line out) (line-first out line)

@@ -1,6 +1,7 @@
 -- Demand 1: bad input is refused by a number from the list. 01, The refusal numbers: of each call the faults that it can have, in 01's order, each as
 -- the test that 01's table says in words, by the fields of the text and the tables as they are; so of 02's calls in 02's order and words. A call
--- is refused by the first that holds, and by none exactly when none holds. Assumes nothing.
+-- is refused by the first that holds, and by none exactly when none holds. Where an answer has a place beside its number (02, Three), a fault is
+-- both. Assumes nothing.
 use Prim.Native.Nat.{ℕ, _+_, _-_}
 use mathlib.Core.Path.{_≡_}
 use mathlib.Core.Bool.{Bool, true, false, cond, not, _&&_, _||_}
@@ -9,11 +10,12 @@ use mathlib.Core.Logic.{_↔_}
 use lib.ListN.{length, drop, getD}
 use lib.Dec.{eqb, ltb, leb}
 use Rattle.refusals.specs.Refusals as refusal
+use Rattle.refusals.specs.declared.Refusal.{Refusal}
 use Rattle.search.specs.Search.{all, those}
 use Rattle.search.specs.Bytes.{ascii, sameBytes}
 use Rattle.search.specs.declared.Found.{Found}
 use Rattle.search.specs.declared.Found.the-variants.{At, Nothing}
-use Rattle.alphabet.specs.Alphabet.{wellFormed, fields, lineLimit, dash, space}
+use Rattle.alphabet.specs.Alphabet.{wellFormed, badByte, badByteOfTwo, fields, badByteIn, lineLimit, dash, space}
 use Rattle.modes.specs.Modes.{allowedByte, ruleLetters, changeLetters, requestLetters, modesOf, modesText, any, oneOf}
 use Rattle.numbers.specs.Numbers.{numberOf}
 use Rattle.numbers.specs.Categories.{isLevel, isCategory, knownSet}
@@ -51,28 +53,28 @@ use Rattle.grown.specs.Pairs.{newLabels, hasRule}
 -- ---- the first fault
 
 infix 70 _when_
--- a refusal's number, and the test for which it is given
-pub record Fault : Type 0 where
-  pub number : ℕ
+-- a refusal, or its number where the call's answer has no place, and the test for which it is given
+pub record Fault (R : Type 0) : Type 0 where
+  pub refusal : R
   pub holds : Bool
 
--- `n when test`: the number n is given where the test holds
-abbrev pub _when_ : ℕ → Bool → Fault
-_when_ n test = record { number = n; holds = test }
+-- `r when test`: the refusal r is given where the test holds
+abbrev pub _when_ : {R : Type 0} → R → Bool → Fault R
+_when_ r test = record { refusal = r; holds = test }
 
--- what a list of faults comes to: no refusal, or one by its number
-pub data Refusal : Type 0 where
-  none : Refusal
-  by : ℕ → Refusal
+-- what a list of faults comes to: no refusal, or one
+pub data First (R : Type 0) : Type 0 where
+  none : First R
+  by : R → First R
 
 -- 01: the first in this order is given; none where none holds
-abbrev pub firstFault : List Fault → Refusal
+abbrev pub firstFault : {R : Type 0} → List (Fault R) → First R
 firstFault [] = none
-firstFault (x ∷ xs) = cond (x .holds) (by (x .number)) (firstFault xs)
+firstFault (x ∷ xs) = cond (x .holds) (by (x .refusal)) (firstFault xs)
 
--- an answer is refused with n exactly when n is the number of the first fault that holds: so it is no refusal exactly when none holds
-abbrev pub Refuses : {A : Type 0} → A → (ℕ → A) → List Fault → Type 0
-Refuses answer refused faults = (n : ℕ) → (answer ≡ refused n) ↔ (firstFault faults ≡ by n)
+-- an answer is refused with r exactly when r is the first fault that holds: so it is no refusal exactly when none holds
+abbrev pub Refuses : {A R : Type 0} → A → (R → A) → List (Fault R) → Type 0
+Refuses {A} {R} answer refused faults = (r : R) → (answer ≡ refused r) ↔ (firstFault faults ≡ by r)
 
 -- ---- the tests that several calls share
 
@@ -89,15 +91,15 @@ abbrev pub badLabels : List ℕ → List ℕ → Bool
 badLabels s o = not (wellFormed s) || not (wellFormed o)
 
 -- an access field has a byte not allowed there: it may have these letters and, where `dashes` says so, dashes
-abbrev pub badBytes : ℕ → Bool → List ℕ → Bool
-badBytes letters dashes access = not (all (allowedByte letters dashes) access)
+abbrev pub badAccessField : ℕ → Bool → List ℕ → Bool
+badAccessField letters dashes access = not (all (allowedByte letters dashes) access)
 
 -- the free label places
 abbrev pub freePlaces : Table → ℕ
 freePlaces t = labelLimit - length (t .labels)
 
 -- what a pair needs room for: more new labels than free label places; the pair has no rule and 256 are stored
-abbrev pub pairFaults : Table → List ℕ → List ℕ → List Fault
+abbrev pub pairFaults : Table → List ℕ → List ℕ → List (Fault Refusal)
 pairFaults t s o =
     refusal.labelsFull when ltb (freePlaces t) (newLabels (labelIn t s) + newLabels (labelIn t o))
     ∷ refusal.rulesFull when (not (hasRule (modesBetween t s o)) && eqb (length (t .rules)) ruleLimit)
@@ -105,45 +107,45 @@ pairFaults t s o =
 
 -- ---- a line of rule text: 1 2 3 4 5 6 7
 
--- of its fields, subject, object, access
-abbrev pub lineFieldFaults : Table → List (List ℕ) → List Fault
-lineFieldFaults t fs =
+-- of its fields, subject, object, access, and the place of the first bad byte
+abbrev pub lineFieldFaults : Table → ℕ → List (List ℕ) → List (Fault Refusal)
+lineFieldFaults t place fs =
     refusal.wrongFields when not (eqb (length fs) 3)
-    ∷ refusal.badLabel when badLabels (field fs 0) (field fs 1)
-    ∷ refusal.badAccess when badBytes ruleLetters true (field fs 2)
+    ∷ refusal.badLabelAt place when badLabels (field fs 0) (field fs 1)
+    ∷ refusal.badAccess when badAccessField ruleLetters true (field fs 2)
     ∷ refusal.sameLabels when sameBytes (field fs 0) (field fs 1)
     ∷ pairFaults t (field fs 0) (field fs 1)
 
 -- of the line; where it has no field it is skipped, and has no further fault
-abbrev pub lineFaults : Table → List ℕ → List Fault
-lineFaults t text = refusal.tooLong when isTooLong text ∷ cond (eqb (length (fields text)) 0) [] (lineFieldFaults t (fields text))
+abbrev pub lineFaults : Table → List ℕ → List (Fault Refusal)
+lineFaults t text = refusal.tooLong when isTooLong text ∷ cond (eqb (length (fields text)) 0) [] (lineFieldFaults t (badByteIn text) (fields text))
 
 -- ---- change: the same
 
--- of its fields, subject, object, allow, deny
-abbrev pub changeFieldFaults : Table → List (List ℕ) → List Fault
-changeFieldFaults t fs =
+-- of its fields, subject, object, allow, deny, and the place
+abbrev pub changeFieldFaults : Table → ℕ → List (List ℕ) → List (Fault Refusal)
+changeFieldFaults t place fs =
     refusal.wrongFields when not (eqb (length fs) 4)
-    ∷ refusal.badLabel when badLabels (field fs 0) (field fs 1)
-    ∷ refusal.badAccess when (badBytes changeLetters true (field fs 2) || badBytes changeLetters true (field fs 3))
+    ∷ refusal.badLabelAt place when badLabels (field fs 0) (field fs 1)
+    ∷ refusal.badAccess when (badAccessField changeLetters true (field fs 2) || badAccessField changeLetters true (field fs 3))
     ∷ refusal.sameLabels when sameBytes (field fs 0) (field fs 1)
     ∷ pairFaults t (field fs 0) (field fs 1)
 
 -- of the write to a lent state: 0 comes before every other
-abbrev pub changeFaults : Store → List ℕ → List Fault
+abbrev pub changeFaults : Store → List ℕ → List (Fault Refusal)
 changeFaults st text =
     refusal.damaged when not (undamagedOf st)
     ∷ refusal.tooLong when isTooLong text
-    ∷ changeFieldFaults (tableOf st) (fields text)
+    ∷ changeFieldFaults (tableOf st) (badByteIn text) (fields text)
 
 -- ---- revoke: 1 3
 
 -- the whole buffer is the label
-abbrev pub revokeFaults : Store → List ℕ → List Fault
+abbrev pub revokeFaults : Store → List ℕ → List (Fault Refusal)
 revokeFaults st text =
     refusal.damaged when not (undamagedOf st)
     ∷ refusal.tooLong when isTooLong text
-    ∷ refusal.badLabel when not (wellFormed text)
+    ∷ refusal.badLabelAt (badByte text) when not (wellFormed text)
     ∷ []
 
 -- ---- the override list: 1 2 3 11 6
@@ -166,21 +168,24 @@ newOnes stored xs = those (λ (x : List ℕ). not (isOneOf x stored)) (different
 abbrev pub clears : List (List ℕ) → Bool
 clears fs = eqb (length fs) 1 && sameBytes (field fs 0) (dash ∷ [])
 
--- of its labels, which are the fields
-abbrev pub onlycapLabelFaults : Table → List (List ℕ) → List Fault
-onlycapLabelFaults t fs =
-    refusal.badLabel when not (all wellFormed fs)
+-- of its labels, which are the fields, and the place
+abbrev pub onlycapLabelFaults : Table → ℕ → List (List ℕ) → List (Fault Refusal)
+onlycapLabelFaults t place fs =
+    refusal.badLabelAt place when not (all wellFormed fs)
     ∷ refusal.tooManyOverrides when ltb onlycapLimit (length (differentOnes fs))
     ∷ refusal.labelsFull when ltb (freePlaces t) (length (newOnes (t .labels) fs))
     ∷ []
 
 -- of its fields; a lone dash has no further fault
-abbrev pub onlycapFieldFaults : Table → List (List ℕ) → List Fault
-onlycapFieldFaults t fs = refusal.wrongFields when eqb (length fs) 0 ∷ cond (clears fs) [] (onlycapLabelFaults t fs)
+abbrev pub onlycapFieldFaults : Table → ℕ → List (List ℕ) → List (Fault Refusal)
+onlycapFieldFaults t place fs = refusal.wrongFields when eqb (length fs) 0 ∷ cond (clears fs) [] (onlycapLabelFaults t place fs)
 
 -- of the write to a lent state
-abbrev pub onlycapFaults : Store → List ℕ → List Fault
-onlycapFaults st text = refusal.damaged when not (undamagedOf st) ∷ refusal.tooLong when isTooLong text ∷ onlycapFieldFaults (tableOf st) (fields text)
+abbrev pub onlycapFaults : Store → List ℕ → List (Fault Refusal)
+onlycapFaults st text =
+    refusal.damaged when not (undamagedOf st)
+    ∷ refusal.tooLong when isTooLong text
+    ∷ onlycapFieldFaults (tableOf st) (badByteIn text) (fields text)
 
 -- ---- mapping: 1 2 3 9 6 10
 
@@ -201,52 +206,55 @@ abbrev pub hasMapping : Table → Found → Bool
 hasMapping t (At n) = isFound (mappingIn t n)
 hasMapping t Nothing = false
 
--- of its fields, label, level, then no or more categories
-abbrev pub mappingFieldFaults : Table → List (List ℕ) → List Fault
-mappingFieldFaults t fs =
+-- of its fields, label, level, then no or more categories, and the place
+abbrev pub mappingFieldFaults : Table → ℕ → List (List ℕ) → List (Fault Refusal)
+mappingFieldFaults t place fs =
     refusal.wrongFields when ltb (length fs) 2
-    ∷ refusal.badLabel when not (wellFormed (field fs 0))
+    ∷ refusal.badLabelAt place when not (wellFormed (field fs 0))
     ∷ refusal.badLevelOrCategory when (not (levelField (field fs 1)) || not (all categoryField (drop 2 fs)))
     ∷ refusal.labelsFull when ltb (freePlaces t) (newLabels (labelIn t (field fs 0)))
     ∷ refusal.mappingsFull when (not (hasMapping t (labelIn t (field fs 0))) && eqb (length (t .mappings)) mappingLimit)
     ∷ []
 
 -- of the write to a lent state
-abbrev pub mappingFaults : Store → List ℕ → List Fault
-mappingFaults st text = refusal.damaged when not (undamagedOf st) ∷ refusal.tooLong when isTooLong text ∷ mappingFieldFaults (tableOf st) (fields text)
+abbrev pub mappingFaults : Store → List ℕ → List (Fault Refusal)
+mappingFaults st text =
+    refusal.damaged when not (undamagedOf st)
+    ∷ refusal.tooLong when isTooLong text
+    ∷ mappingFieldFaults (tableOf st) (badByteIn text) (fields text)
 
 -- ---- look-ups: by label 3; by level and set, in the table or a run, 9
 
 -- by label
-abbrev pub byLabelFaults : Store → List ℕ → List Fault
-byLabelFaults st x = refusal.damaged when not (undamagedOf st) ∷ refusal.badLabel when not (wellFormed x) ∷ []
+abbrev pub byLabelFaults : Store → List ℕ → List (Fault Refusal)
+byLabelFaults st x = refusal.damaged when not (undamagedOf st) ∷ refusal.badLabelAt (badByte x) when not (wellFormed x) ∷ []
 
 -- in a run: the level is over 255, or the set has a bit that is no category. A run is no part of the state, and never gets 0
-abbrev pub inRunFaults : ℕ → ℕ → List Fault
-inRunFaults level set = refusal.badLevelOrCategory when (not (isLevel level) || not (knownSet set)) ∷ []
+abbrev pub inRunFaults : ℕ → ℕ → List (Fault ℕ)
+inRunFaults level set = refusal.badLevelOrCategory .number when (not (isLevel level) || not (knownSet set)) ∷ []
 
 -- in the table
-abbrev pub byLevelFaults : Store → ℕ → ℕ → List Fault
-byLevelFaults st level set = refusal.damaged when not (undamagedOf st) ∷ inRunFaults level set
+abbrev pub byLevelFaults : Store → ℕ → ℕ → List (Fault ℕ)
+byLevelFaults st level set = refusal.damaged .number when not (undamagedOf st) ∷ inRunFaults level set
 
 -- ---- question: 3 8
 
--- the request is empty or has another byte than r w x a, either case
-abbrev pub askFaults : List ℕ → List ℕ → List ℕ → List Fault
+-- the first bad byte of the two labels; the request is empty or has another byte than r w x a, either case
+abbrev pub askFaults : List ℕ → List ℕ → List ℕ → List (Fault Refusal)
 askFaults s o request =
-    refusal.badLabel when badLabels s o
-    ∷ refusal.badRequest when (eqb (length request) 0 || badBytes requestLetters false request)
+    refusal.badLabelAt (badByteOfTwo s o) when badLabels s o
+    ∷ refusal.badRequest when (eqb (length request) 0 || badAccessField requestLetters false request)
     ∷ []
 
 -- of a lent state
-abbrev pub questionFaults : Store → List ℕ → List ℕ → List ℕ → List Fault
+abbrev pub questionFaults : Store → List ℕ → List ℕ → List ℕ → List (Fault Refusal)
 questionFaults st s o request = refusal.damaged when not (undamagedOf st) ∷ askFaults s o request
 
--- a question line of the program: 1 2 3 8. It has three fields, or a fourth which is `o`
+-- a question line of the program: 1 2 3 8. It has three fields, or a fourth which is `o`. (Its place is in the label, not in the line, and is not printed)
 abbrev pub asksAQuestion : List (List ℕ) → Bool
 asksAQuestion fs = eqb (length fs) 3 || (eqb (length fs) 4 && sameBytes (field fs 3) (ascii "o"))
 
-abbrev pub questionLineFaults : List ℕ → List Fault
+abbrev pub questionLineFaults : List ℕ → List (Fault Refusal)
 questionLineFaults line =
     refusal.tooLong when isTooLong line
     ∷ refusal.wrongFields when not (asksAQuestion (fields line))
@@ -255,15 +263,15 @@ questionLineFaults line =
 -- ---- listing: 13 12; label by number: 13
 
 -- no rule of that number; its text is longer than the lent output
-abbrev pub listingFaults : Store → ℕ → List ℕ → List Fault
+abbrev pub listingFaults : Store → ℕ → List ℕ → List (Fault ℕ)
 listingFaults st k out =
-    refusal.damaged when not (undamagedOf st)
-    ∷ refusal.noSuchNumber when leb (length (tableOf st .rules)) k
-    ∷ refusal.outputTooShort when ltb (length out) (length (ruleText (tableOf st) (ruleNumbered (tableOf st) k)))
+    refusal.damaged .number when not (undamagedOf st)
+    ∷ refusal.noSuchNumber .number when leb (length (tableOf st .rules)) k
+    ∷ refusal.outputTooShort .number when ltb (length out) (length (ruleText (tableOf st) (ruleNumbered (tableOf st) k)))
     ∷ []
 
 -- no label of that number
-abbrev pub labelByNumberFaults : Store → ℕ → List Fault
+abbrev pub labelByNumberFaults : Store → ℕ → List (Fault Refusal)
 labelByNumberFaults st k = refusal.damaged when not (undamagedOf st) ∷ refusal.noSuchNumber when leb (length (tableOf st .labels)) k ∷ []
 
 -- ---- old records (02, One): a record 14 3 4 5 12; a line 1 2 3 4 5 15 12
@@ -284,8 +292,8 @@ endsInSpace (b ∷ []) = eqb b space
 endsInSpace (b ∷ c ∷ bs) = endsInSpace (c ∷ bs)
 
 -- it is all spaces, has another byte after a space or doesn't end in a space
-abbrev pub badPlace : List ℕ → Bool
-badPlace place = allSpaces place || (byteAfterSpace place || not (endsInSpace place))
+abbrev pub badLabelPlace : List ℕ → Bool
+badLabelPlace place = allSpaces place || (byteAfterSpace place || not (endsInSpace place))
 
 -- access byte k, from 0, is none of those that its place may have
 abbrev pub otherByte : List ℕ → ℕ → List ℕ → Bool
@@ -308,13 +316,13 @@ abbrev pub recordObject : List ℕ → List ℕ
 recordObject r = placeLabel (objectPlace r)
 
 -- of the record: a length other than 53 or a bad label place; then its labels, its access bytes, and the line, which is written in the listing's form
-abbrev pub recordFaults : List ℕ → List ℕ → List Fault
+abbrev pub recordFaults : List ℕ → List ℕ → List (Fault ℕ)
 recordFaults r out =
-    refusal.badRecord when (not (eqb (length r) recordSize) || (badPlace (subjectPlace r) || badPlace (objectPlace r)))
-    ∷ refusal.badLabel when badLabels (recordSubject r) (recordObject r)
-    ∷ refusal.badAccess when badAccessBytes (accessBytes r)
-    ∷ refusal.sameLabels when sameBytes (recordSubject r) (recordObject r)
-    ∷ refusal.outputTooShort when ltb (length out) (length (textOf (recordSubject r) (recordObject r) (modesText (modesOf (accessBytes r)))))
+    refusal.badRecord .number when (not (eqb (length r) recordSize) || (badLabelPlace (subjectPlace r) || badLabelPlace (objectPlace r)))
+    ∷ refusal.badLabel .number when badLabels (recordSubject r) (recordObject r)
+    ∷ refusal.badAccess .number when badAccessBytes (accessBytes r)
+    ∷ refusal.sameLabels .number when sameBytes (recordSubject r) (recordObject r)
+    ∷ refusal.outputTooShort .number when ltb (length out) (length (textOf (recordSubject r) (recordObject r) (modesText (modesOf (accessBytes r)))))
     ∷ []
 
 -- a label over 23 bytes
@@ -326,31 +334,31 @@ abbrev pub hasB : List ℕ → Bool
 hasB access = any (oneOf (ascii "bB")) access
 
 -- of the fields of a line, subject, object, access
-abbrev pub toRecordFieldFaults : List (List ℕ) → List ℕ → List Fault
+abbrev pub toRecordFieldFaults : List (List ℕ) → List ℕ → List (Fault ℕ)
 toRecordFieldFaults fs out =
-    refusal.wrongFields when not (eqb (length fs) 3)
-    ∷ refusal.badLabel when badLabels (field fs 0) (field fs 1)
-    ∷ refusal.badAccess when badBytes ruleLetters true (field fs 2)
-    ∷ refusal.sameLabels when sameBytes (field fs 0) (field fs 1)
-    ∷ refusal.notInARecord when (overRecordLabel (field fs 0) || (overRecordLabel (field fs 1) || hasB (field fs 2)))
-    ∷ refusal.outputTooShort when ltb (length out) recordSize
+    refusal.wrongFields .number when not (eqb (length fs) 3)
+    ∷ refusal.badLabel .number when badLabels (field fs 0) (field fs 1)
+    ∷ refusal.badAccess .number when badAccessField ruleLetters true (field fs 2)
+    ∷ refusal.sameLabels .number when sameBytes (field fs 0) (field fs 1)
+    ∷ refusal.notInARecord .number when (overRecordLabel (field fs 0) || (overRecordLabel (field fs 1) || hasB (field fs 2)))
+    ∷ refusal.outputTooShort .number when ltb (length out) recordSize
     ∷ []
 
 -- of the line, which is read with or without one closing newline
-abbrev pub lineToRecordFaults : List ℕ → List ℕ → List Fault
-lineToRecordFaults line out = refusal.tooLong when isTooLong (withoutNewline line) ∷ toRecordFieldFaults (fields (withoutNewline line)) out
+abbrev pub lineToRecordFaults : List ℕ → List ℕ → List (Fault ℕ)
+lineToRecordFaults line out = refusal.tooLong .number when isTooLong (withoutNewline line) ∷ toRecordFieldFaults (fields (withoutNewline line)) out
 
 -- ---- a fresh table, a piece, the end call: 0 alone
 
 -- a part has not its full size
-abbrev pub freshFaults : Store → List Fault
+abbrev pub freshFaults : Store → List (Fault Refusal)
 freshFaults st = refusal.damaged when not (fullSizes st) ∷ []
 
 -- the tables or the loader are damaged
-abbrev pub loaderFaults : Load → List Fault
-loaderFaults s = refusal.damaged when not (ready s) ∷ []
+abbrev pub loaderFaults : Load → List (Fault ℕ)
+loaderFaults s = refusal.damaged .number when not (ready s) ∷ []
 
--- ---- of every call. A line of rule text is judged in a state that was tested, and its number stands in the report
+-- ---- of every call. A line of rule text is judged in a state that was tested, and its number and place stand in the report
 
 pub record FirstInOrder : Type 0 where
   pub fresh-table : (st : Store) → Refuses (freshAnswer st) d.Refused (freshFaults st)

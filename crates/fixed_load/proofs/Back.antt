@@ -12,6 +12,7 @@ use lib.Seq.{take-at, drop-at, drop-drop, getD-at, take-add}
 use Rattle.search.specs.Search.{all, entries}
 use Rattle.search.specs.Bytes.{sameBytes}
 use Rattle.search.proofs.Laws.{no, and-both, same-refl, same-equal, or-is, eqb-is}
+use Rattle.refusals.specs.Refusals.{badLabel, sameLabels, badRecord}
 use Rattle.alphabet.specs.Alphabet.{space, newline, dash, isNewline, isBlank, labelByte, wellFormed, fields}
 use Rattle.alphabet.proofs.Laws.{formed-is}
 use Rattle.text_lines.specs.TextLines.{lines, linesFrom}
@@ -211,11 +212,11 @@ made-of s o a t = by-test (wellFormed s) refl (wellFormed o) refl (inOwnPlaces f
         wellFormed o ≡ y →
         (z : Bool) →
         inOwnPlaces fiveLetters a ≡ z →
-        asLine (cond (x && y) (ruleWith s o (cond z (Modes (modesOf a)) Bad)) (said.refused 3)) ≡ text t →
+        asLine (cond (x && y) (ruleWith s o (cond z (Modes (modesOf a)) Bad)) (said.refused badLabel)) ≡ text t →
         Made s o a t
     by-test true p true q true i e = by-same (sameBytes s o) refl e
       where
-        by-same : (w : Bool) → sameBytes s o ≡ w → asLine (cond w (said.refused 5) (rule s o (modesOf a))) ≡ text t → Made s o a t
+        by-same : (w : Bool) → sameBytes s o ≡ w → asLine (cond w (said.refused sameLabels) (rule s o (modesOf a))) ≡ text t → Made s o a t
         by-same true k e = let z : _≡_ {A = ℕ} 0 1 = cc in absurd (omega arith)
         by-same false k e = record { taken = record { subject = p; object = q; apart = k }; own = i; says = rw (p, q, i, k); made = cc }
     by-test true p true q false i e = let z : _≡_ {A = ℕ} 0 1 = cc in absurd (omega arith)
@@ -232,7 +233,7 @@ accepted : (r t : List ℕ) → lineFrom r ≡ text t → Accepted r t
 unfolding lineFrom recordSays
 accepted r t e = by-test (isRecord r) refl e
   where
-    by-test : (x : Bool) → isRecord r ≡ x → asLine (cond x (saidBy (subjectIn r) (objectIn r) (accessBytes r)) (said.refused 14)) ≡ text t → Accepted r t
+    by-test : (x : Bool) → isRecord r ≡ x → asLine (cond x (saidBy (subjectIn r) (objectIn r) (accessBytes r)) (said.refused badRecord)) ≡ text t → Accepted r t
     by-test true q e = let m = made-of (subjectIn r) (objectIn r) (accessBytes r) t e in record { whole = q; made = m; says = rw q (m .says) }
     by-test false q e = let z : _≡_ {A = ℕ} 0 1 = cc in absurd (omega arith)
 

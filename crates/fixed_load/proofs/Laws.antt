@@ -16,14 +16,14 @@ use Rattle.search.specs.Search.{all, entries}
 use Rattle.search.specs.Bytes.{sameBytes, written}
 use Rattle.search.specs.declared.Found.the-variants.{At, Nothing}
 use Rattle.search.proofs.Laws.{and-both, same-refl, same-equal, all-at, written-one, not-so}
-use Rattle.alphabet.specs.Alphabet.{space, dash}
+use Rattle.refusals.specs.Refusals.{badLabel, badAccess, sameLabels}
+use Rattle.alphabet.specs.Alphabet.{space, dash, faultOf}
 use Rattle.modes.specs.Modes.{bitOf, allowedByte, modesOf, readModes, has, modesText}
 use Rattle.modes.specs.declared.Letter.{Letter}
 use Rattle.modes.specs.declared.Access.{Access}
 use Rattle.modes.specs.declared.Access.the-variants.{Modes, Bad}
 use Rattle.modes.proofs.Laws.{noLetter, letterAt, below, joined}
 use Rattle.fixed_load.specs.Records.{recordLabel, labelPlace, spaces, filled, placeLabel, isPlace, fiveLetters, inOwnPlaces, recordAccess, withoutNewline, inPlaces, recordSize, recordOf, fitsARecord, ifItFits, subjectPlace, objectPlace, accessBytes, isRecord, saidBy, recordSays, ofRule, asLine, lineFrom, recordFrom}
-use Rattle.alphabet.specs.Within.{faultOf}
 use Rattle.alphabet.proofs.Laws.{fault-formed, fault-unformed}
 use Rattle.lines.specs.Lines as said
 use Rattle.lines.specs.Lines.{Said, ruleOf}
@@ -394,18 +394,18 @@ as-answered x y out e = (ap (λ (t : Text). textAnswer t out) (sym e), ap (λ (t
 -- ---- what two labels and the access bytes say
 
 module _ (s o access : List ℕ) where
-  pub bad-subject : (k : ℕ) → faultOf s ≡ At k → saidBy s o access ≡ said.refused 3
+  pub bad-subject : (k : ℕ) → faultOf s ≡ At k → saidBy s o access ≡ said.refused badLabel
   bad-subject k e = rw (fault-unformed s k e)
 
   module _ (f : faultOf s ≡ Nothing) where
-    pub bad-object : (k : ℕ) → faultOf o ≡ At k → saidBy s o access ≡ said.refused 3
+    pub bad-object : (k : ℕ) → faultOf o ≡ At k → saidBy s o access ≡ said.refused badLabel
     bad-object k e = rw (fault-formed s f, fault-unformed o k e)
 
     module _ (g : faultOf o ≡ Nothing) where
-      pub bad-access : recordAccess access ≡ Bad → saidBy s o access ≡ said.refused 4
+      pub bad-access : recordAccess access ≡ Bad → saidBy s o access ≡ said.refused badAccess
       bad-access e = rw (fault-formed s f, fault-formed o g, e)
 
-      pub by-labels : (m : ℕ) → recordAccess access ≡ Modes m → (t : Bool) → sameBytes s o ≡ t → saidBy s o access ≡ cond t (said.refused 5) (said.rule s o m)
+      pub by-labels : (m : ℕ) → recordAccess access ≡ Modes m → (t : Bool) → sameBytes s o ≡ t → saidBy s o access ≡ cond t (said.refused sameLabels) (said.rule s o m)
       by-labels m e t q = rw (fault-formed s f, fault-formed o g, e, q)
 
 -- ---- what a record says

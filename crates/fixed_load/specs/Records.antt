@@ -91,13 +91,13 @@ recordSays r = cond (isRecord r) (saidBy (placeLabel (subjectPlace r)) (placeLab
 
 -- ---- a record to a line, in the listing's form
 
--- a text made of a rule that is said, or the refusal. A line without a field, which is skipped where rule text is loaded, has the wrong number of fields here;
+-- a text made of a rule that is said, or the refusal's number (02, Three, asks for no place here). A line without a field, which is skipped where rule text is loaded, has the wrong number of fields here;
 -- neither a record nor a line of rule text says a change
 abbrev pub ofRule : (List ℕ → List ℕ → ℕ → Text) → Said → Text
-ofRule made said.skipped = refused wrongFields
-ofRule made (said.refused n) = refused n
+ofRule made said.skipped = refused (wrongFields .number)
+ofRule made (said.refused r) = refused (r .number)
 ofRule made (said.rule s o m) = made s o m
-ofRule made (said.change s o a d) = refused wrongFields
+ofRule made (said.change s o a d) = refused (wrongFields .number)
 
 -- a rule in the listing's form
 abbrev pub listingLine : List ℕ → List ℕ → ℕ → List ℕ
@@ -131,7 +131,7 @@ unfoldable pub fitsARecord : List ℕ → List ℕ → ℕ → Bool
 fitsARecord s o m = leb (length s) recordLabel && (leb (length o) recordLabel && not (has m bringUpLetter))
 
 abbrev pub ifItFits : List ℕ → List ℕ → ℕ → Text
-ifItFits s o m = cond (fitsARecord s o m) (text (recordOf s o m)) (refused notInARecord)
+ifItFits s o m = cond (fitsARecord s o m) (text (recordOf s o m)) (refused (notInARecord .number))
 
 unfoldable pub recordFrom : List ℕ → Text
 unfolding withoutNewline recordOf fitsARecord

@@ -92,16 +92,16 @@ fn put_line(out: &mut [u8], subject: &[u8], object: &[u8], access: &[u8]) -> Out
     ensures { λ _. ⌜ now (out .exit) ≡ textOut (asLine (saidBy (now (subject .entry)) (now (object .entry)) (now (access .entry)))) (now (out .entry)) ⌝ }
 {
     let Found::Nothing = alphabet::label_fault(subject) else {
-        return Output::Refused(refusals::BAD_LABEL);
+        return Output::Refused(refusals::BAD_LABEL.number);
     };
     let Found::Nothing = alphabet::label_fault(object) else {
-        return Output::Refused(refusals::BAD_LABEL);
+        return Output::Refused(refusals::BAD_LABEL.number);
     };
     let Access::Modes(m) = read_access(access) else {
-        return Output::Refused(refusals::BAD_ACCESS);
+        return Output::Refused(refusals::BAD_ACCESS.number);
     };
     if search::same_bytes(subject, object) {
-        return Output::Refused(refusals::SAME_LABELS);
+        return Output::Refused(refusals::SAME_LABELS.number);
     }
     let mut text = [0u8; 6];
     let n = modes::write_modes(&mut text, 0, m);
@@ -114,13 +114,13 @@ pub fn record_to_line(bytes: &[u8], out: &mut [u8]) -> Output
     ensures { λ _. ⌜ now (out .exit) ≡ textOut (lineFrom (now (bytes .entry))) (now (out .entry)) ⌝ }
 {
     if bytes.len() != RECORD_SIZE {
-        return Output::Refused(refusals::BAD_RECORD);
+        return Output::Refused(refusals::BAD_RECORD.number);
     }
     let Found::At(s) = label_length(&bytes[0..LABEL_PLACE]) else {
-        return Output::Refused(refusals::BAD_RECORD);
+        return Output::Refused(refusals::BAD_RECORD.number);
     };
     let Found::At(o) = label_length(&bytes[LABEL_PLACE..ACCESS_FROM]) else {
-        return Output::Refused(refusals::BAD_RECORD);
+        return Output::Refused(refusals::BAD_RECORD.number);
     };
     put_line(
         out,
@@ -151,13 +151,13 @@ fn put_record(out: &mut [u8], subject: &[u8], object: &[u8], modes: u8) -> Outpu
     ensures { λ _. ⌜ now (out .exit) ≡ textOut (ifItFits (now (subject .entry)) (now (object .entry)) modes) (now (out .entry)) ⌝ }
 {
     if RECORD_LABEL < subject.len() {
-        return Output::Refused(refusals::NOT_IN_A_RECORD);
+        return Output::Refused(refusals::NOT_IN_A_RECORD.number);
     }
     if RECORD_LABEL < object.len() {
-        return Output::Refused(refusals::NOT_IN_A_RECORD);
+        return Output::Refused(refusals::NOT_IN_A_RECORD.number);
     }
     if modes & modes::BRING_UP != 0 {
-        return Output::Refused(refusals::NOT_IN_A_RECORD);
+        return Output::Refused(refusals::NOT_IN_A_RECORD.number);
     }
     // 53 bytes, and as many more as `write_access` wants.
     let mut text = [alphabet::SPACE; 58];
@@ -175,8 +175,8 @@ pub fn line_to_record(line: &[u8], out: &mut [u8]) -> Output
     let text = without_newline(line);
     let said = lines::rule_line(text);
     match said {
-        RuleLine::Skipped => Output::Refused(refusals::WRONG_FIELDS),
-        RuleLine::Refused(number) => Output::Refused(number),
+        RuleLine::Skipped => Output::Refused(refusals::WRONG_FIELDS.number),
+        RuleLine::Refused(refusal) => Output::Refused(refusal.number),
         RuleLine::Rule(pair, m) => {
             let a = pair.subject.start;
             let b = pair.subject.end;

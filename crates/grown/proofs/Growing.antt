@@ -13,7 +13,8 @@ use Rattle.search.specs.Bytes.{sameBytes}
 use Rattle.search.specs.declared.Found.{Found}
 use Rattle.search.specs.declared.Found.the-variants.{At, Nothing}
 use Rattle.search.proofs.Laws.{and-both, all-at, all-put, first-is, length-put, Same, Distinct, distinct-put, Front, front-same, front-more, front-length, all-map, all-made, distinct-map}
-use Rattle.alphabet.specs.Alphabet.{wellFormed, fields}
+use Rattle.refusals.specs.Refusals.{tooLong, badLabelAt}
+use Rattle.alphabet.specs.Alphabet.{wellFormed, fields, badByte}
 use Rattle.store.specs.declared.Rule.{Rule}
 use Rattle.store.specs.declared.Mapping.{Mapping}
 use Rattle.store.proofs.Pairs.{enter-front, enter-length, enter-number, enter-once, enter-all}
@@ -91,7 +92,7 @@ revoke-sane : (t : Table) (label : List ℕ) → Sane t → Sane (tableAfter t (
 unfolding revokeWrite
 revoke-sane t label h = by-tests (ltb 600 (length label)) (wellFormed label) (labelIn t label)
   where
-    by-tests : (a b : Bool) (f : Found) → Sane (tableAfter t (cond a (is-refused 1) (cond b (is-accepted (withoutModes t f)) (is-refused 3))))
+    by-tests : (a b : Bool) (f : Found) → Sane (tableAfter t (cond a (is-refused tooLong) (cond b (is-accepted (withoutModes t f)) (is-refused (badLabelAt (badByte label))))))
     by-tests true b f = h
     by-tests false true (At n) = cleared-sane n t h
     by-tests false true Nothing = h

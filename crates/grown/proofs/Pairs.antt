@@ -14,7 +14,8 @@ use Rattle.search.specs.Bytes.{sameBytes}
 use Rattle.search.specs.declared.Found.{Found}
 use Rattle.search.specs.declared.Found.the-variants.{At, Nothing}
 use Rattle.search.proofs.Laws.{no, and-both, same-refl, same-equal, first-place, first-put, entries-length, first-put-other, found-put-other, put-at, not-so, Front, front-first, front-beyond}
-use Rattle.alphabet.specs.Alphabet.{wellFormed, fields}
+use Rattle.refusals.specs.Refusals.{tooLong, sameLabels, labelsFull, rulesFull, badLabelAt}
+use Rattle.alphabet.specs.Alphabet.{wellFormed, fields, badByteIn}
 use Rattle.modes.specs.Modes.{readModes, ruleLetters, changeLetters, requestLetters}
 use Rattle.modes.specs.declared.Access.{Access}
 use Rattle.modes.specs.declared.Access.the-variants.{Modes, Bad}
@@ -233,7 +234,7 @@ rule-accepted t s o m different =
       rule-room (t .rules) (ruleBetween t (labelIn t s) (labelIn t o)) (length (t .rules)),
     )
   where
-    by-tests : (a b : Bool) → isAccepted (cond a (is-refused 6) (cond b (is-refused 7) (is-accepted (withPair t s o m)))) ≡ (not a && not b)
+    by-tests : (a b : Bool) → isAccepted (cond a (is-refused labelsFull) (cond b (is-refused rulesFull) (is-accepted (withPair t s o m)))) ≡ (not a && not b)
     by-tests true b = refl
     by-tests false true = refl
     by-tests false false = refl
@@ -265,7 +266,7 @@ rule-triple text s o m e = by-length (ltb 600 (length text)) refl e
         readModes ruleLetters true a ≡ Modes n →
         (b : Bool) →
         sameBytes x y ≡ b →
-        cond b (refused 5) (rule x y n) ≡ rule s o m →
+        cond b (refused sameLabels) (rule x y n) ≡ rule s o m →
         Triple text s o m
     by-same x y a n short three fx fy r true q e = let z : _≡_ {A = ℕ} 0 1 = cc in absurd (omega arith)
     by-same x y a n short three fx fy r false q e =
@@ -304,20 +305,20 @@ rule-triple text s o m e = by-length (ltb 600 (length text)) refl e
         wellFormed x ≡ b →
         (c : Bool) →
         wellFormed y ≡ c →
-        cond (b && c) (ruleWith x y (readModes ruleLetters true a)) (refused 3) ≡ rule s o m →
+        cond (b && c) (ruleWith x y (readModes ruleLetters true a)) (refused (badLabelAt (badByteIn text))) ≡ rule s o m →
         Triple text s o m
     by-formed x y a short three true fx true fy e = by-access x y a short three fx fy (readModes ruleLetters true a) refl e
     by-formed x y a short three true fx false fy e = let z : _≡_ {A = ℕ} 0 1 = cc in absurd (omega arith)
     by-formed x y a short three false fx c fy e = let z : _≡_ {A = ℕ} 0 1 = cc in absurd (omega arith)
 
-    by-fields : (fs : List (List ℕ)) → fields text ≡ fs → length text ≤ 600 → ruleFields fs ≡ rule s o m → Triple text s o m
+    by-fields : (fs : List (List ℕ)) → fields text ≡ fs → length text ≤ 600 → ruleFields (badByteIn text) fs ≡ rule s o m → Triple text s o m
     by-fields [] three short e = let z : _≡_ {A = ℕ} 0 1 = cc in absurd (omega arith)
     by-fields (x ∷ []) three short e = let z : _≡_ {A = ℕ} 0 1 = cc in absurd (omega arith)
     by-fields (x ∷ y ∷ []) three short e = let z : _≡_ {A = ℕ} 0 1 = cc in absurd (omega arith)
     by-fields (x ∷ y ∷ a ∷ []) three short e = by-formed x y a short three (wellFormed x) refl (wellFormed y) refl e
     by-fields (x ∷ y ∷ a ∷ v ∷ more) three short e = let z : _≡_ {A = ℕ} 0 1 = cc in absurd (omega arith)
 
-    by-length : (b : Bool) → ltb 600 (length text) ≡ b → cond b (refused 1) (ruleFields (fields text)) ≡ rule s o m → Triple text s o m
+    by-length : (b : Bool) → ltb 600 (length text) ≡ b → cond b (refused tooLong) (ruleFields (badByteIn text) (fields text)) ≡ rule s o m → Triple text s o m
     by-length true q e = let z : _≡_ {A = ℕ} 0 1 = cc in absurd (omega arith)
     by-length false q e = by-fields (fields text) refl (ltb-false _ _ q) e
 
@@ -350,7 +351,7 @@ change-text text s o a d e = by-length (ltb 600 (length text)) refl e
         readModes changeLetters true g ≡ Modes k →
         (b : Bool) →
         sameBytes x y ≡ b →
-        cond b (refused 5) (change x y n k) ≡ change s o a d →
+        cond b (refused sameLabels) (change x y n k) ≡ change s o a d →
         ChangeText text s o a d
     by-same x y f g n k short four fx fy r w true q e = let z : _≡_ {A = ℕ} 0 1 = cc in absurd (omega arith)
     by-same x y f g n k short four fx fy r w false q e =
@@ -395,14 +396,14 @@ change-text text s o a d e = by-length (ltb 600 (length text)) refl e
         wellFormed x ≡ b →
         (c : Bool) →
         wellFormed y ≡ c →
-        cond (b && c) (changeWith x y (readModes changeLetters true f) (readModes changeLetters true g)) (refused 3) ≡ change s o a d →
+        cond (b && c) (changeWith x y (readModes changeLetters true f) (readModes changeLetters true g)) (refused (badLabelAt (badByteIn text))) ≡ change s o a d →
         ChangeText text s o a d
     by-formed x y f g short four true fx true fy e =
         by-access x y f g short four fx fy (readModes changeLetters true f) refl (readModes changeLetters true g) refl e
     by-formed x y f g short four true fx false fy e = let z : _≡_ {A = ℕ} 0 1 = cc in absurd (omega arith)
     by-formed x y f g short four false fx c fy e = let z : _≡_ {A = ℕ} 0 1 = cc in absurd (omega arith)
 
-    by-fields : (fs : List (List ℕ)) → fields text ≡ fs → length text ≤ 600 → changeFields fs ≡ change s o a d → ChangeText text s o a d
+    by-fields : (fs : List (List ℕ)) → fields text ≡ fs → length text ≤ 600 → changeFields (badByteIn text) fs ≡ change s o a d → ChangeText text s o a d
     by-fields [] four short e = let z : _≡_ {A = ℕ} 0 1 = cc in absurd (omega arith)
     by-fields (x ∷ []) four short e = let z : _≡_ {A = ℕ} 0 1 = cc in absurd (omega arith)
     by-fields (x ∷ y ∷ []) four short e = let z : _≡_ {A = ℕ} 0 1 = cc in absurd (omega arith)
@@ -410,7 +411,7 @@ change-text text s o a d e = by-length (ltb 600 (length text)) refl e
     by-fields (x ∷ y ∷ f ∷ g ∷ []) four short e = by-formed x y f g short four (wellFormed x) refl (wellFormed y) refl e
     by-fields (x ∷ y ∷ f ∷ g ∷ v ∷ more) four short e = let z : _≡_ {A = ℕ} 0 1 = cc in absurd (omega arith)
 
-    by-length : (b : Bool) → ltb 600 (length text) ≡ b → cond b (refused 1) (changeFields (fields text)) ≡ change s o a d → ChangeText text s o a d
+    by-length : (b : Bool) → ltb 600 (length text) ≡ b → cond b (refused tooLong) (changeFields (badByteIn text) (fields text)) ≡ change s o a d → ChangeText text s o a d
     by-length true q e = let z : _≡_ {A = ℕ} 0 1 = cc in absurd (omega arith)
     by-length false q e = by-fields (fields text) refl (ltb-false _ _ q) e
 

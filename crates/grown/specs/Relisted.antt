@@ -34,7 +34,7 @@ reload text = piece text ∷ end-call ∷ []
 
 -- a report of n lines, all of them accepted
 abbrev pub allAccepted : ℕ → Totals
-allAccepted n = record { lines = n; accepted = n; skipped = 0; refused = 0; first = 0; reason = 0 }
+allAccepted n = record { lines = n; accepted = n; skipped = 0; refused = 0; first = 0; reason = 0; place = 0 }
 
 -- the plain reader, begun on a fresh table, has then the same rules in the same order, and has refused no line
 pub record LoadsBack (t : Table) (text : List ℕ) : Type 0 where
@@ -76,7 +76,7 @@ pub record ListedByNumber (st : Store) : Type 0 where
       (buffers : ℕ → List ℕ) →
       ((k : ℕ) → longestRule ≤ length (buffers k)) →
       listedByCalls st buffers 0 (length (tableOf st .rules)) ≡ listing (tableOf st)
-  pub ends : (out : List ℕ) → listAnswer st (length (tableOf st .rules)) out ≡ l.Refused noSuchNumber
+  pub ends : (out : List ℕ) → listAnswer st (length (tableOf st .rules)) out ≡ l.Refused (noSuchNumber .number)
   pub loads-back :
       (buffers : ℕ → List ℕ) →
       ((k : ℕ) → longestRule ≤ length (buffers k)) →

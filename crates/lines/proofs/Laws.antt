@@ -6,7 +6,9 @@ use Prim.Native.Nat.{ℕ, _<_}
 use lib.Dec.{ltb}
 use lib.ListN.{length, drop}
 use Rattle.search.specs.Bytes.{sameBytes}
-use Rattle.alphabet.specs.Alphabet.{wellFormed, fields, lineLimit}
+use Rattle.refusals.specs.Refusals.{tooLong, wrongFields, badAccess, sameLabels, badLabelAt}
+use Rattle.refusals.specs.declared.Refusal.{Refusal}
+use Rattle.alphabet.specs.Alphabet.{wellFormed, fields, lineLimit, badByteIn}
 use Rattle.alphabet.specs.Within.{fieldAt, part}
 use Rattle.alphabet.proofs.Laws.{FieldFrom, in-a-row}
 use Rattle.modes.specs.Modes.{readModes, ruleLetters, changeLetters}
@@ -27,34 +29,34 @@ inside w = record { starts = w .starts; ends = w .ends }
 
 -- ---- what both kinds of line share: an answer x is right of what is to be said, and a refusal is right where its number is said
 
-module _ {A : Type 0} (refuse : ℕ → A) (Right : A → Said → Type 0) (refuses : (n : ℕ) → Right (refuse n) (refused n)) (line : List ℕ) (p : Pair) (x : A) (y : Said) (right : Right x y) where
-  labels-right : Right (labelsAt refuse line p x) (cond (wellFormed (at line (p .subject)) && wellFormed (at line (p .object))) y (refused 3))
+module _ {A : Type 0} (refuse : Refusal → A) (Right : A → Said → Type 0) (refuses : (r : Refusal) → Right (refuse r) (refused r)) (line : List ℕ) (p : Pair) (x : A) (y : Said) (right : Right x y) where
+  labels-right : Right (labelsAt refuse line p x) (cond (wellFormed (at line (p .subject)) && wellFormed (at line (p .object))) y (refused (badLabelAt (badByteIn line))))
   labels-right = by-test (wellFormed (at line (p .subject)) && wellFormed (at line (p .object)))
     where
-      by-test : (t : Bool) → Right (cond t x (refuse 3)) (cond t y (refused 3))
+      by-test : (t : Bool) → Right (cond t x (refuse (badLabelAt (badByteIn line)))) (cond t y (refused (badLabelAt (badByteIn line))))
       by-test true = right
-      by-test false = refuses 3
+      by-test false = refuses (badLabelAt (badByteIn line))
 
-  apart-right : Right (apartAt refuse line p x) (cond (sameBytes (at line (p .subject)) (at line (p .object))) (refused 5) y)
+  apart-right : Right (apartAt refuse line p x) (cond (sameBytes (at line (p .subject)) (at line (p .object))) (refused sameLabels) y)
   apart-right = by-test (sameBytes (at line (p .subject)) (at line (p .object)))
     where
-      by-test : (t : Bool) → Right (cond t (refuse 5) x) (cond t (refused 5) y)
-      by-test true = refuses 5
+      by-test : (t : Bool) → Right (cond t (refuse sameLabels) x) (cond t (refused sameLabels) y)
+      by-test true = refuses sameLabels
       by-test false = right
 
 -- a line is right where it is so without a field, with one, and with two labels and what follows them
 line-right :
     {A : Type 0} (k : Kind A) (Right : A → Said → Type 0) →
-    ((n : ℕ) → Right (k .refuse n) (refused n)) →
+    ((r : Refusal) → Right (k .refuse r) (refused r)) →
     (line : List ℕ) (said : List (List ℕ) → Said) →
     Right (k .none) (said []) →
-    ((s : List ℕ) → Right (k .refuse 2) (said (s ∷ []))) →
+    ((s : List ℕ) → Right (k .refuse wrongFields) (said (s ∷ []))) →
     ((a b c d : ℕ) → SpanInside line (span a b) → SpanInside line (span c d) → Right (k .more line (pair a b c d) d) (said (part line a b ∷ part line c d ∷ fields (drop d line)))) →
-    Right (lineAt k line) (cond (ltb lineLimit (length line)) (refused 1) (said (fields line)))
+    Right (lineAt k line) (cond (ltb lineLimit (length line)) (refused tooLong) (said (fields line)))
 line-right k Right refuses line said none one more = by-test (ltb lineLimit (length line))
   where
-    by-test : (t : Bool) → Right (cond t (k .refuse 1) (firstAt k line (fieldAt line 0))) (cond t (refused 1) (said (fields line)))
-    by-test true = refuses 1
+    by-test : (t : Bool) → Right (cond t (k .refuse tooLong) (firstAt k line (fieldAt line 0))) (cond t (refused tooLong) (said (fields line)))
+    by-test true = refuses tooLong
     by-test false =
         in-a-row Right line 0 (firstAt k line) said none
         (λ a b s. in-a-row Right line b (secondAt k line a b) (λ l. said (part line a b ∷ l)) (one (part line a b))
@@ -67,31 +69,31 @@ abbrev pub RightRule : List ℕ → RuleLine → Said → Type 0
 RightRule line x said = (ruleSaid line x ≡ said) × RuleInside line x
 
 module _ (line : List ℕ) where
-  rule-refuses : (n : ℕ) → RightRule line (ruled.Refused n) (refused n)
-  rule-refuses n = (refl, tt)
+  rule-refuses : (r : Refusal) → RightRule line (ruled.Refused r) (refused r)
+  rule-refuses r = (refl, tt)
 
   rule-two-labels :
       (a b c d : ℕ) →
       SpanInside line (span a b) →
       SpanInside line (span c d) →
-      RightRule line (ruleAtThird line (pair a b c d) (fieldAt line d)) (ruleFields (part line a b ∷ part line c d ∷ fields (drop d line)))
+      RightRule line (ruleAtThird line (pair a b c d) (fieldAt line d)) (ruleFields (badByteIn line) (part line a b ∷ part line c d ∷ fields (drop d line)))
   unfolding ruleBy
   rule-two-labels a b c d s o =
-      in-a-row (RightRule line) line d (ruleAtThird line p) (λ l. ruleFields (part line a b ∷ part line c d ∷ l)) (rule-refuses 2)
-      (λ e f x. in-a-row (RightRule line) line f (ruleAtFourth line p (span e f)) (λ l. ruleFields (part line a b ∷ part line c d ∷ part line e f ∷ l))
+      in-a-row (RightRule line) line d (ruleAtThird line p) (λ l. ruleFields (badByteIn line) (part line a b ∷ part line c d ∷ l)) (rule-refuses wrongFields)
+      (λ e f x. in-a-row (RightRule line) line f (ruleAtFourth line p (span e f)) (λ l. ruleFields (badByteIn line) (part line a b ∷ part line c d ∷ part line e f ∷ l))
       (labels-right ruled.Refused (RightRule line) rule-refuses line p _ _ (by-access (readModes ruleLetters true (part line e f)) (modes-small ruleLetters true (part line e f))))
-      (λ g h y. rule-refuses 2))
+      (λ g h y. rule-refuses wrongFields))
     where
       p : Pair
       p = pair a b c d
 
       by-access : (x : Access) → ((m : ℕ) → x ≡ Modes m → m < 64) → RightRule line (ruleAtAccess line p x) (ruleWith (part line a b) (part line c d) x)
       by-access (Modes m) h = apart-right ruled.Refused (RightRule line) rule-refuses line p (ruled.Rule p m) (rule (part line a b) (part line c d) m) (refl, (s, o, h m refl))
-      by-access Bad h = rule-refuses 4
+      by-access Bad h = rule-refuses badAccess
 
   pub rule-right : RightRule line (ruleLineAt line) (ruleOf line)
   unfolding ruleLineAt ruleOf
-  rule-right = line-right ruleKind (RightRule line) rule-refuses line ruleFields (refl, tt) (λ s. rule-refuses 2) rule-two-labels
+  rule-right = line-right ruleKind (RightRule line) rule-refuses line (ruleFields (badByteIn line)) (refl, tt) (λ s. rule-refuses wrongFields) rule-two-labels
 
   -- the answer meets its contract
   pub rule-meets : (x : RuleLine) → lineAt ruleKind line ≡ x → (x ≡ ruleLineAt line) × RightRule line x (ruleOf line)
@@ -104,23 +106,23 @@ abbrev pub RightChange : List ℕ → ChangeLine → Said → Type 0
 RightChange line x said = (changeSaid line x ≡ said) × ChangeInside line x
 
 module _ (line : List ℕ) where
-  change-refuses : (n : ℕ) → RightChange line (changed.Refused n) (refused n)
-  change-refuses n = (refl, tt)
+  change-refuses : (r : Refusal) → RightChange line (changed.Refused r) (refused r)
+  change-refuses r = (refl, tt)
 
   change-two-labels :
       (a b c d : ℕ) →
       SpanInside line (span a b) →
       SpanInside line (span c d) →
-      RightChange line (changeAtThird line (pair a b c d) (fieldAt line d)) (changeFields (part line a b ∷ part line c d ∷ fields (drop d line)))
+      RightChange line (changeAtThird line (pair a b c d) (fieldAt line d)) (changeFields (badByteIn line) (part line a b ∷ part line c d ∷ fields (drop d line)))
   unfolding changeBy
   change-two-labels a b c d s o =
-      in-a-row (RightChange line) line d (changeAtThird line p) (λ l. changeFields (part line a b ∷ part line c d ∷ l)) (change-refuses 2)
-      (λ e f x. in-a-row (RightChange line) line f (changeAtFourth line p (span e f)) (λ l. changeFields (part line a b ∷ part line c d ∷ part line e f ∷ l)) (change-refuses 2)
-      (λ g h y. in-a-row (RightChange line) line h (changeAtFifth line p (span e f) (span g h)) (λ l. changeFields (part line a b ∷ part line c d ∷ part line e f ∷ part line g h ∷ l))
+      in-a-row (RightChange line) line d (changeAtThird line p) (λ l. changeFields (badByteIn line) (part line a b ∷ part line c d ∷ l)) (change-refuses wrongFields)
+      (λ e f x. in-a-row (RightChange line) line f (changeAtFourth line p (span e f)) (λ l. changeFields (badByteIn line) (part line a b ∷ part line c d ∷ part line e f ∷ l)) (change-refuses wrongFields)
+      (λ g h y. in-a-row (RightChange line) line h (changeAtFifth line p (span e f) (span g h)) (λ l. changeFields (badByteIn line) (part line a b ∷ part line c d ∷ part line e f ∷ part line g h ∷ l))
       (labels-right changed.Refused (RightChange line) change-refuses line p _ _
       (by-access (readModes changeLetters true (part line e f)) (modes-small changeLetters true (part line e f))
       (readModes changeLetters true (part line g h)) (modes-small changeLetters true (part line g h))))
-      (λ i j z. change-refuses 2)))
+      (λ i j z. change-refuses wrongFields)))
     where
       p : Pair
       p = pair a b c d
@@ -134,12 +136,12 @@ module _ (line : List ℕ) where
       by-access (Modes m) i (Modes n) j =
           apart-right changed.Refused (RightChange line) change-refuses line p (changed.Change p m n) (change (part line a b) (part line c d) m n)
           (refl, (s, o, i m refl, j n refl))
-      by-access (Modes m) i Bad j = change-refuses 4
-      by-access Bad i y j = change-refuses 4
+      by-access (Modes m) i Bad j = change-refuses badAccess
+      by-access Bad i y j = change-refuses badAccess
 
   pub change-right : RightChange line (changeLineAt line) (changeOf line)
   unfolding changeLineAt changeOf
-  change-right = line-right changeKind (RightChange line) change-refuses line changeFields (refl, tt) (λ s. change-refuses 2) change-two-labels
+  change-right = line-right changeKind (RightChange line) change-refuses line (changeFields (badByteIn line)) (refl, tt) (λ s. change-refuses wrongFields) change-two-labels
 
   -- the answer meets its contract
   pub change-meets : (x : ChangeLine) → lineAt changeKind line ≡ x → (x ≡ changeLineAt line) × RightChange line x (changeOf line)
@@ -163,53 +165,53 @@ Sound (change s o a d) = Taken s o × (a < 64) × (d < 64)
 
 -- said of two labels: refused, or taken with what holds of the modes
 module _ (s o : List ℕ) (said : Said) where
-  taken-or : (Taken s o → Sound said) → wellFormed s ≡ true → wellFormed o ≡ true → Sound (cond (sameBytes s o) (refused 5) said)
+  taken-or : (Taken s o → Sound said) → wellFormed s ≡ true → wellFormed o ≡ true → Sound (cond (sameBytes s o) (refused sameLabels) said)
   taken-or h e i = by-test (sameBytes s o) refl
     where
-      by-test : (t : Bool) → sameBytes s o ≡ t → Sound (cond t (refused 5) said)
+      by-test : (t : Bool) → sameBytes s o ≡ t → Sound (cond t (refused sameLabels) said)
       by-test true z = tt
       by-test false z = h (record { subject = e; object = i; apart = z })
 
-  formed-or : (wellFormed s ≡ true → wellFormed o ≡ true → Sound said) → Sound (cond (wellFormed s && wellFormed o) said (refused 3))
-  formed-or h = by-test (wellFormed s) refl (wellFormed o) refl
+  formed-or : (r : Refusal) → (wellFormed s ≡ true → wellFormed o ≡ true → Sound said) → Sound (cond (wellFormed s && wellFormed o) said (refused r))
+  formed-or r h = by-test (wellFormed s) refl (wellFormed o) refl
     where
-      by-test : (p : Bool) → wellFormed s ≡ p → (q : Bool) → wellFormed o ≡ q → Sound (cond (p && q) said (refused 3))
+      by-test : (p : Bool) → wellFormed s ≡ p → (q : Bool) → wellFormed o ≡ q → Sound (cond (p && q) said (refused r))
       by-test true e true i = h e i
       by-test true e false i = tt
       by-test false e q i = tt
 
-limit-or : (limit n : ℕ) (said : Said) → Sound said → Sound (cond (ltb limit n) (refused 1) said)
+limit-or : (limit n : ℕ) (said : Said) → Sound said → Sound (cond (ltb limit n) (refused tooLong) said)
 limit-or limit n said h = by-test (ltb limit n)
   where
-    by-test : (t : Bool) → Sound (cond t (refused 1) said)
+    by-test : (t : Bool) → Sound (cond t (refused tooLong) said)
     by-test true = tt
     by-test false = h
 
-rule-fields-sound : (fs : List (List ℕ)) → Sound (ruleFields fs)
+rule-fields-sound : (place : ℕ) (fs : List (List ℕ)) → Sound (ruleFields place fs)
 unfolding ruleBy
-rule-fields-sound [] = tt
-rule-fields-sound (s ∷ []) = tt
-rule-fields-sound (s ∷ o ∷ []) = tt
-rule-fields-sound (s ∷ o ∷ a ∷ []) =
-    formed-or s o (ruleWith s o (readModes ruleLetters true a)) (by-access (readModes ruleLetters true a) (modes-small ruleLetters true a))
+rule-fields-sound place [] = tt
+rule-fields-sound place (s ∷ []) = tt
+rule-fields-sound place (s ∷ o ∷ []) = tt
+rule-fields-sound place (s ∷ o ∷ a ∷ []) =
+    formed-or s o (ruleWith s o (readModes ruleLetters true a)) (badLabelAt place) (by-access (readModes ruleLetters true a) (modes-small ruleLetters true a))
   where
     by-access : (x : Access) → ((m : ℕ) → x ≡ Modes m → m < 64) → wellFormed s ≡ true → wellFormed o ≡ true → Sound (ruleWith s o x)
     by-access (Modes m) h e i = taken-or s o (rule s o m) (λ t. (t, h m refl)) e i
     by-access Bad h e i = tt
-rule-fields-sound (s ∷ o ∷ a ∷ x ∷ more) = tt
+rule-fields-sound place (s ∷ o ∷ a ∷ x ∷ more) = tt
 
 pub rule-sound : (line : List ℕ) → Sound (ruleOf line)
 unfolding ruleOf
-rule-sound line = limit-or _ (length line) (ruleFields (fields line)) (rule-fields-sound (fields line))
+rule-sound line = limit-or _ (length line) (ruleFields (badByteIn line) (fields line)) (rule-fields-sound (badByteIn line) (fields line))
 
-change-fields-sound : (fs : List (List ℕ)) → Sound (changeFields fs)
+change-fields-sound : (place : ℕ) (fs : List (List ℕ)) → Sound (changeFields place fs)
 unfolding changeBy
-change-fields-sound [] = tt
-change-fields-sound (s ∷ []) = tt
-change-fields-sound (s ∷ o ∷ []) = tt
-change-fields-sound (s ∷ o ∷ a ∷ []) = tt
-change-fields-sound (s ∷ o ∷ a ∷ d ∷ []) =
-    formed-or s o (changeWith s o (readModes changeLetters true a) (readModes changeLetters true d))
+change-fields-sound place [] = tt
+change-fields-sound place (s ∷ []) = tt
+change-fields-sound place (s ∷ o ∷ []) = tt
+change-fields-sound place (s ∷ o ∷ a ∷ []) = tt
+change-fields-sound place (s ∷ o ∷ a ∷ d ∷ []) =
+    formed-or s o (changeWith s o (readModes changeLetters true a) (readModes changeLetters true d)) (badLabelAt place)
     (by-access (readModes changeLetters true a) (modes-small changeLetters true a) (readModes changeLetters true d) (modes-small changeLetters true d))
   where
     by-access :
@@ -223,8 +225,8 @@ change-fields-sound (s ∷ o ∷ a ∷ d ∷ []) =
     by-access (Modes m) h (Modes n) k e i = taken-or s o (change s o m n) (λ t. (t, h m refl, k n refl)) e i
     by-access (Modes m) h Bad k e i = tt
     by-access Bad h y k e i = tt
-change-fields-sound (s ∷ o ∷ a ∷ d ∷ x ∷ more) = tt
+change-fields-sound place (s ∷ o ∷ a ∷ d ∷ x ∷ more) = tt
 
 pub change-sound : (line : List ℕ) → Sound (changeOf line)
 unfolding changeOf
-change-sound line = limit-or _ (length line) (changeFields (fields line)) (change-fields-sound (fields line))
+change-sound line = limit-or _ (length line) (changeFields (badByteIn line) (fields line)) (change-fields-sound (badByteIn line) (fields line))

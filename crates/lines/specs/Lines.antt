@@ -6,42 +6,44 @@ use mathlib.Core.List.{List, [], _∷_}
 use lib.ListN.{length}
 use lib.Dec.{ltb}
 use Rattle.search.specs.Bytes.{sameBytes}
-use Rattle.refusals.specs.Refusals.{tooLong, wrongFields, badLabel, badAccess, sameLabels}
-use Rattle.alphabet.specs.Alphabet.{wellFormed, lineLimit, fields}
+use Rattle.refusals.specs.Refusals.{tooLong, wrongFields, badLabelAt, badAccess, sameLabels}
+use Rattle.refusals.specs.declared.Refusal.{Refusal}
+use Rattle.alphabet.specs.Alphabet.{wellFormed, lineLimit, fields, badByteIn}
 use Rattle.modes.specs.Modes.{readModes, ruleLetters, changeLetters}
 use Rattle.modes.specs.declared.Access.{Access}
 use Rattle.modes.specs.declared.Access.the-variants.{Modes, Bad}
 
 -- ---- a line of rule text: subject, object, access
 
--- what a line or a write says: nothing (only blanks), a refusal's number, a rule by its subject, its object and its modes, or a change by
+-- what a line or a write says: nothing (only blanks), a refusal, a rule by its subject, its object and its modes, or a change by
 -- its subject, its object, the modes that it allows and those that it denies
 pub data Said : Type 0 where
   skipped : Said
-  refused : ℕ → Said
+  refused : Refusal → Said
   rule : List ℕ → List ℕ → ℕ → Said
   change : List ℕ → List ℕ → ℕ → ℕ → Said
 
--- a label is not well formed, then the access field has a byte not allowed there, then subject equals object
+-- the access field has a byte not allowed there, then subject equals object
 abbrev pub ruleWith : List ℕ → List ℕ → Access → Said
 ruleWith s o Bad = refused badAccess
 ruleWith s o (Modes m) = cond (sameBytes s o) (refused sameLabels) (rule s o m)
 
-unfoldable pub ruleBy : List ℕ → List ℕ → List ℕ → Said
-ruleBy s o a = cond (wellFormed s && wellFormed o) (ruleWith s o (readModes ruleLetters true a)) (refused badLabel)
+-- before these, a label is not well formed; with the place of the first bad byte in the line (02, Three)
+unfoldable pub ruleBy : ℕ → List ℕ → List ℕ → List ℕ → Said
+ruleBy place s o a = cond (wellFormed s && wellFormed o) (ruleWith s o (readModes ruleLetters true a)) (refused (badLabelAt place))
 
 -- not three fields; no field at all is a line that is skipped
-abbrev pub ruleFields : List (List ℕ) → Said
-ruleFields [] = skipped
-ruleFields (s ∷ []) = refused wrongFields
-ruleFields (s ∷ o ∷ []) = refused wrongFields
-ruleFields (s ∷ o ∷ a ∷ []) = ruleBy s o a
-ruleFields (s ∷ o ∷ a ∷ x ∷ more) = refused wrongFields
+abbrev pub ruleFields : ℕ → List (List ℕ) → Said
+ruleFields place [] = skipped
+ruleFields place (s ∷ []) = refused wrongFields
+ruleFields place (s ∷ o ∷ []) = refused wrongFields
+ruleFields place (s ∷ o ∷ a ∷ []) = ruleBy place s o a
+ruleFields place (s ∷ o ∷ a ∷ x ∷ more) = refused wrongFields
 
 -- too many bytes, before all else
 unfoldable pub ruleOf : List ℕ → Said
 unfolding ruleBy
-ruleOf line = cond (ltb lineLimit (length line)) (refused tooLong) (ruleFields (fields line))
+ruleOf line = cond (ltb lineLimit (length line)) (refused tooLong) (ruleFields (badByteIn line) (fields line))
 
 -- ---- a change-rule write: subject, object, allow, deny
 
@@ -50,17 +52,20 @@ changeWith s o Bad d = refused badAccess
 changeWith s o (Modes a) Bad = refused badAccess
 changeWith s o (Modes a) (Modes d) = cond (sameBytes s o) (refused sameLabels) (change s o a d)
 
-unfoldable pub changeBy : List ℕ → List ℕ → List ℕ → List ℕ → Said
-changeBy s o a d = cond (wellFormed s && wellFormed o) (changeWith s o (readModes changeLetters true a) (readModes changeLetters true d)) (refused badLabel)
+unfoldable pub changeBy : ℕ → List ℕ → List ℕ → List ℕ → List ℕ → Said
+changeBy place s o a d =
+    cond (wellFormed s && wellFormed o)
+    (changeWith s o (readModes changeLetters true a) (readModes changeLetters true d))
+    (refused (badLabelAt place))
 
-abbrev pub changeFields : List (List ℕ) → Said
-changeFields [] = refused wrongFields
-changeFields (s ∷ []) = refused wrongFields
-changeFields (s ∷ o ∷ []) = refused wrongFields
-changeFields (s ∷ o ∷ a ∷ []) = refused wrongFields
-changeFields (s ∷ o ∷ a ∷ d ∷ []) = changeBy s o a d
-changeFields (s ∷ o ∷ a ∷ d ∷ x ∷ more) = refused wrongFields
+abbrev pub changeFields : ℕ → List (List ℕ) → Said
+changeFields place [] = refused wrongFields
+changeFields place (s ∷ []) = refused wrongFields
+changeFields place (s ∷ o ∷ []) = refused wrongFields
+changeFields place (s ∷ o ∷ a ∷ []) = refused wrongFields
+changeFields place (s ∷ o ∷ a ∷ d ∷ []) = changeBy place s o a d
+changeFields place (s ∷ o ∷ a ∷ d ∷ x ∷ more) = refused wrongFields
 
 unfoldable pub changeOf : List ℕ → Said
 unfolding changeBy
-changeOf line = cond (ltb lineLimit (length line)) (refused tooLong) (changeFields (fields line))
+changeOf line = cond (ltb lineLimit (length line)) (refused tooLong) (changeFields (badByteIn line) (fields line))

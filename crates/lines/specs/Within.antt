@@ -6,8 +6,9 @@ use mathlib.Core.List.{List}
 use lib.ListN.{length}
 use lib.Dec.{ltb}
 use Rattle.search.specs.Bytes.{sameBytes}
-use Rattle.refusals.specs.Refusals.{tooLong, wrongFields, badLabel, badAccess, sameLabels}
-use Rattle.alphabet.specs.Alphabet.{wellFormed, lineLimit}
+use Rattle.refusals.specs.Refusals.{tooLong, wrongFields, badLabelAt, badAccess, sameLabels}
+use Rattle.refusals.specs.declared.Refusal.{Refusal}
+use Rattle.alphabet.specs.Alphabet.{wellFormed, lineLimit, badByteIn}
 use Rattle.alphabet.specs.Within.{fieldAt, part}
 use Rattle.alphabet.specs.declared.Field.{Field}
 use Rattle.alphabet.specs.declared.Field.the-variants.{Part, End}
@@ -59,9 +60,9 @@ ChangeInside line (c.Change p a d) = SpanInside line (p .subject) × SpanInside 
 -- ---- what both kinds of line share
 
 -- the labels are well formed; and, behind the access fields, they are not the same
-module _ {A : Type 0} (refuse : ℕ → A) (line : List ℕ) (p : Pair) where
+module _ {A : Type 0} (refuse : Refusal → A) (line : List ℕ) (p : Pair) where
   abbrev pub labelsAt : A → A
-  labelsAt x = cond (wellFormed (at line (p .subject)) && wellFormed (at line (p .object))) x (refuse badLabel)
+  labelsAt x = cond (wellFormed (at line (p .subject)) && wellFormed (at line (p .object))) x (refuse (badLabelAt (badByteIn line)))
 
   abbrev pub apartAt : A → A
   apartAt x = cond (sameBytes (at line (p .subject)) (at line (p .object))) (refuse sameLabels) x
@@ -69,7 +70,7 @@ module _ {A : Type 0} (refuse : ℕ → A) (line : List ℕ) (p : Pair) where
 -- a kind of line with answers A: its refusals, what is said of a line without a field, and what is said of one with two labels, by the fields from
 -- an index on
 pub record Kind (A : Type 0) : Type 0 where
-  pub refuse : ℕ → A
+  pub refuse : Refusal → A
   pub none : A
   pub more : List ℕ → Pair → ℕ → A
 

@@ -3,6 +3,7 @@
 use alphabet::Field;
 use alphabet::LabelField;
 use modes::Access;
+use refusals::Refusal;
 ghost use mathlib.Core.Path.{_≡_};
 ghost use Rattle.lines.specs.Lines.{ruleOf, changeOf};
 ghost use Rattle.lines.specs.Within.{ruleLineAt, ruleSaid, RuleInside, changeLineAt, changeSaid, ChangeInside};
@@ -19,16 +20,16 @@ pub struct Pair {
     pub object: Span,
 }
 
-// What a line of rule text says: nothing, a refusal's number, or a rule with its modes.
+// What a line of rule text says: nothing, a refusal, or a rule with its modes.
 pub enum RuleLine {
     Skipped,
-    Refused(u8),
+    Refused(Refusal),
     Rule(Pair, u8),
 }
 
-// What a change-rule write says: a refusal's number, or a change with the modes that it allows and those that it denies.
+// What a change-rule write says: a refusal, or a change with the modes that it allows and those that it denies.
 pub enum ChangeLine {
-    Refused(u8),
+    Refused(Refusal),
     Change(Pair, u8, u8),
 }
 
@@ -65,10 +66,10 @@ pub fn rule_line(line: &[u8]) -> RuleLine
         return RuleLine::Refused(refusals::WRONG_FIELDS);
     };
     if !subject_formed {
-        return RuleLine::Refused(refusals::BAD_LABEL);
+        return RuleLine::Refused(alphabet::bad_label_at(&line[a..b], a));
     }
     if !object_formed {
-        return RuleLine::Refused(refusals::BAD_LABEL);
+        return RuleLine::Refused(alphabet::bad_label_at(&line[c..d], c));
     }
     let Access::Modes(m) = modes::read_modes(&line[x..y], modes::RULE_LETTERS, true) else {
         return RuleLine::Refused(refusals::BAD_ACCESS);
@@ -121,10 +122,10 @@ pub fn change_line(line: &[u8]) -> ChangeLine
         return ChangeLine::Refused(refusals::WRONG_FIELDS);
     };
     if !subject_formed {
-        return ChangeLine::Refused(refusals::BAD_LABEL);
+        return ChangeLine::Refused(alphabet::bad_label_at(&line[a..b], a));
     }
     if !object_formed {
-        return ChangeLine::Refused(refusals::BAD_LABEL);
+        return ChangeLine::Refused(alphabet::bad_label_at(&line[c..d], c));
     }
     let Access::Modes(allow) = modes::read_modes(&line[e..f], modes::CHANGE_LETTERS, true) else {
         return ChangeLine::Refused(refusals::BAD_ACCESS);

@@ -9,6 +9,8 @@ use borrow.Author.Tests.{lt-ltb, ltb-true, ltb-false}
 use lib.ListN.{length, take, drop, getD, length-take, List·getD-eq-default}
 use Rattle.search.specs.Search.{entries}
 use Rattle.search.proofs.Laws.{and-both, all-at, entries-length, entries-at}
+use Rattle.refusals.specs.Refusals.{damaged, noSuchNumber}
+use Rattle.refusals.specs.declared.Refusal.{Refusal}
 use Rattle.modes.specs.Modes.{modesText}
 use Rattle.store.specs.declared.Rule.{Rule}
 use Rattle.store.specs.declared.Done.the-variants as d
@@ -85,11 +87,11 @@ module _ (s : Store) (k : ℕ) where
   unfolding labelAnswer
   label-done e = by-damage (undamagedOf s) refl e
     where
-      by-number : (b : Bool) → ltb k (length (tableOf s .labels)) ≡ b → undamagedOf s ≡ true → cond b d.Done (d.Refused 13) ≡ d.Done → Undamaged s × (k < getD (s .words) 0 0)
+      by-number : (b : Bool) → ltb k (length (tableOf s .labels)) ≡ b → undamagedOf s ≡ true → cond b d.Done (d.Refused noSuchNumber) ≡ d.Done → Undamaged s × (k < getD (s .words) 0 0)
       by-number true h q e = (undamaged-is s q, omega (arith, ltb-true k (length (tableOf s .labels)) h, entries-length (labelAt (s .labels)) (getD (s .words) 0 0)))
       by-number false h q e = let z : _≡_ {A = ℕ} 0 1 = cc in absurd (omega arith)
 
-      by-damage : (b : Bool) → undamagedOf s ≡ b → cond b (cond (ltb k (length (tableOf s .labels))) d.Done (d.Refused 13)) (d.Refused 0) ≡ d.Done → Undamaged s × (k < getD (s .words) 0 0)
+      by-damage : (b : Bool) → undamagedOf s ≡ b → cond b (cond (ltb k (length (tableOf s .labels))) d.Done (d.Refused noSuchNumber)) (d.Refused damaged) ≡ d.Done → Undamaged s × (k < getD (s .words) 0 0)
       by-damage true q e = by-number (ltb k (length (tableOf s .labels))) refl q e
       by-damage false q e = let z : _≡_ {A = ℕ} 0 1 = cc in absurd (omega arith)
 
@@ -98,14 +100,14 @@ module _ (s : Store) (k : ℕ) where
   label-is u h = rw (is-undamaged s u) (sym (entries-at (labelAt (s .labels)) [] (getD (s .words) 0 0) k h))
 
   -- refused: an empty part
-  pub label-refused : (j : ℕ) → labelAnswer s k ≡ d.Refused j → [] ≡ labelGiven s k
+  pub label-refused : (j : Refusal) → labelAnswer s k ≡ d.Refused j → [] ≡ labelGiven s k
   unfolding labelAnswer labelGiven
   label-refused j e = by-damage (undamagedOf s) e
     where
-      by-number : (b : Bool) → ltb k (length (tableOf s .labels)) ≡ b → cond b d.Done (d.Refused 13) ≡ d.Refused j → [] ≡ labelNumbered (tableOf s) k
+      by-number : (b : Bool) → ltb k (length (tableOf s .labels)) ≡ b → cond b d.Done (d.Refused noSuchNumber) ≡ d.Refused j → [] ≡ labelNumbered (tableOf s) k
       by-number true h e = let z : _≡_ {A = ℕ} 0 1 = cc in absurd (omega arith)
       by-number false h e = sym (List·getD-eq-default (tableOf s .labels) [] {n = k} (ltb-false _ _ h))
 
-      by-damage : (b : Bool) → cond b (cond (ltb k (length (tableOf s .labels))) d.Done (d.Refused 13)) (d.Refused 0) ≡ d.Refused j → [] ≡ cond b (labelNumbered (tableOf s) k) []
+      by-damage : (b : Bool) → cond b (cond (ltb k (length (tableOf s .labels))) d.Done (d.Refused noSuchNumber)) (d.Refused damaged) ≡ d.Refused j → [] ≡ cond b (labelNumbered (tableOf s) k) []
       by-damage true e = by-number (ltb k (length (tableOf s .labels))) refl e
       by-damage false e = refl

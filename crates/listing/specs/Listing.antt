@@ -30,7 +30,7 @@ listing t = textsOf t (t .rules)
 
 -- rule number k as text; refused where there is no rule of that number
 unfoldable pub ruleGiven : Table → ℕ → Text
-ruleGiven t k = cond (ltb k (length (t .rules))) (text (ruleText t (ruleNumbered t k))) (refused noSuchNumber)
+ruleGiven t k = cond (ltb k (length (t .rules))) (text (ruleText t (ruleNumbered t k))) (refused (noSuchNumber .number))
 
 -- the answer, and the lent output afterwards
 abbrev pub listRule : Table → ℕ → List ℕ → Output
@@ -41,7 +41,7 @@ listRuleOut t k out = textOut (ruleGiven t k) out
 
 -- of a lent state: the refusal of a damaged one comes before every other
 abbrev pub listGiven : Store → ℕ → Text
-listGiven st k = cond (undamagedOf st) (ruleGiven (tableOf st) k) (refused damaged)
+listGiven st k = cond (undamagedOf st) (ruleGiven (tableOf st) k) (refused (damaged .number))
 
 unfoldable pub listAnswer : Store → ℕ → List ℕ → Output
 listAnswer st k out = textAnswer (listGiven st k) out

@@ -12,11 +12,11 @@ pub fn list_rule(labels: &[u8], entries: &[u8], words: &[u64], k: usize, out: &m
     ensures { λ _. ⌜ now (out .exit) ≡ listOut (lent labels entries words) k (now (out .entry)) ⌝ }
 {
     if !damage::undamaged(labels, entries, words) {
-        return Output::Refused(refusals::DAMAGED);
+        return Output::Refused(refusals::DAMAGED.number);
     }
     let rules = words[store::RULE_COUNT] as usize;
     if rules <= k {
-        return Output::Refused(refusals::NO_SUCH_NUMBER);
+        return Output::Refused(refusals::NO_SUCH_NUMBER.number);
     }
     let subject = places::label_at(labels, entries[k] as usize);
     let object = places::label_at(labels, entries[store::OBJECTS_FROM + k] as usize);
@@ -25,7 +25,7 @@ pub fn list_rule(labels: &[u8], entries: &[u8], words: &[u64], k: usize, out: &m
     rule_text::put_text(out, subject, object, &text[0..n])
 }
 
-// What `label_by_number` does: done, or its refusal's number.
+// What `label_by_number` does: done, or its refusal.
 pub fn label_check(labels: &[u8], entries: &[u8], words: &[u64], k: usize) -> Done
     ensures { λ r. ⌜ r ≡ labelAnswer (lent labels entries words) k ⌝ }
 {

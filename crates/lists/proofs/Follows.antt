@@ -10,6 +10,7 @@ use lib.Dec.{ltb, eqb}
 use borrow.Author.Tests.{eqb-true, eqb-false, eq-eqb, ne-eqb, lt-ltb, le-ltb, ltb-true, ltb-false}
 use lib.ListN.{length, take, set, length-set, length-append}
 use lib.Seq.{take-all, take-suc-set, take-append-le}
+use Rattle.refusals.specs.Refusals.{tooLong}
 use Rattle.store.specs.Table.{Table}
 use Rattle.store.specs.Layout.{Store, store, tableOf, undamagedOf}
 use Rattle.lines.specs.Lines.{ruleOf, refused}
@@ -18,22 +19,23 @@ use Rattle.store.specs.Judged.{Judged, is-skipped, is-refused, is-accepted, tab
 use Rattle.writes.specs.declared.Outcome.{Outcome}
 use Rattle.writes.specs.declared.Outcome.the-variants as v
 use Rattle.writes.proofs.Laws.{line-table}
-use Rattle.reports.specs.declared.Loader.{Loader}
 use Rattle.lists.specs.Reader.{Totals, counted, Reader, startOn, endLine, takeByte, takePiece, finish, limited}
-use Rattle.reports.specs.Report.{more, count, withKept, freshLoader}
+use Rattle.reports.specs.declared.Report.{Report}
+use Rattle.reports.specs.Report.{more, withLine, count, withKept, freshLoader}
 use Rattle.load.specs.Loader.{Load, load, endKept, keepByte, stepByte, stepPiece, stepEnd}
-use Rattle.load.proofs.Laws.{Ready, count-kept, ready-end, ready-step}
+use Rattle.load.proofs.Laws.{Ready, ready-end, ready-step}
 
 -- ---- what a lent state stands for
 
 -- the report's numbers, each up to its limit
-pub record SameTotals (l : Loader) (c : Totals) : Type 0 where
+pub record SameTotals (l : Report) (c : Totals) : Type 0 where
   pub lines : l .lines ≡ limited (c .lines)
   pub accepted : l .accepted ≡ limited (c .accepted)
   pub skipped : l .skipped ≡ limited (c .skipped)
   pub refused : l .refused ≡ limited (c .refused)
   pub first : l .first ≡ limited (c .first)
   pub reason : l .reason ≡ c .reason
+  pub place : l .place ≡ c .place
 
 -- the kept line, as much of it as is stored
 pub record SameLine (line : List ℕ) (stored : ℕ) (kept : List ℕ) : Type 0 where
@@ -45,7 +47,7 @@ pub record Holds (s : Load) (p : Reader) : Type 0 where
   pub ready : Ready s
   pub table : tableOf (s .store) ≡ p .table
   pub line : SameLine (s .line) (s .loader .kept) (p .kept)
-  pub totals : SameTotals (s .loader) (p .totals)
+  pub totals : SameTotals (s .loader .report) (p .totals)
 
 -- ---- counts
 
@@ -69,10 +71,10 @@ same-first : (b : Bool) (x x′ y y′ : ℕ) → x ≡ limited x′ → y ≡ l
 same-first true x x′ y y′ p q = p
 same-first false x x′ y y′ p q = q
 
-same-reason : (b : Bool) (n : ℕ) {y y′ : ℕ} → y ≡ y′ → cond b n y ≡ cond b n y′
-same-reason b n p = rw p
+same-either : (b : Bool) (n : ℕ) {y y′ : ℕ} → y ≡ y′ → cond b n y ≡ cond b n y′
+same-either b n p = rw p
 
-count-follows : (l : Loader) (c : Totals) (j : Judged) → SameTotals l c → SameTotals (count l (outcomeOf j)) (counted c j)
+count-follows : (l : Report) (c : Totals) (j : Judged) → SameTotals l c → SameTotals (withLine l (outcomeOf j)) (counted c j)
 count-follows l c is-skipped s =
     record {
       lines = more-limited _ _ (s .lines);
@@ -81,6 +83,7 @@ count-follows l c is-skipped s =
       refused = s .refused;
       first = s .first;
       reason = s .reason;
+      place = s .place;
     }
 count-follows l c (is-accepted t) s =
     record {
@@ -90,8 +93,9 @@ count-follows l c (is-accepted t) s =
       refused = s .refused;
       first = s .first;
       reason = s .reason;
+      place = s .place;
     }
-count-follows l c (is-refused n) s =
+count-follows l c (is-refused r) s =
     let z = zero-limited _ _ (s .refused) in
     record {
       lines = more-limited _ _ (s .lines);
@@ -99,7 +103,8 @@ count-follows l c (is-refused n) s =
       skipped = s .skipped;
       refused = more-limited _ _ (s .refused);
       first = rw z (same-first (eqb (c .refused) 0) (more (l .lines)) (c .lines + 1) (l .first) (c .first) (more-limited _ _ (s .lines)) (s .first));
-      reason = rw z (same-reason (eqb (c .refused) 0) n (s .reason));
+      reason = rw z (same-either (eqb (c .refused) 0) (r .number) (s .reason));
+      place = rw z (same-either (eqb (c .refused) 0) (r .place) (s .place));
     }
 
 empty-line : (line : List ℕ) (n : ℕ) → length line ≡ 600 → n ≡ 0 → SameLine line n []
@@ -111,7 +116,7 @@ empty-line line n full e = rw e (record { full = full; size = refl; bytes = refl
 whole-line : (line : List ℕ) (n : ℕ) (kept : List ℕ) → SameLine line n kept → n ≤ 600 → take n line ≡ kept
 whole-line line n kept s h = let z : length kept ≤ 600 = omega (arith, s .size) in s .bytes ∙ take-all 600 kept z
 
-too-long : (kept : List ℕ) → 600 < length kept → ruleOf kept ≡ refused 1
+too-long : (kept : List ℕ) → 600 < length kept → ruleOf kept ≡ refused tooLong
 unfolding ruleOf
 too-long kept h = rw (lt-ltb 600 (length kept) h)
 
@@ -128,8 +133,8 @@ end-parts s p st q j r t e f h =
     record {
       ready = r;
       table = t ∙ ap (λ (x : Judged). tableAfter (p .table) x) f;
-      line = empty-line (s .line) (count (s .loader) q .kept) (h .line .full) (count-kept (s .loader) q);
-      totals = rw (e, ← f) (count-follows (s .loader) (p .totals) j (h .totals));
+      line = empty-line (s .line) (count (s .loader) q .kept) (h .line .full) refl;
+      totals = rw (e, ← f) (count-follows (s .loader .report) (p .totals) j (h .totals));
     }
 
 verdict-is : (st : Store) (text : List ℕ) → lineOutcome st text ≡ outcomeOf (judged (tableOf st) (ruleOf text))
@@ -144,16 +149,16 @@ end-follows s p h = by-test (ltb 600 (s .loader .kept)) refl (ready-end s (h .re
         ltb 600 (s .loader .kept) ≡ b →
         Ready
         (cond b
-        (load (s .store) (s .line) (count (s .loader) (v.Refused 1)))
+        (load (s .store) (s .line) (count (s .loader) (v.Refused tooLong)))
         (load (lineStored (s .store) (take (s .loader .kept) (s .line))) (s .line) (count (s .loader) (lineOutcome (s .store) (take (s .loader .kept) (s .line)))))) →
         Holds
         (cond b
-        (load (s .store) (s .line) (count (s .loader) (v.Refused 1)))
+        (load (s .store) (s .line) (count (s .loader) (v.Refused tooLong)))
         (load (lineStored (s .store) (take (s .loader .kept) (s .line))) (s .line) (count (s .loader) (lineOutcome (s .store) (take (s .loader .kept) (s .line))))))
         (endLine p)
     by-test true e r =
         let z : 600 < length (p .kept) = omega (arith, ltb-true 600 (s .loader .kept) e, h .line .size) in
-        end-parts s p (s .store) (v.Refused 1) (is-refused 1) r (h .table) refl (sym (ap (λ said. judged (p .table) said) (too-long (p .kept) z))) h
+        end-parts s p (s .store) (v.Refused tooLong) (is-refused tooLong) r (h .table) refl (sym (ap (λ said. judged (p .table) said) (too-long (p .kept) z))) h
     by-test false e r =
         let text = take (s .loader .kept) (s .line) in
         let same : text ≡ p .kept = whole-line (s .line) (s .loader .kept) (p .kept) (h .line) (ltb-false 600 (s .loader .kept) e) in
@@ -193,10 +198,6 @@ long-line line n kept b s h =
       bytes = take-all 601 line h₁ ∙ sym (take-all n line h₂) ∙ s .bytes ∙ sym (take-append-le 600 kept (b ∷ []) z);
     }
 
--- the counts do not speak of the kept line
-same-totals : (l : Loader) (c : Totals) (n : ℕ) → SameTotals l c → SameTotals (withKept l n) c
-same-totals l c n s = record { lines = s .lines; accepted = s .accepted; skipped = s .skipped; refused = s .refused; first = s .first; reason = s .reason }
-
 keep-follows :
     (s : Load) (p : Reader) (b : ℕ) →
     Holds s p →
@@ -221,14 +222,14 @@ keep-follows s p b h r = by-test (ltb (s .loader .kept) 600) refl r
           ready = r;
           table = h .table;
           line = keep-line (s .line) (s .loader .kept) (p .kept) b (h .line) (ltb-true (s .loader .kept) 600 e);
-          totals = same-totals (s .loader) (p .totals) (s .loader .kept + 1) (h .totals);
+          totals = h .totals;
         }
     by-test false e r =
         record {
           ready = r;
           table = h .table;
           line = long-line (s .line) (s .loader .kept) (p .kept) b (h .line) (ltb-false (s .loader .kept) 600 e);
-          totals = same-totals (s .loader) (p .totals) 601 (h .totals);
+          totals = h .totals;
         }
 
 -- ---- a byte, a piece, the end call
@@ -271,5 +272,5 @@ fresh-holds st line u full =
       ready = record { undamaged = u; line = full; kept = omega arith };
       table = refl;
       line = empty-line line 0 full refl;
-      totals = record { lines = refl; accepted = refl; skipped = refl; refused = refl; first = refl; reason = refl };
+      totals = record { lines = refl; accepted = refl; skipped = refl; refused = refl; first = refl; reason = refl; place = refl };
     }

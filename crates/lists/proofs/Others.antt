@@ -5,6 +5,7 @@ use mathlib.Core.Bool.{Bool, true, false, cond}
 use mathlib.Core.List.{List}
 use lib.Dec.{ltb}
 use lib.ListN.{length}
+use Rattle.refusals.specs.Refusals.{damaged, noSuchNumber, plain}
 use Rattle.store.specs.declared.Done.the-variants as d
 use Rattle.store.specs.Table.{Table, labelNumbered}
 use Rattle.store.specs.Layout.{Store, store, tableOf, undamagedOf}
@@ -93,18 +94,18 @@ module _ (st : Store) (u : undamagedOf st ≡ true) where
   unfolding labelAnswer
   check-says k = rw u (by-test (ltb k (length (tableOf st .labels))))
     where
-      by-test : (b : Bool) → doneReply (cond b d.Done (d.Refused 13)) ≡ cond b r.done (r.refusal 13)
+      by-test : (b : Bool) → doneReply (cond b d.Done (d.Refused noSuchNumber)) ≡ cond b r.done (r.refusal noSuchNumber)
       by-test true = refl
       by-test false = refl
 
-  pub label-says : (k n : ℕ) (x : Part) (bytes : List ℕ) → x ≡ partShown k n (labelAnswer st k) → bytes ≡ labelGiven st k → cond (x .refused) (r.refusal (x .number)) (r.label-is bytes) ≡ askSays (tableOf st) (r.label k)
+  pub label-says : (k n : ℕ) (x : Part) (bytes : List ℕ) → x ≡ partShown k n (labelAnswer st k) → bytes ≡ labelGiven st k → cond (x .refused) (r.refusal (plain (x .number))) (r.label-is bytes) ≡ askSays (tableOf st) (r.label k)
   unfolding labelAnswer labelGiven
   label-says k n x bytes p q = rw (p, q, u) (by-test (ltb k (length (tableOf st .labels))))
     where
       by-test :
           (b : Bool) →
-          cond (partShown k n (cond b d.Done (d.Refused 13)) .refused) (r.refusal (partShown k n (cond b d.Done (d.Refused 13)) .number)) (r.label-is (labelNumbered (tableOf st) k))
-          ≡ cond b (r.label-is (labelNumbered (tableOf st) k)) (r.refusal 13)
+          cond (partShown k n (cond b d.Done (d.Refused noSuchNumber)) .refused) (r.refusal (plain (partShown k n (cond b d.Done (d.Refused noSuchNumber)) .number))) (r.label-is (labelNumbered (tableOf st) k))
+          ≡ cond b (r.label-is (labelNumbered (tableOf st) k)) (r.refusal noSuchNumber)
       by-test true = refl
       by-test false = refl
 
@@ -118,27 +119,27 @@ module _ (st : Store) (u : undamagedOf st ≡ false) where
   write-refused (r.onlycap text) = rw u
   write-refused (r.mapping text) = rw u
 
-  pub change-refused : (text : List ℕ) → changeAnswer st text ≡ d.Refused 0
+  pub change-refused : (text : List ℕ) → changeAnswer st text ≡ d.Refused damaged
   unfolding changeAnswer onState
   change-refused text = rw u
 
-  pub revoke-refused : (l : List ℕ) → revokeAnswer st l ≡ v.Refused 0
+  pub revoke-refused : (l : List ℕ) → revokeAnswer st l ≡ v.Refused damaged
   unfolding revokeAnswer onState
   revoke-refused l = rw u
 
-  pub onlycap-refused : (text : List ℕ) → onlycapAnswer st text ≡ d.Refused 0
+  pub onlycap-refused : (text : List ℕ) → onlycapAnswer st text ≡ d.Refused damaged
   unfolding onlycapAnswer onState
   onlycap-refused text = rw u
 
-  pub mapping-refused : (text : List ℕ) → mapAnswer st text ≡ d.Refused 0
+  pub mapping-refused : (text : List ℕ) → mapAnswer st text ≡ d.Refused damaged
   unfolding mapAnswer onState
   mapping-refused text = rw u
 
-  pub question-refused : (x o request : List ℕ) (capable : Bool) → questionOf st x o request capable ≡ a.Refused 0
+  pub question-refused : (x o request : List ℕ) (capable : Bool) → questionOf st x o request capable ≡ a.Refused damaged
   unfolding questionOf
   question-refused x o request capable = rw u
 
-  pub by-label-refused : (l : List ℕ) → byLabelOf st l ≡ lookup.Refused 0
+  pub by-label-refused : (l : List ℕ) → byLabelOf st l ≡ lookup.Refused damaged
   unfolding byLabelOf
   by-label-refused l = rw u
 
@@ -150,9 +151,9 @@ module _ (st : Store) (u : undamagedOf st ≡ false) where
   unfolding listAnswer listOut
   list-refused k out = (rw u, rw u)
 
-  pub check-refused : (k : ℕ) → labelAnswer st k ≡ d.Refused 0
+  pub check-refused : (k : ℕ) → labelAnswer st k ≡ d.Refused damaged
   unfolding labelAnswer
   check-refused k = rw u
 
-  pub label-refused : (k n : ℕ) (x : Part) (bytes : List ℕ) → x ≡ partShown k n (labelAnswer st k) → cond (x .refused) (r.refusal (x .number)) (r.label-is bytes) ≡ r.refusal 0
+  pub label-refused : (k n : ℕ) (x : Part) (bytes : List ℕ) → x ≡ partShown k n (labelAnswer st k) → cond (x .refused) (r.refusal (plain (x .number))) (r.label-is bytes) ≡ r.refusal damaged
   label-refused k n x bytes p = rw (p, check-refused k)

@@ -5,6 +5,7 @@ use mathlib.Core.Bool.{Bool, true, false, cond}
 use mathlib.Core.List.{List, [], _∷_, _++_, foldl, map}
 use lib.Dec.{ltb}
 use lib.ListN.{length}
+use Rattle.refusals.specs.Refusals.{plain, noSuchNumber}
 use Rattle.store.specs.Table.{Table, labelNumbered}
 use Rattle.store.specs.declared.Done.{Done}
 use Rattle.store.specs.declared.Done.the-variants as d
@@ -16,13 +17,12 @@ use Rattle.cipso.specs.Cipso.{mappingWrite}
 use Rattle.revoke.specs.declared.Revoked.{Revoked}
 use Rattle.revoke.specs.declared.Revoked.the-variants as v
 use Rattle.access.specs.Access.{answer, questionOf}
-use Rattle.reports.specs.declared.Loader.{Loader}
 use Rattle.reports.specs.declared.Report.{Report}
 use Rattle.load.specs.declared.Fed.{Fed}
 use Rattle.load.specs.declared.Fed.the-variants as f
 use Rattle.load.specs.declared.Ended.{Ended}
 use Rattle.load.specs.declared.Ended.the-variants as e
-use Rattle.reports.specs.Report.{freshLoader, reportOf}
+use Rattle.reports.specs.Report.{freshLoader}
 use Rattle.load.specs.Loader.{Load, load, ready, stepEnd, pieceAnswer, pieceAfter, endAnswer, endAfter}
 use Rattle.lists.specs.Reader.{Totals, Reader, startOn, takeByte, takePiece, finish, limitedTotals, Write, change, revoke, onlycap, mapping, Ask, question, by-label, by-level, list-rule, label, label-check, Call, piece, end-call, ask, write, Reply, done, refusal, report, label-is, doneReply, countReply, writeSays, askSays, writeOn, after, says, afterAll, saysAll, Event, byte, stop, wrote, events, reports}
 use Rattle.load.proofs.Laws.{is-ready}
@@ -31,14 +31,14 @@ use Rattle.lists.proofs.Follows.{SameTotals, Holds, piece-follows, fini
 -- what a caller in Rattle makes of an answer
 abbrev pub fed-reply : Fed → Reply
 fed-reply (f.Done l) = done
-fed-reply (f.Refused n) = refusal n
+fed-reply (f.Refused n) = refusal (plain n)
 
 abbrev pub totals-of : Report → Totals
-totals-of r = record { lines = r .lines; accepted = r .accepted; skipped = r .skipped; refused = r .refused; first = r .first; reason = r .reason }
+totals-of r = record { lines = r .lines; accepted = r .accepted; skipped = r .skipped; refused = r .refused; first = r .first; reason = r .reason; place = r .place }
 
 abbrev pub end-reply : Ended → Reply
 end-reply (e.Report r l) = report (totals-of r)
-end-reply (e.Refused n) = refusal n
+end-reply (e.Refused n) = refusal (plain n)
 
 -- what a call keeps: the state it leaves stands for the plain reader, and the reply is the plain reader's
 pub record Follows (s : Load) (r : Reply) (p : Reader) (q : Reply) : Type 0 where
@@ -60,8 +60,8 @@ piece-law text {s} p answer-is after-is h =
     let b = rw z at after-is in
     record { holds = subst (λ (x : Load). Holds x (takePiece p text)) (sym b) (piece-follows s p text h); reply = ap fed-reply a }
 
-same-report : (l : Loader) (c : Totals) → SameTotals l c → totals-of (reportOf l) ≡ limitedTotals c
-same-report l c s = rw (s .lines, s .accepted, s .skipped, s .refused, s .first, s .reason)
+same-report : (l : Report) (c : Totals) → SameTotals l c → totals-of l ≡ limitedTotals c
+same-report l c s = rw (s .lines, s .accepted, s .skipped, s .refused, s .first, s .reason, s .place)
 
 pub end-law :
     {s s′ : Load} {r : Ended} (p : Reader) →
@@ -78,7 +78,7 @@ end-law {s} p answer-is after-is h =
     let fresh = fresh-holds (stepEnd s .store) (stepEnd s .line) (g .ready .undamaged) (g .ready .line) in
     record {
       holds = subst (λ (x : Load). Holds x (startOn (finish p .table))) (sym b) (subst (λ (t : Table). Holds (load (stepEnd s .store) (stepEnd s .line) freshLoader) (startOn t)) (g .table) fresh);
-      reply = ap end-reply a ∙ ap report (same-report (stepEnd s .loader) (finish p .totals) (g .totals));
+      reply = ap end-reply a ∙ ap report (same-report (stepEnd s .loader .report) (finish p .totals) (g .totals));
     }
 
 pub question-law : (s : Load) (p : Reader) (x o r : List ℕ) (capable : Bool) → Holds s p → questionOf (s .store) x o r capable ≡ answer (p .table) x o r capable
@@ -136,12 +136,12 @@ ask-reports t (by-level level set) rs = refl
 ask-reports t (list-rule k out) rs = refl
 ask-reports t (label k) rs = by-test (ltb k (length (t .labels)))
   where
-    by-test : (b : Bool) → reports (cond b (label-is (labelNumbered t k)) (refusal 13) ∷ rs) ≡ reports rs
+    by-test : (b : Bool) → reports (cond b (label-is (labelNumbered t k)) (refusal noSuchNumber) ∷ rs) ≡ reports rs
     by-test true = refl
     by-test false = refl
 ask-reports t (label-check k) rs = by-test (ltb k (length (t .labels)))
   where
-    by-test : (b : Bool) → reports (cond b done (refusal 13) ∷ rs) ≡ reports rs
+    by-test : (b : Bool) → reports (cond b done (refusal noSuchNumber) ∷ rs) ≡ reports rs
     by-test true = refl
     by-test false = refl
 

@@ -8,6 +8,7 @@ use mathlib.Core.List.{List, [], _∷_, _++_, foldl, map}
 use lib.ListN.{length}
 use lib.Dec.{ltb, eqb}
 use Rattle.refusals.specs.Refusals.{noSuchNumber}
+use Rattle.refusals.specs.declared.Refusal.{Refusal}
 use Rattle.alphabet.specs.Alphabet.{isNewline}
 use Rattle.reports.specs.Report.{countLimit}
 use Rattle.store.specs.Table.{Table, labelNumbered}
@@ -31,7 +32,8 @@ use Rattle.answers.specs.declared.Mapped.{Mapped}
 use Rattle.answers.specs.declared.Lowest.{Lowest}
 use Rattle.answers.specs.declared.Length.{Length}
 
--- the report's numbers, as they are; `first` and `reason` are the number (from 1) and reason of the first refused line, 0 where there is none
+-- the report's numbers, as they are; `first`, `reason` and `place` are the number (from 1), the reason and the place of the first refused line, 0 where
+-- there is none; the place is 0, too, where the reason is not 3 (02, Three)
 pub record Totals : Type 0 where
   pub lines : ℕ
   pub accepted : ℕ
@@ -39,24 +41,42 @@ pub record Totals : Type 0 where
   pub refused : ℕ
   pub first : ℕ
   pub reason : ℕ
+  pub place : ℕ
 
 abbrev pub zeros : Totals
-zeros = record { lines = 0; accepted = 0; skipped = 0; refused = 0; first = 0; reason = 0 }
+zeros = record { lines = 0; accepted = 0; skipped = 0; refused = 0; first = 0; reason = 0; place = 0 }
 
 -- a line more: every line counts; the first refused one is kept
 abbrev pub counted : Totals → Judged → Totals
 counted c is-skipped =
-    record { lines = c .lines + 1; accepted = c .accepted; skipped = c .skipped + 1; refused = c .refused; first = c .first; reason = c .reason }
+    record {
+      lines = c .lines + 1;
+      accepted = c .accepted;
+      skipped = c .skipped + 1;
+      refused = c .refused;
+      first = c .first;
+      reason = c .reason;
+      place = c .place;
+    }
 counted c (is-accepted t) =
-    record { lines = c .lines + 1; accepted = c .accepted + 1; skipped = c .skipped; refused = c .refused; first = c .first; reason = c .reason }
-counted c (is-refused n) =
+    record {
+      lines = c .lines + 1;
+      accepted = c .accepted + 1;
+      skipped = c .skipped;
+      refused = c .refused;
+      first = c .first;
+      reason = c .reason;
+      place = c .place;
+    }
+counted c (is-refused r) =
     record {
       lines = c .lines + 1;
       accepted = c .accepted;
       skipped = c .skipped;
       refused = c .refused + 1;
       first = cond (eqb (c .refused) 0) (c .lines + 1) (c .first);
-      reason = cond (eqb (c .refused) 0) n (c .reason);
+      reason = cond (eqb (c .refused) 0) (r .number) (c .reason);
+      place = cond (eqb (c .refused) 0) (r .place) (c .place);
     }
 
 pub record Reader : Type 0 where
@@ -88,7 +108,7 @@ takePiece p text = foldl takeByte p text
 unfoldable pub finish : Reader → Reader
 finish p = cond (ltb 0 (length (p .kept))) (endLine p) p
 
--- each number of a report is the true one or 4,294,967,295, whichever is smaller
+-- each number of a report is the true one or 4,294,967,295, whichever is smaller; a reason and a place are what they are
 unfoldable pub limited : ℕ → ℕ
 limited n = min n countLimit
 
@@ -101,6 +121,7 @@ limitedTotals c =
       refused = limited (c .refused);
       first = limited (c .first);
       reason = c .reason;
+      place = c .place;
     }
 
 -- ---- the calls, and what is answered
@@ -128,10 +149,10 @@ pub data Call : Type 0 where
   ask : Ask → Call
   write : Write → Call
 
--- what a host reads of an answer; where a call has no other form for it, a refusal is its number
+-- what a host reads of an answer; where a call has no other form for it, a refusal is its number and its place
 pub data Reply : Type 0 where
   done : Reply
-  refusal : ℕ → Reply
+  refusal : Refusal → Reply
   report : Totals → Reply
   count : ℕ → Reply
   answered : Shown → Reply

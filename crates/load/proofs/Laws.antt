@@ -11,6 +11,7 @@ use lib.ListN.{length, take, drop, set, length-set, length-drop, take-append-dro
 use lib.Seq.{length-take-le, sets, sets-eq}
 use Rattle.search.specs.Bytes.{written}
 use Rattle.search.proofs.Laws.{and-both}
+use Rattle.refusals.specs.Refusals.{tooLong}
 use Rattle.store.specs.Layout.{Store, store, undamagedOf}
 use Rattle.writes.specs.Writes.{lineOutcome, lineStored}
 use Rattle.writes.specs.declared.Outcome.{Outcome}
@@ -39,11 +40,6 @@ is-ready s r = rw (r .undamaged, eq-eqb _ _ (r .line), le-leb _ _ (r .kept))
 pub what-ready-is : WhatReadyIs
 what-ready-is s = (ready-is s, is-ready s)
 
-pub count-kept : (l : Loader) (q : Outcome) → count l q .kept ≡ 0
-count-kept l v.Skipped = refl
-count-kept l v.Accepted = refl
-count-kept l (v.Refused n) = refl
-
 pub ready-end : (s : Load) → Ready s → Ready (endKept s)
 ready-end s r = by-test (ltb 600 (s .loader .kept))
   where
@@ -54,14 +50,14 @@ ready-end s r = by-test (ltb 600 (s .loader .kept))
         (b : Bool) →
         Ready
         (cond b
-        (load (s .store) (s .line) (count (s .loader) (v.Refused 1)))
+        (load (s .store) (s .line) (count (s .loader) (v.Refused tooLong)))
         (load (lineStored (s .store) (take (s .loader .kept) (s .line))) (s .line) (count (s .loader) (lineOutcome (s .store) (take (s .loader .kept) (s .line))))))
     by-test true = record { undamaged = r .undamaged; line = r .line; kept = omega arith }
     by-test false =
         record {
           undamaged = line-undamaged (s .store) (take (s .loader .kept) (s .line)) (r .undamaged);
           line = r .line;
-          kept = omega (arith, count-kept (s .loader) (lineOutcome (s .store) (take (s .loader .kept) (s .line))));
+          kept = omega arith;
         }
 
 ready-keep : (s : Load) (b : ℕ) → Ready s → Ready (keepByte s b)
@@ -198,9 +194,9 @@ pub byte-empties : (s : Load) (b : ℕ) → eqb (stepByte s b .loader .kept) 0 �
 unfolding stepByte
 byte-empties s b = by-test (eqb b 10)
   where
-    ends : (x : Bool) → eqb (cond x (load (s .store) (s .line) (count (s .loader) (v.Refused 1))) (load (lineStored (s .store) (take (s .loader .kept) (s .line))) (s .line) (count (s .loader) (lineOutcome (s .store) (take (s .loader .kept) (s .line))))) .loader .kept) 0 ≡ true
+    ends : (x : Bool) → eqb (cond x (load (s .store) (s .line) (count (s .loader) (v.Refused tooLong))) (load (lineStored (s .store) (take (s .loader .kept) (s .line))) (s .line) (count (s .loader) (lineOutcome (s .store) (take (s .loader .kept) (s .line))))) .loader .kept) 0 ≡ true
     ends true = refl
-    ends false = rw (count-kept (s .loader) (lineOutcome (s .store) (take (s .loader .kept) (s .line))))
+    ends false = refl
 
     joins : (x : Bool) → eqb (cond x (load (s .store) (set (s .line) (s .loader .kept) b) (withKept (s .loader) (s .loader .kept + 1))) (load (s .store) (s .line) (withKept (s .loader) 601)) .loader .kept) 0 ≡ false
     joins true = ne-eqb (s .loader .kept + 1) 0 (λ z. omega (arith, z))

@@ -13,7 +13,7 @@ use Rattle.store.specs.Layout.{Store, undamagedOf}
 use Rattle.writes.specs.Writes.{lineOutcome, lineStored}
 use Rattle.writes.specs.declared.Outcome.the-variants as v
 use Rattle.reports.specs.declared.Loader.{Loader}
-use Rattle.reports.specs.Report.{freshLoader, count, withKept, reportOf}
+use Rattle.reports.specs.Report.{freshLoader, count, withKept}
 use Rattle.load.specs.declared.Fed.{Fed}
 use Rattle.load.specs.declared.Fed.the-variants as f
 use Rattle.load.specs.declared.Ended.{Ended}
@@ -75,11 +75,11 @@ unfoldable pub pieceAfter : Load → List ℕ → Load
 pieceAfter s text = cond (ready s) (stepPiece s text) s
 
 unfoldable pub pieceAnswer : Load → List ℕ → Fed
-pieceAnswer s text = cond (ready s) (f.Done (stepPiece s text .loader)) (f.Refused damaged)
+pieceAnswer s text = cond (ready s) (f.Done (stepPiece s text .loader)) (f.Refused (damaged .number))
 
 -- the end call: ends a kept line that has a byte, answers the report, and leaves the loader fresh
 unfoldable pub endAfter : Load → Load
 endAfter s = cond (ready s) (load (stepEnd s .store) (stepEnd s .line) freshLoader) s
 
 unfoldable pub endAnswer : Load → Ended
-endAnswer s = cond (ready s) (e.Report (reportOf (stepEnd s .loader)) freshLoader) (e.Refused damaged)
+endAnswer s = cond (ready s) (e.Report (stepEnd s .loader .report) freshLoader) (e.Refused (damaged .number))

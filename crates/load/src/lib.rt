@@ -101,7 +101,7 @@ pub fn piece(
         pieceAfter (load (lent labels entries words) (now (line .entry)) l) (now (text .entry)) ⌝ }
 {
     if !is_ready(labels, entries, words, line, l) {
-        return Fed::Refused(refusals::DAMAGED);
+        return Fed::Refused(refusals::DAMAGED.number);
     }
     let mut next = l;
     let mut i = 0;
@@ -129,12 +129,14 @@ pub fn end(
         endAfter (load (lent labels entries words) (now (line .entry)) l) ⌝ }
 {
     if !is_ready(labels, entries, words, line, l) {
-        return Ended::Refused(refusals::DAMAGED);
+        return Ended::Refused(refusals::DAMAGED.number);
     }
     let kept = l.kept;
     if kept == 0 {
-        return Ended::Report(reports::report_of(l), reports::fresh());
+        let report = l.report;
+        return Ended::Report(report, reports::fresh());
     }
     let last = end_line(labels, entries, words, line, l);
-    Ended::Report(reports::report_of(last), reports::fresh())
+    let report = last.report;
+    Ended::Report(report, reports::fresh())
 }

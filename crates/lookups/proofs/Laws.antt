@@ -12,7 +12,8 @@ use Rattle.search.specs.Bytes.{sameBytes}
 use Rattle.search.specs.declared.Found.{Found}
 use Rattle.search.specs.declared.Found.the-variants.{At, Nothing}
 use Rattle.search.proofs.Laws.{and-both, all-at, first-is, entries-length, entries-at, found-at, found-none}
-use Rattle.alphabet.specs.Within.{faultOf}
+use Rattle.refusals.specs.Refusals.{damaged, badLabelAt}
+use Rattle.alphabet.specs.Alphabet.{faultOf, badByte}
 use Rattle.alphabet.proofs.Laws.{fault-formed, fault-unformed}
 use Rattle.numbers.specs.Categories.{categories}
 use Rattle.store.specs.declared.Mapping.{Mapping}
@@ -52,7 +53,7 @@ module _ (l e w : List ℕ) where
       eqb-true (getD w (4 + k) 0 % 2) 0 (and-both (ltb (getD e (768 + k) 0) labelCount) (eqb (getD w (4 + k) 0 % 2) 0) d .1)
 
   module _ (x : List ℕ) where
-    pub label-damaged : undamagedOf lent ≡ false → byLabelOf lent x ≡ lookup.Refused 0
+    pub label-damaged : undamagedOf lent ≡ false → byLabelOf lent x ≡ lookup.Refused damaged
     unfolding byLabelOf
     label-damaged u = rw u
 
@@ -61,7 +62,7 @@ module _ (l e w : List ℕ) where
       unfolding byLabelOf
       label-tested = rw u
 
-      pub label-unformed : {k : ℕ} → faultOf x ≡ At k → byLabelOf lent x ≡ lookup.Refused 3
+      pub label-unformed : {k : ℕ} → faultOf x ≡ At k → byLabelOf lent x ≡ lookup.Refused (badLabelAt (badByte x))
       unfolding labelLookup
       label-unformed {k} f = label-tested ∙ rw (fault-unformed x k f)
 

@@ -7,8 +7,8 @@ use lib.Dec.{eqb}
 use Rattle.search.specs.Search.{first, entries}
 use Rattle.search.specs.declared.Found.{Found}
 use Rattle.search.specs.declared.Found.the-variants.{At, Nothing}
-use Rattle.refusals.specs.Refusals.{damaged, badLabel, badLevelOrCategory}
-use Rattle.alphabet.specs.Alphabet.{wellFormed}
+use Rattle.refusals.specs.Refusals.{damaged, badLabelAt, badLevelOrCategory}
+use Rattle.alphabet.specs.Alphabet.{wellFormed, badByte}
 use Rattle.numbers.specs.Categories.{categories}
 use Rattle.store.specs.declared.Mapping.{Mapping}
 use Rattle.store.specs.Table.{Table, labelIn, labelNumbered, knownSet, mappingIn}
@@ -35,9 +35,9 @@ abbrev pub lookupBy : Table → Found → Lookup
 lookupBy t (At n) = lookedUp (t .mappings) (mappingIn t n)
 lookupBy t Nothing = lookup.Unmapped
 
--- 3 the label is not well formed
+-- 3 the label is not well formed, with the place of its first bad byte
 unfoldable pub labelLookup : Table → List ℕ → Lookup
-labelLookup t l = cond (wellFormed l) (lookupBy t (labelIn t l)) (lookup.Refused badLabel)
+labelLookup t l = cond (wellFormed l) (lookupBy t (labelIn t l)) (lookup.Refused (badLabelAt (badByte l)))
 
 -- of a lent state: 0 before every other where it is damaged
 unfoldable pub byLabelOf : Store → List ℕ → Lookup
@@ -77,8 +77,8 @@ unfoldable pub levelLookup : Table → ℕ → ℕ → Label
 levelLookup t level s =
     cond (sought level s)
     (numbered (first (hasBoth t level s) (entries (λ (n : ℕ). n) (length (t .labels)))))
-    (label.Refused badLevelOrCategory)
+    (label.Refused (badLevelOrCategory .number))
 
 -- of a lent state: 0 before every other where it is damaged
 unfoldable pub byLevelOf : Store → ℕ → ℕ → Label
-byLevelOf st level s = cond (undamagedOf st) (levelLookup (tableOf st) level s) (label.Refused damaged)
+byLevelOf st level s = cond (undamagedOf st) (levelLookup (tableOf st) level s) (label.Refused (damaged .number))

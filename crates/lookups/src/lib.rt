@@ -1,4 +1,5 @@
 // Mappings looked up, by label and by level and set (01, Single writes, the paragraph after them). Nothing is changed.
+use refusals::Refusal;
 use search::Found;
 ghost use mathlib.Core.Path.{_≡_};
 ghost use Prim.Native.Nat.{_<_};
@@ -8,11 +9,11 @@ ghost use Rattle.store.specs.Within.{Counts};
 ghost use Rattle.lookups.specs.Lookups.{sought, byLabelOf, byLevelOf, hasBoth};
 
 // What a look-up by label answers: the mapping's level, its set and how many categories are in it; that the label is unmapped; or a
-// refusal's number.
+// refusal.
 pub enum Lookup {
     Mapped { level: u8, set: u64, count: u32 },
     Unmapped,
-    Refused(u8),
+    Refused(Refusal),
 }
 
 // What a look-up by level and set answers: a label's number, none, or a refusal's number.
@@ -30,7 +31,7 @@ pub fn by_label(labels: &[u8], entries: &[u8], words: &[u64], label: &[u8]) -> L
         return Lookup::Refused(refusals::DAMAGED);
     }
     let Found::Nothing = alphabet::label_fault(label) else {
-        return Lookup::Refused(refusals::BAD_LABEL);
+        return Lookup::Refused(alphabet::bad_label(label));
     };
     let stored = words[store::LABEL_COUNT] as usize;
     let mappings = words[store::MAPPING_COUNT] as usize;
@@ -85,10 +86,10 @@ pub fn by_level(labels: &[u8], entries: &[u8], words: &[u64], level: u64, set: u
     ensures { λ r. ⌜ r ≡ byLevelOf (lent labels entries words) level set ⌝ }
 {
     if !damage::undamaged(labels, entries, words) {
-        return Label::Refused(refusals::DAMAGED);
+        return Label::Refused(refusals::DAMAGED.number);
     }
     if !known(level, set) {
-        return Label::Refused(refusals::BAD_LEVEL_OR_CATEGORY);
+        return Label::Refused(refusals::BAD_LEVEL_OR_CATEGORY.number);
     }
     let stored = words[store::LABEL_COUNT] as usize;
     let mut n = 0;

@@ -195,7 +195,7 @@ pub fn set_onlycap(labels: &mut [u8], entries: &mut [u8], words: &mut [u64], tex
         return Done::Done;
     }
     if !all_formed(text) {
-        return Done::Refused(refusals::BAD_LABEL);
+        return Done::Refused(alphabet::bad_label_in(text));
     }
     let counted = count(labels, words[store::LABEL_COUNT] as usize, text);
     if store::ONLYCAP_LIMIT < counted.different {

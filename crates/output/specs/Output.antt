@@ -14,7 +14,7 @@ use Rattle.output.specs.declared.Output.the-variants as output
 -- a text goes to the front of the output, the rest of which is unchanged, and its length is answered; where it is longer than the output it is
 -- refused, and no byte is written
 unfoldable pub putAnswer : List ℕ → List ℕ → Output
-putAnswer text out = cond (leb (length text) (length out)) (output.Length (length text)) (output.Refused outputTooShort)
+putAnswer text out = cond (leb (length text) (length out)) (output.Length (length text)) (output.Refused (outputTooShort .number))
 
 unfoldable pub putOut : List ℕ → List ℕ → List ℕ
 putOut text out = cond (leb (length text) (length out)) (written out 0 text) out
@@ -46,5 +46,5 @@ pub record Written (x : Text) (out after : List ℕ) (n : ℕ) : Type 0 where
 pub record LengthAnswered : Type 0 where
   pub written : (x : Text) (out : List ℕ) (n : ℕ) → textAnswer x out ≡ output.Length n → Written x out (textOut x out) n
   pub enough : (t out : List ℕ) → length t ≤ length out → textAnswer (text t) out ≡ output.Length (length t)
-  pub too-short : (t out : List ℕ) → length out < length t → textAnswer (text t) out ≡ output.Refused outputTooShort
+  pub too-short : (t out : List ℕ) → length out < length t → textAnswer (text t) out ≡ output.Refused (outputTooShort .number)
   pub unchanged : (x : Text) (out : List ℕ) (n : ℕ) → textAnswer x out ≡ output.Refused n → textOut x out ≡ out

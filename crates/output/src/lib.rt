@@ -14,7 +14,7 @@ pub fn put(out: &mut [u8], text: &[u8]) -> Output
     ensures { λ _. ⌜ now (out .exit) ≡ putOut (now (text .entry)) (now (out .entry)) ⌝ }
 {
     if out.len() < text.len() {
-        return Output::Refused(refusals::OUTPUT_TOO_SHORT);
+        return Output::Refused(refusals::OUTPUT_TOO_SHORT.number);
     }
     search::copy_at(out, 0, text);
     Output::Length(text.len())

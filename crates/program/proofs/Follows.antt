@@ -10,6 +10,7 @@ use borrow.Author.Tests.{lt-ltb, le-ltb, ltb-true, ltb-false, ne-eqb, le-leb}
 use lib.ListN.{length, take, getD}
 use lib.Seq.{take-all, getD-take, take-append-seam}
 use Rattle.search.specs.Bytes.{sameBytes, written}
+use Rattle.refusals.specs.Refusals.{tooLong, wrongFields}
 use Rattle.alphabet.specs.Alphabet.{newline, lineLimit, fields}
 use Rattle.store.specs.Table.{Table, fresh}
 use Rattle.store.specs.Layout.{Store, Sizes}
@@ -65,7 +66,7 @@ emptied-holds s p h =
       ready = record { undamaged = h .ready .undamaged; line = h .ready .line; kept = omega arith };
       table = h .table;
       line = record { full = h .line .full; size = refl; bytes = refl };
-      totals = record { lines = h .totals .lines; accepted = h .totals .accepted; skipped = h .totals .skipped; refused = h .totals .refused; first = h .totals .first; reason = h .totals .reason };
+      totals = h .totals;
     }
 
 unmarked-holds : (s : Load) (p : Reader) → Holds s p → Holds (withoutMark s) (plainUnmarked p)
@@ -82,14 +83,14 @@ same-asked f g h [] = refl
 same-asked f g h (s ∷ []) = refl
 same-asked f g h (s ∷ o ∷ []) = refl
 same-asked f g h (s ∷ o ∷ r ∷ []) = h s o r false
-same-asked f g h (s ∷ o ∷ r ∷ c ∷ []) = ap (λ (a : Answer). cond (sameBytes c (111 ∷ [])) a (Refused 2)) (h s o r true)
+same-asked f g h (s ∷ o ∷ r ∷ c ∷ []) = ap (λ (a : Answer). cond (sameBytes c (111 ∷ [])) a (Refused wrongFields)) (h s o r true)
 same-asked f g h (s ∷ o ∷ r ∷ c ∷ x ∷ more) = refl
 
 answer-same : (s : Load) (p : Reader) → Holds s p → answerOf (s .store) (s .line) (s .loader .kept) ≡ answerTo (answer (p .table)) (p .kept)
 unfolding answerTo
 answer-same s p h = by-test (ltb lineLimit (length (p .kept))) refl
   where
-    by-test : (t : Bool) → ltb lineLimit (length (p .kept)) ≡ t → answerOf (s .store) (s .line) (s .loader .kept) ≡ cond t (Refused 1) (asked (answer (p .table)) (fields (p .kept)))
+    by-test : (t : Bool) → ltb lineLimit (length (p .kept)) ≡ t → answerOf (s .store) (s .line) (s .loader .kept) ≡ cond t (Refused tooLong) (asked (answer (p .table)) (fields (p .kept)))
     by-test true q = rw (lt-ltb lineLimit (s .loader .kept) (omega (arith, ltb-true lineLimit (length (p .kept)) q, h .line .size)))
     by-test false q =
         let z = ltb-false lineLimit (length (p .kept)) q in

@@ -11,13 +11,14 @@ use lib.ListN.{length, take, drop, set, getD, length-drop, drop-of-length-le, le
 use lib.Seq.{length-take-le, take-all, take-append-seam, getD-set-same, drop-cons, drop-drop}
 use Rattle.search.specs.Bytes.{written}
 use Rattle.search.proofs.Laws.{and-both}
+use Rattle.refusals.specs.Refusals.{tooLong}
 use Rattle.alphabet.specs.Alphabet.{newline, lineLimit, fields}
 use Rattle.store.specs.Layout.{Store, undamagedOf}
 use Rattle.access.specs.Access.{questionOf}
 use Rattle.access.specs.declared.Answer.the-variants.{Refused}
 use Rattle.reports.specs.declared.Loader.{Loader}
 use Rattle.reports.specs.declared.Report.{Report}
-use Rattle.reports.specs.Report.{withKept, freshLoader, reportOf}
+use Rattle.reports.specs.Report.{withKept, freshLoader}
 use Rattle.load.specs.declared.Fed.{Fed}
 use Rattle.load.specs.declared.Fed.the-variants as f
 use Rattle.load.specs.declared.Ended.{Ended}
@@ -271,7 +272,7 @@ no-first (b ∷ bs) h = absurd (omega (arith, h))
 -- ---- a question line that is kept
 
 module _ (st : Store) (line : List ℕ) (kept : ℕ) where
-  pub answer-long : lineLimit < kept → Refused 1 ≡ answerOf st line kept
+  pub answer-long : lineLimit < kept → Refused tooLong ≡ answerOf st line kept
   answer-long h = rw (lt-ltb lineLimit kept h)
 
   pub answer-short : kept ≤ lineLimit → asked (questionOf st) (fields (take kept line)) ≡ answerOf st line kept
@@ -309,7 +310,7 @@ end-refused : {n : ℕ} (s : Load) → e.Refused n ≡ endAnswer s → ready s �
 unfolding endAnswer
 end-refused {n} s q = by-test (ready s) refl q
   where
-    by-test : (b : Bool) → ready s ≡ b → e.Refused n ≡ cond b (e.Report (reportOf (stepEnd s .loader)) freshLoader) (e.Refused 0) → ready s ≡ false
+    by-test : (b : Bool) → ready s ≡ b → e.Refused n ≡ cond b (e.Report (stepEnd s .loader .report) freshLoader) (e.Refused 0) → ready s ≡ false
     by-test true p q = let z : _≡_ {A = ℕ} 0 1 = cc in absurd (omega arith)
     by-test false p q = p
 
@@ -317,7 +318,7 @@ end-reported : {a : Report} {l : Loader} (s : Load) → e.Report a l ≡ endAnsw
 unfolding endAnswer
 end-reported {a} {l} s q = by-test (ready s) refl q
   where
-    by-test : (b : Bool) → ready s ≡ b → e.Report a l ≡ cond b (e.Report (reportOf (stepEnd s .loader)) freshLoader) (e.Refused 0) → ready s ≡ true
+    by-test : (b : Bool) → ready s ≡ b → e.Report a l ≡ cond b (e.Report (stepEnd s .loader .report) freshLoader) (e.Refused 0) → ready s ≡ true
     by-test true p q = p
     by-test false p q = let z : _≡_ {A = ℕ} 0 1 = cc in absurd (omega arith)
 

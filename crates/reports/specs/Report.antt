@@ -8,9 +8,12 @@ use Rattle.writes.specs.declared.Outcome.the-variants as v
 use Rattle.reports.specs.declared.Loader.{Loader}
 use Rattle.reports.specs.declared.Report.{Report}
 
--- a fresh loader
+-- a report of zeros, and a fresh loader
+abbrev pub emptyReport : Report
+emptyReport = record { lines = 0; accepted = 0; skipped = 0; refused = 0; first = 0; reason = 0; place = 0 }
+
 abbrev pub freshLoader : Loader
-freshLoader = record { kept = 0; lines = 0; accepted = 0; skipped = 0; refused = 0; first = 0; reason = 0 }
+freshLoader = record { kept = 0; report = emptyReport }
 
 -- the limit of each number of a report
 abbrev pub countLimit : ℕ
@@ -20,27 +23,43 @@ countLimit = 4294967295
 abbrev pub more : ℕ → ℕ
 more n = cond (ltb n countLimit) (n + 1) n
 
--- a line more, and the next begins empty
-abbrev pub count : Loader → Outcome → Loader
-count l v.Skipped =
-    record { kept = 0; lines = more (l .lines); accepted = l .accepted; skipped = more (l .skipped); refused = l .refused; first = l .first; reason = l .reason }
-count l v.Accepted =
-    record { kept = 0; lines = more (l .lines); accepted = more (l .accepted); skipped = l .skipped; refused = l .refused; first = l .first; reason = l .reason }
-count l (v.Refused n) =
+-- a line more. Of the first refused one the number, the reason and the place are kept (02, Three: its place, which is 0 where the reason is not 3)
+abbrev pub withLine : Report → Outcome → Report
+withLine r v.Skipped =
     record {
-      kept = 0;
-      lines = more (l .lines);
-      accepted = l .accepted;
-      skipped = l .skipped;
-      refused = more (l .refused);
-      first = cond (eqb (l .refused) 0) (more (l .lines)) (l .first);
-      reason = cond (eqb (l .refused) 0) n (l .reason);
+      lines = more (r .lines);
+      accepted = r .accepted;
+      skipped = more (r .skipped);
+      refused = r .refused;
+      first = r .first;
+      reason = r .reason;
+      place = r .place;
     }
+withLine r v.Accepted =
+    record {
+      lines = more (r .lines);
+      accepted = more (r .accepted);
+      skipped = r .skipped;
+      refused = r .refused;
+      first = r .first;
+      reason = r .reason;
+      place = r .place;
+    }
+withLine r (v.Refused why) =
+    record {
+      lines = more (r .lines);
+      accepted = r .accepted;
+      skipped = r .skipped;
+      refused = more (r .refused);
+      first = cond (eqb (r .refused) 0) (more (r .lines)) (r .first);
+      reason = cond (eqb (r .refused) 0) (why .number) (r .reason);
+      place = cond (eqb (r .refused) 0) (why .place) (r .place);
+    }
+
+-- the loader with that, and the next line begins empty
+abbrev pub count : Loader → Outcome → Loader
+count l outcome = record { kept = 0; report = withLine (l .report) outcome }
 
 -- the loader with another length of the kept line
 abbrev pub withKept : Loader → ℕ → Loader
-withKept l n = record { kept = n; lines = l .lines; accepted = l .accepted; skipped = l .skipped; refused = l .refused; first = l .first; reason = l .reason }
-
--- its numbers, as a report
-abbrev pub reportOf : Loader → Report
-reportOf l = record { lines = l .lines; accepted = l .accepted; skipped = l .skipped; refused = l .refused; first = l .first; reason = l .reason }
+withKept l n = record { kept = n; report = l .report }

@@ -1,21 +1,10 @@
 // The loader's numbers (01, Rule text: the report): a fresh loader, a line counted, and the report. Each number stops at its limit.
 use writes::Outcome;
 ghost use mathlib.Core.Path.{_≡_};
-ghost use Rattle.reports.specs.Report.{freshLoader, more, count, withKept, reportOf};
+ghost use Rattle.reports.specs.Report.{freshLoader, more, withLine, count, withKept};
 
-// The loader between two calls: how many bytes of the line under way are kept (601: it has more than 600), and the report's numbers.
-#[repr(C)]
-pub struct Loader {
-    pub kept: usize,
-    pub lines: u32,
-    pub accepted: u32,
-    pub skipped: u32,
-    pub refused: u32,
-    pub first: u32,
-    pub reason: u8,
-}
-
-// The report: how many lines, accepted, skipped and refused, and the number (from 1) and reason of the first refused line, 0 where none.
+// The report: how many lines, accepted, skipped and refused, and the number (from 1), the reason and the place of the first refused line, 0 where
+// none. The place is that of the first bad byte where the reason is 3, and 0 for any other reason (02, Three).
 #[repr(C)]
 pub struct Report {
     pub lines: u32,
@@ -24,7 +13,26 @@ pub struct Report {
     pub refused: u32,
     pub first: u32,
     pub reason: u8,
+    pub place: usize,
 }
+
+// The loader between two calls: how many bytes of the line under way are kept (601: it has more than 600), and the report so far.
+#[repr(C)]
+pub struct Loader {
+    pub kept: usize,
+    pub report: Report,
+}
+
+// A report of zeros.
+pub const ZEROS: Report = Report {
+    lines: 0,
+    accepted: 0,
+    skipped: 0,
+    refused: 0,
+    first: 0,
+    reason: 0,
+    place: 0,
+};
 
 // A fresh loader: an empty kept line and a report of zeros.
 pub fn fresh() -> Loader
@@ -32,12 +40,7 @@ pub fn fresh() -> Loader
 {
     Loader {
         kept: 0,
-        lines: 0,
-        accepted: 0,
-        skipped: 0,
-        refused: 0,
-        first: 0,
-        reason: 0,
+        report: ZEROS,
     }
 }
 
@@ -48,81 +51,66 @@ fn one_more(n: u32) -> u32
     if n < 4294967295 { n + 1 } else { n }
 }
 
-// Counts a line that was judged; the next begins empty.
-pub fn count_line(l: Loader, outcome: Outcome) -> Loader
-    ensures { λ r. ⌜ r ≡ count l outcome ⌝ }
+// The report with a line more, which was judged. The first refused one is kept.
+fn with_line(report: Report, outcome: Outcome) -> Report
+    ensures { λ r. ⌜ r ≡ withLine report outcome ⌝ }
 {
-    let lines = one_more(l.lines);
+    let lines = one_more(report.lines);
     match outcome {
-        Outcome::Skipped => Loader {
-            kept: 0,
+        Outcome::Skipped => Report {
             lines,
-            accepted: l.accepted,
-            skipped: one_more(l.skipped),
-            refused: l.refused,
-            first: l.first,
-            reason: l.reason,
+            skipped: one_more(report.skipped),
+            ..report
         },
-        Outcome::Accepted => Loader {
-            kept: 0,
+        Outcome::Accepted => Report {
             lines,
-            accepted: one_more(l.accepted),
-            skipped: l.skipped,
-            refused: l.refused,
-            first: l.first,
-            reason: l.reason,
+            accepted: one_more(report.accepted),
+            ..report
         },
-        Outcome::Refused(n) => {
-            let refused = one_more(l.refused);
-            if l.refused == 0 {
-                return Loader {
-                    kept: 0,
+        Outcome::Refused(refusal) => {
+            let refused = one_more(report.refused);
+            if report.refused == 0 {
+                return Report {
                     lines,
-                    accepted: l.accepted,
-                    skipped: l.skipped,
                     refused,
                     first: lines,
-                    reason: n,
+                    reason: refusal.number,
+                    place: refusal.place,
+                    ..report
                 };
             }
-            Loader {
-                kept: 0,
+            Report {
                 lines,
-                accepted: l.accepted,
-                skipped: l.skipped,
                 refused,
-                first: l.first,
-                reason: l.reason,
+                ..report
             }
         }
     }
 }
 
-// The loader with another length of the kept line.
+// Counts a line that was judged; the next begins empty.
+pub fn count_line(l: Loader, outcome: Outcome) -> Loader
+    ensures { λ r. ⌜ r ≡ count l outcome ⌝ }
+{
+    let report = with_line(l.report, outcome);
+    Loader { kept: 0, report }
+}
+
+// The loader with another length of the kept line. Field by field: a report that is copied whole is read in larger parts than it was written in, and the
+// processor waits for that, once a line.
 pub fn keep(l: Loader, kept: usize) -> Loader
     ensures { λ r. ⌜ r ≡ withKept l kept ⌝ }
 {
     Loader {
         kept,
-        lines: l.lines,
-        accepted: l.accepted,
-        skipped: l.skipped,
-        refused: l.refused,
-        first: l.first,
-        reason: l.reason,
-    }
-}
-
-// The loader's numbers, as a report.
-pub fn report_of(l: Loader) -> Report
-    ensures { λ r. ⌜ r ≡ reportOf l ⌝ }
-{
-    Report {
-        lines: l.lines,
-        accepted: l.accepted,
-        skipped: l.skipped,
-        refused: l.refused,
-        first: l.first,
-        reason: l.reason,
+        report: Report {
+            lines: l.report.lines,
+            accepted: l.report.accepted,
+            skipped: l.report.skipped,
+            refused: l.report.refused,
+            first: l.report.first,
+            reason: l.report.reason,
+            place: l.report.place,
+        },
     }
 }

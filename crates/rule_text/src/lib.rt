@@ -19,7 +19,7 @@ pub fn put_text(out: &mut [u8], subject: &[u8], object: &[u8], modes: &[u8]) -> 
     let third = second + 1 + modes.len();
     let length = third + 1;
     if out.len() < length {
-        return Output::Refused(refusals::OUTPUT_TOO_SHORT);
+        return Output::Refused(refusals::OUTPUT_TOO_SHORT.number);
     }
     search::copy_at(out, 0, subject);
     out[first] = alphabet::SPACE;

@@ -10,6 +10,7 @@ use Rattle.search.specs.Bytes.{sameBytes}
 use Rattle.search.specs.declared.Found.{Found}
 use Rattle.search.specs.declared.Found.the-variants.{At, Nothing}
 use Rattle.search.proofs.Laws.{same-sym}
+use Rattle.refusals.specs.Refusals.{labelsFull, rulesFull}
 use Rattle.store.specs.Table.{Table, labelIn, enter, noPlace, soundTable}
 use Rattle.store.specs.Pairs.{modesFound, modesBetween, modesSoFar}
 use Rattle.store.specs.Judged.{is-refused, is-accepted}
@@ -50,8 +51,8 @@ module _ (t : Table) (s o : List ℕ) (different : sameBytes s o ≡ false) wher
       where
         by-tests :
             (a b : Bool) →
-            cond a (is-refused 6) (cond b (is-refused 7) (is-accepted (withPairAt t s o here m)))
-            ≡ judgedAt t s o m (cond a (p.Refused 6) (cond b (p.Refused 7) (p.At here)))
+            cond a (is-refused labelsFull) (cond b (is-refused rulesFull) (is-accepted (withPairAt t s o here m)))
+            ≡ judgedAt t s o m (cond a (p.Refused labelsFull) (cond b (p.Refused rulesFull) (p.At here)))
         by-tests true b = refl
         by-tests false true = refl
         by-tests false false = refl

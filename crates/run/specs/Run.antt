@@ -40,7 +40,7 @@ said best.Nothing = label.Nothing
 
 -- 9 the level is over 255, or the set has a bit that is no category; then the answer
 unfoldable pub settledOf : Best → ℕ → ℕ → Label
-settledOf b level s = cond (sought level s) (said b) (label.Refused badLevelOrCategory)
+settledOf b level s = cond (sought level s) (said b) (label.Refused (badLevelOrCategory .number))
 
 -- the search of a run
 unfoldable pub runOf : List Record → ℕ → ℕ → Label

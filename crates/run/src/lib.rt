@@ -53,7 +53,7 @@ fn settled(best: Best, level: u64, set: u64) -> Label
     ensures { λ r. ⌜ r ≡ settledOf best level set ⌝ }
 {
     if !lookups::known(level, set) {
-        return Label::Refused(refusals::BAD_LEVEL_OR_CATEGORY);
+        return Label::Refused(refusals::BAD_LEVEL_OR_CATEGORY.number);
     }
     match best {
         Best::Label(n) => Label::Number(n as usize),

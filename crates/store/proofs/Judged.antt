@@ -9,6 +9,8 @@ use lib.ListN.{length, getD}
 use borrow.Author.Tests.{eqb-true, eq-eqb}
 use Rattle.search.specs.Search.{all}
 use Rattle.search.proofs.Laws.{and-both}
+use Rattle.refusals.specs.Refusals.{damaged}
+use Rattle.refusals.specs.declared.Refusal.{Refusal}
 use Rattle.store.specs.declared.Done.{Done}
 use Rattle.store.specs.declared.Done.the-variants as d
 use Rattle.store.specs.Table.{Table, fresh, soundTable}
@@ -26,13 +28,13 @@ module _ (st : Store) (write : Table → Judged) where
   unfolding onState
   on-undamaged u = rw u
 
-  pub on-damaged : undamagedOf st ≡ false → onState st write ≡ is-refused 0
+  pub on-damaged : undamagedOf st ≡ false → onState st write ≡ is-refused damaged
   unfolding onState
   on-damaged u = rw u
 
 -- ---- a refusal leaves every lent byte
 
-pub refused-stays : (st : Store) (j : Judged) (n : ℕ) → doneOf j ≡ d.Refused n → storeAfter st j ≡ st
+pub refused-stays : (st : Store) (j : Judged) (r : Refusal) → doneOf j ≡ d.Refused r → storeAfter st j ≡ st
 refused-stays st is-skipped n e = refl
 refused-stays st (is-refused k) n e = refl
 refused-stays st (is-accepted t) n e = let z : _≡_ {A = ℕ} 0 1 = cc in absurd (omega arith)
@@ -62,7 +64,7 @@ pub fresh-full : (st : Store) → freshAnswer st ≡ d.Done → Sizes (st .label
 unfolding freshAnswer freshWrite
 fresh-full st q = by-test (fullSizes st) refl q
   where
-    by-test : (b : Bool) → fullSizes st ≡ b → doneOf (cond b (is-accepted fresh) (is-refused 0)) ≡ d.Done → Sizes (st .labels) (st .entries) (st .words)
+    by-test : (b : Bool) → fullSizes st ≡ b → doneOf (cond b (is-accepted fresh) (is-refused damaged)) ≡ d.Done → Sizes (st .labels) (st .entries) (st .words)
     by-test true e q =
         let a = and-both (eqb (length (st .labels)) 16384) (eqb (length (st .entries)) 840 && eqb (length (st .words)) 36) e in
         let b = and-both (eqb (length (st .entries)) 840) (eqb (length (st .words)) 36) (a .1) in

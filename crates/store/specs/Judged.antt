@@ -1,18 +1,18 @@
 -- What a write does: each is one definition, from the tables to what becomes of it and of them. The definitions here turn that into the
 -- tables afterwards, the lent slices and the answer, for every write in the same way. Assumes nothing.
-use Prim.Native.Nat.{ℕ}
 use mathlib.Core.Bool.{cond}
 use Rattle.refusals.specs.Refusals.{damaged}
+use Rattle.refusals.specs.declared.Refusal.{Refusal}
 use Rattle.store.specs.declared.Done.{Done}
 use Rattle.store.specs.declared.Done.the-variants as d
 use Rattle.store.specs.Table.{Table, fresh}
 use Rattle.store.specs.Layout.{Store, tableOf, undamagedOf, fullSizes}
 use Rattle.store.specs.Laid.{laid}
 
--- skipped (a line of rule text alone can be), refused by the first number that holds, or accepted, with the tables after it
+-- skipped (a line of rule text alone can be), refused by the first number that holds, with its place, or accepted, with the tables after it
 pub data Judged : Type 0 where
   is-skipped : Judged
-  is-refused : ℕ → Judged
+  is-refused : Refusal → Judged
   is-accepted : Table → Judged
 
 -- the tables afterwards
@@ -27,7 +27,7 @@ storeAfter st is-skipped = st
 storeAfter st (is-refused n) = st
 storeAfter st (is-accepted t) = laid st t
 
--- what a single write answers: done, or a refusal's number (it is never skipped)
+-- what a single write answers: done, or a refusal (it is never skipped)
 abbrev pub doneOf : Judged → Done
 doneOf is-skipped = d.Done
 doneOf (is-refused n) = d.Refused n

@@ -1,5 +1,6 @@
 // The tables in lent memory: the label store, the rules, the CIPSO mappings and the onlycap list (01: the override list). Three lent
 // slices hold them: `labels`, `entries` and `words`, laid out as specs/Layout.antt says.
+use refusals::Refusal;
 ghost use mathlib.Core.Path.{_≡_};
 ghost use Prim.Native.Nat.{_+_, _<_, _≤_};
 ghost use lib.ListN.{length};
@@ -56,10 +57,10 @@ pub struct Rule {
     pub modes: u8,
 }
 
-// What a write answers: done, or a refusal's number.
+// What a write answers: done, or a refusal.
 pub enum Done {
     Done,
-    Refused(u8),
+    Refused(Refusal),
 }
 
 // A CIPSO mapping: the label's number, its level and its category set.

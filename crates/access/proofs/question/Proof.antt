@@ -1,6 +1,6 @@
 -- `access::question` meets its contract: it makes the definition's tests in their order, and an undamaged store is what `decide` asks for.
 -- Assumes nothing.
-use mathlib.Core.Path.{_≡_, sym, _∙_}
+use mathlib.Core.Path.{_≡_, ap, sym, _∙_}
 use mathlib.Core.Bool.{true}
 use borrow.Author.Tests.{eq-eqb, ne-eqb, not-true, not-false}
 use Rattle.alphabet.specs.Alphabet.{wellFormed}
@@ -8,6 +8,7 @@ use Rattle.store.specs.Layout.{store, undamagedOf}
 use Rattle.store.proofs.Laws.{undamaged-is}
 use Rattle.access.specs.Access.{answer, questionOf}
 use borrow.Author.Needs.{needs}
+use Rattle.access.specs.declared.Answer.the-variants.{Refused}
 use Rattle.access.proofs.question.Statement.{statement}
 use Rattle.access.proofs.question.Tie as tie
 
@@ -31,18 +32,27 @@ returns c = rw (sym (c .before .undamaged .ensures) ∙ not-true (c .before .und
 well-formed-requires : tie.Need-well-formed-requires
 well-formed-requires c κs = search needs
 
+bad-label-requires : tie.Need-bad-label-requires
+bad-label-requires c κs = search needs
+
 returns-2 : tie.Need-returns-2
 unfolding questionOf answer
-returns-2 c = rw (whole (c .before .before), sym (c .before .well-formed .ensures) ∙ not-true (c .before .well-formed .result) (c .if2 .taken))
+returns-2 c =
+    let d = c .before in
+    rw (whole (d .before .before), sym (d .before .well-formed .ensures) ∙ not-true (d .before .well-formed .result) (d .if2 .taken)) (ap Refused (c .bad-label .ensures))
 
 well-formed-requires-2 : tie.Need-well-formed-requires-2
 well-formed-requires-2 c κs = search needs
 
+bad-label-requires-2 : tie.Need-bad-label-requires-2
+bad-label-requires-2 c κs = search needs
+
 returns-3 : tie.Need-returns-3
 unfolding questionOf answer
 returns-3 c =
-    let d = c .before .before in
-    rw (whole (d .before .before), subject-formed d, sym (c .before .well-formed2 .ensures) ∙ not-true (c .before .well-formed2 .result) (c .if3 .taken))
+    let b = c .before in
+    let d = b .before .before in
+    rw (whole (d .before .before), subject-formed d, sym (b .before .well-formed2 .ensures) ∙ not-true (b .before .well-formed2 .result) (b .if3 .taken)) (ap Refused (c .bad-label2 .ensures))
 
 returns-4 : tie.Need-returns-4
 unfolding questionOf answer
@@ -88,8 +98,10 @@ question-spec =
     undamaged-requires
     returns
     well-formed-requires
+    bad-label-requires
     returns-2
     well-formed-requires-2
+    bad-label-requires-2
     returns-3
     returns-4
     read-modes-requires

@@ -9,7 +9,7 @@ use Rattle.answers.proofs.show.Statement.{statement}
 use Rattle.answers.proofs.show.Tie as tie
 
 -- by the rule's number
-shown-as : (kind : ℕ) (n m : ℕ) → n ≡ m → _≡_ {A = Shown} (record { kind = kind; number = n; bringup = false }) (record { kind = kind; number = m; bringup = false })
+shown-as : (kind : ℕ) (n m : ℕ) → n ≡ m → _≡_ {A = Shown} (record { kind = kind; number = n; bringup = false; place = 0 }) (record { kind = kind; number = m; bringup = false; place = 0 })
 shown-as kind n m e = rw e
 
 enum-known-answer : tie.Need-enum-known-answer

@@ -1,11 +1,13 @@
 -- `cipso::read_line` meets its contract: each answer says what the fields say, by the tests that led to it. Assumes nothing.
-use mathlib.Core.Path.{_≡_, sym, _∙_}
+use mathlib.Core.Path.{_≡_, ap, sym, _∙_}
 use native.Mathlib.Omega.{arith}
 use Rattle.search.specs.declared.Found.the-variants.{Nothing}
-use Rattle.alphabet.specs.Within.{part, faultOf}
+use Rattle.alphabet.specs.Alphabet.{faultOf}
+use Rattle.alphabet.specs.Within.{part}
 use Rattle.numbers.specs.Numbers.{numberOf}
 use Rattle.numbers.specs.declared.Number.the-variants.{Value}
 use borrow.Author.Needs.{needs}
+use Rattle.cipso.specs.Cipso.{refused}
 use Rattle.cipso.proofs.Laws.{One, Two, in-one, in-two, said-long, said-none, said-one, said-unformed, said-unread, said-high, said-set, label-fits}
 use Rattle.cipso.proofs.read_line.Statement.{statement}
 use Rattle.cipso.proofs.read_line.Tie as tie
@@ -69,8 +71,11 @@ enum-told-3 c = search needs
 enum-told-4 : tie.Need-enum-told-4
 enum-told-4 c = search needs
 
+bad-label-in-requires : tie.Need-bad-label-in-requires
+bad-label-in-requires c κs = omega (arith, one (c .before .before .before .before .before .before .before .before .before) .short)
+
 returns-4 : tie.Need-returns-4
-returns-4 c = (sym (said-unformed (two (c .before .before .before .before .before)) (sym (c .before .before .label-fault .ensures) ∙ c .enum-told4 .given .1)), tt)
+returns-4 c = (ap refused (c .bad-label-in .ensures) ∙ sym (said-unformed (two (c .before .before .before .before .before .before)) (sym (c .before .before .before .label-fault .ensures) ∙ c .before .enum-told4 .given .1)), tt)
 
 sub-read-number : tie.Need-sub-read-number
 sub-read-number c = omega (arith, in-two (two (c .before .before .before .before .before)) .starts)
@@ -108,8 +113,8 @@ enum-told-6 c = search needs
 returns-7 : tie.Need-returns-7
 returns-7 c = (sym (said-set (two (c .before .before .before .before .before .before .before .before .before .before .before .before .before .before)) (formed (c .before .before .before .before .before .before .before .before .before)) (value (c .before .before .before .before .before)) (c .before .before .before .if2 .left) (sym (c .before .before .read-categories .ensures) ∙ c .enum-told6 .given .1)), tt)
 
-cast-t21 : tie.Need-cast-t21
-cast-t21 c = search needs
+cast-t28 : tie.Need-cast-t28
+cast-t28 c = search needs
 
 returns-8 : tie.Need-returns-8
 returns-8 c =
@@ -135,6 +140,7 @@ read-line-spec =
     label-fault-requires
     enum-told-3
     enum-told-4
+    bad-label-in-requires
     returns-4
     sub-read-number
     part-read-number-start
@@ -148,5 +154,5 @@ read-line-spec =
     enum-known-set
     enum-told-6
     returns-7
-    cast-t21
+    cast-t28
     returns-8)

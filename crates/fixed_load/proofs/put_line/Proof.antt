@@ -7,7 +7,8 @@ use native.Mathlib.Omega.{arith}
 use lib.ListN.{length, take}
 use Rattle.search.specs.Bytes.{sameBytes}
 use Rattle.search.specs.declared.Found.the-variants.{Nothing}
-use Rattle.alphabet.specs.Within.{faultOf}
+use Rattle.refusals.specs.Refusals.{sameLabels}
+use Rattle.alphabet.specs.Alphabet.{faultOf}
 use Rattle.lines.specs.Lines as said
 use Rattle.modes.specs.declared.Access.the-variants.{Modes}
 use Rattle.modes.specs.Modes.{modesText}
@@ -53,7 +54,7 @@ module _ (c : tie.After-known-told) where
     abbrev object : List ℕ
     object = begun .args .object .now
 
-    says : saidBy subject object (begun .args .access .now) ≡ cond t (said.refused 5) (said.rule subject object m)
+    says : saidBy subject object (begun .args .access .now) ≡ cond t (said.refused sameLabels) (said.rule subject object m)
     says = by-labels subject object (begun .args .access .now) (subject-formed (formed .before .before .before)) (object-formed formed) m read t e
 
 -- the modes' text in its own buffer

@@ -28,8 +28,8 @@ few c = let h = done c in omega (arith, h .1, h .0 .counts .labels)
 label-check-requires : tie.Need-label-check-requires
 label-check-requires c κs = search needs
 
-enum-known-number : tie.Need-enum-known-number
-enum-known-number c = search needs
+enum-known-refusal : tie.Need-enum-known-refusal
+enum-known-refusal c = search needs
 
 enum-told : tie.Need-enum-told
 enum-told c = search needs
@@ -47,7 +47,7 @@ returns : tie.Need-returns
 returns c =
     let s = lent (c .before .before .before .before .before .before .before) in
     let k = c .before .before .before .before .before .before .before .args .k in
-    let e = sym (c .before .before .before .label-check .ensures) ∙ c .before .number .given .1 in
+    let e = sym (c .before .before .before .label-check .ensures) ∙ c .before .refusal .given .1 in
     (sym (ap (partShown k (length (labelGiven s k))) e), label-refused s k _ e)
 
 returns-2 : tie.Need-returns-2
@@ -66,7 +66,7 @@ bq-label-spec =
     tie.close
     (tie.spec
     label-check-requires
-    enum-known-number
+    enum-known-refusal
     enum-told
     mul-start
     add-start

@@ -11,6 +11,7 @@ use Rattle.modes.specs.Modes.{readModes, changeLetters}
 use Rattle.modes.specs.declared.Access.the-variants.{Modes}
 use mathlib.Core.Bool.{true}
 use Rattle.lines.specs.Within.{changeKind}
+use Rattle.lines.specs.declared.ChangeLine.the-variants as changed
 use Rattle.lines.proofs.Laws.{change-meets}
 use Rattle.lines.proofs.Answers.{One, Two, Three, Four, in-one, in-two, in-three, in-four, too-long, no-field, only-one, change-two, change-three, change-five, change-subject, change-object, change-bad-allow, change-bad-deny, change-judged}
 use Rattle.lines.proofs.change_line.Statement.{statement}
@@ -121,11 +122,35 @@ enum-told-6 c = search needs
 returns-6 : tie.Need-returns-6
 returns-6 c = change-meets _ _ (change-five (four (c .before .before .before .before .before)) (sym (c .before .before .next-field-in3 .ensures) ∙ c .enum-told6 .given .1))
 
+sub-bad-label-at : tie.Need-sub-bad-label-at
+sub-bad-label-at c = omega (arith, in-one (one (c .before .before .before .before .before .before .before .before .before .before .before .before .before .before .before .before .before .before .before .before .before)) .starts)
+
+part-bad-label-at-start : tie.Need-part-bad-label-at-start
+part-bad-label-at-start c = omega (arith, in-one (one (c .before .before .before .before .before .before .before .before .before .before .before .before .before .before .before .before .before .before .before .before .before)) .starts)
+
+part-bad-label-at-end : tie.Need-part-bad-label-at-end
+part-bad-label-at-end c = in-one (one (c .before .before .before .before .before .before .before .before .before .before .before .before .before .before .before .before .before .before .before .before .before)) .ends
+
+bad-label-at-requires : tie.Need-bad-label-at-requires
+bad-label-at-requires c κs = omega (arith, in-one (one (c .before .before .before .before .before .before .before .before .before .before .before .before .before .before .before .before .before .before .before .before .before .before)) .starts, in-one (one (c .before .before .before .before .before .before .before .before .before .before .before .before .before .before .before .before .before .before .before .before .before .before)) .ends, one (c .before .before .before .before .before .before .before .before .before .before .before .before .before .before .before .before .before .before .before .before .before .before) .short)
+
 returns-7 : tie.Need-returns-7
-returns-7 c = change-meets _ _ (change-subject (four (c .before .before .before .before .before .before)) (ends (c .before)) (not-true _ (c .if2 .taken)))
+returns-7 c = change-meets _ _ (change-subject (four (c .before .before .before .before .before .before .before .before)) (ends (c .before .before .before)) (not-true _ (c .before .before .if2 .taken)) ∙ ap changed.Refused (sym (c .bad-label-at .ensures)))
+
+sub-bad-label-at-2 : tie.Need-sub-bad-label-at-2
+sub-bad-label-at-2 c = omega (arith, in-two (two (c .before .before .before .before .before .before .before .before .before .before .before .before .before .before .before .before .before)) .starts)
+
+part-bad-label-at-start-2 : tie.Need-part-bad-label-at-start-2
+part-bad-label-at-start-2 c = omega (arith, in-two (two (c .before .before .before .before .before .before .before .before .before .before .before .before .before .before .before .before .before)) .starts)
+
+part-bad-label-at-end-2 : tie.Need-part-bad-label-at-end-2
+part-bad-label-at-end-2 c = in-two (two (c .before .before .before .before .before .before .before .before .before .before .before .before .before .before .before .before .before)) .ends
+
+bad-label-at-requires-2 : tie.Need-bad-label-at-requires-2
+bad-label-at-requires-2 c κs = omega (arith, in-two (two (c .before .before .before .before .before .before .before .before .before .before .before .before .before .before .before .before .before .before)) .starts, in-two (two (c .before .before .before .before .before .before .before .before .before .before .before .before .before .before .before .before .before .before)) .ends, two (c .before .before .before .before .before .before .before .before .before .before .before .before .before .before .before .before .before .before) .first .short)
 
 returns-8 : tie.Need-returns-8
-returns-8 c = change-meets _ _ (change-object (four (c .before .before .before .before .before .before .before)) (ends (c .before .before)) (not-true _ (c .if3 .taken)))
+returns-8 c = change-meets _ _ (change-object (four (c .before .before .before .before .before .before .before .before .before)) (ends (c .before .before .before .before)) (not-false _ (c .before .before .before .if2 .left)) (not-true _ (c .before .before .if3 .taken)) ∙ ap changed.Refused (sym (c .bad-label-at2 .ensures)))
 
 sub-read-modes : tie.Need-sub-read-modes
 sub-read-modes c = omega (arith, in-three (three (c .before .before .before .before .before .before .before .before .before .before .before .before)) .starts)
@@ -233,7 +258,15 @@ change-line-spec =
     enum-told-5
     enum-told-6
     returns-6
+    sub-bad-label-at
+    part-bad-label-at-start
+    part-bad-label-at-end
+    bad-label-at-requires
     returns-7
+    sub-bad-label-at-2
+    part-bad-label-at-start-2
+    part-bad-label-at-end-2
+    bad-label-at-requires-2
     returns-8
     sub-read-modes
     part-read-modes-start

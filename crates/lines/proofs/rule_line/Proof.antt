@@ -1,11 +1,12 @@
 -- `lines::rule_line` meets its contract: each answer is that of the definition, by the tests that led to it. Assumes nothing.
-use mathlib.Core.Path.{_≡_, sym, _∙_}
+use mathlib.Core.Path.{_≡_, ap, sym, _∙_}
 use native.Mathlib.Omega.{arith}
 use borrow.Author.Needs.{needs}
 use borrow.Author.Tests.{not-true, not-false}
 use Rattle.alphabet.specs.Within.{fieldAt}
 use Rattle.alphabet.specs.declared.Field.the-variants.{End}
 use Rattle.lines.specs.Within.{ruleKind}
+use Rattle.lines.specs.declared.RuleLine.the-variants as ruled
 use Rattle.lines.proofs.Laws.{rule-meets}
 use Rattle.lines.proofs.Answers.{One, Two, Three, in-one, in-two, in-three, too-long, no-field, only-one, rule-two, rule-four, rule-subject, rule-object, rule-bad, rule-judged}
 use Rattle.lines.proofs.rule_line.Statement.{statement}
@@ -92,11 +93,35 @@ enum-told-5 c = search needs
 returns-5 : tie.Need-returns-5
 returns-5 c = rule-meets _ _ (rule-four (three (c .before .before .before .before .before)) (sym (c .before .before .next-field-in2 .ensures) ∙ c .enum-told5 .given .1))
 
+sub-bad-label-at : tie.Need-sub-bad-label-at
+sub-bad-label-at c = omega (arith, in-one (one (c .before .before .before .before .before .before .before .before .before .before .before .before .before .before .before .before)) .starts)
+
+part-bad-label-at-start : tie.Need-part-bad-label-at-start
+part-bad-label-at-start c = omega (arith, in-one (one (c .before .before .before .before .before .before .before .before .before .before .before .before .before .before .before .before)) .starts)
+
+part-bad-label-at-end : tie.Need-part-bad-label-at-end
+part-bad-label-at-end c = in-one (one (c .before .before .before .before .before .before .before .before .before .before .before .before .before .before .before .before)) .ends
+
+bad-label-at-requires : tie.Need-bad-label-at-requires
+bad-label-at-requires c κs = omega (arith, in-one (one (c .before .before .before .before .before .before .before .before .before .before .before .before .before .before .before .before .before)) .starts, in-one (one (c .before .before .before .before .before .before .before .before .before .before .before .before .before .before .before .before .before)) .ends, one (c .before .before .before .before .before .before .before .before .before .before .before .before .before .before .before .before .before) .short)
+
 returns-6 : tie.Need-returns-6
-returns-6 c = rule-meets _ _ (rule-subject (three (c .before .before .before .before .before .before)) (ends (c .before)) (not-true _ (c .if2 .taken)))
+returns-6 c = rule-meets _ _ (rule-subject (three (c .before .before .before .before .before .before .before .before)) (ends (c .before .before .before)) (not-true _ (c .before .before .if2 .taken)) ∙ ap ruled.Refused (sym (c .bad-label-at .ensures)))
+
+sub-bad-label-at-2 : tie.Need-sub-bad-label-at-2
+sub-bad-label-at-2 c = omega (arith, in-two (two (c .before .before .before .before .before .before .before .before .before .before .before .before)) .starts)
+
+part-bad-label-at-start-2 : tie.Need-part-bad-label-at-start-2
+part-bad-label-at-start-2 c = omega (arith, in-two (two (c .before .before .before .before .before .before .before .before .before .before .before .before)) .starts)
+
+part-bad-label-at-end-2 : tie.Need-part-bad-label-at-end-2
+part-bad-label-at-end-2 c = in-two (two (c .before .before .before .before .before .before .before .before .before .before .before .before)) .ends
+
+bad-label-at-requires-2 : tie.Need-bad-label-at-requires-2
+bad-label-at-requires-2 c κs = omega (arith, in-two (two (c .before .before .before .before .before .before .before .before .before .before .before .before .before)) .starts, in-two (two (c .before .before .before .before .before .before .before .before .before .before .before .before .before)) .ends, two (c .before .before .before .before .before .before .before .before .before .before .before .before .before) .first .short)
 
 returns-7 : tie.Need-returns-7
-returns-7 c = rule-meets _ _ (rule-object (three (c .before .before .before .before .before .before .before)) (ends (c .before .before)) (not-true _ (c .if3 .taken)))
+returns-7 c = rule-meets _ _ (rule-object (three (c .before .before .before .before .before .before .before .before .before)) (ends (c .before .before .before .before)) (not-false _ (c .before .before .before .if2 .left)) (not-true _ (c .before .before .if3 .taken)) ∙ ap ruled.Refused (sym (c .bad-label-at2 .ensures)))
 
 sub-read-modes : tie.Need-sub-read-modes
 sub-read-modes c = omega (arith, in-three (three (c .before .before .before .before .before .before .before)) .starts)
@@ -176,7 +201,15 @@ rule-line-spec =
     enum-told-4
     enum-told-5
     returns-5
+    sub-bad-label-at
+    part-bad-label-at-start
+    part-bad-label-at-end
+    bad-label-at-requires
     returns-6
+    sub-bad-label-at-2
+    part-bad-label-at-start-2
+    part-bad-label-at-end-2
+    bad-label-at-requires-2
     returns-7
     sub-read-modes
     part-read-modes-start

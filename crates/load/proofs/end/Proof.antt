@@ -7,7 +7,6 @@ use Rattle.store.specs.Layout.{store}
 use Rattle.reports.specs.declared.Loader.{Loader}
 use Rattle.reports.specs.declared.Report.{Report}
 use Rattle.load.specs.declared.Ended.the-variants as e
-use Rattle.reports.specs.Report.{reportOf}
 use Rattle.load.specs.Loader.{Load, load, ready, endAnswer, endAfter, stepEnd}
 use borrow.Author.Needs.{needs}
 use native.Mathlib.Omega.{arith}
@@ -42,9 +41,6 @@ returns c =
     let q = sym (c .before .is-ready .ensures) ∙ not-true _ (c .if1 .taken) in
     (rw q, rw q)
 
-report-of-requires : tie.Need-report-of-requires
-report-of-requires c κs = search needs
-
 fresh-requires : tie.Need-fresh-requires
 fresh-requires c κs = search needs
 
@@ -65,13 +61,10 @@ unfolding endAnswer endAfter stepEnd
 returns-2 c =
     let q = tested (c .before .before .before) in
     let z = le-ltb 0 (c .before .before .before .before .before .before .before .before .before .before .before .before .before .args .l .kept) (omega (arith, c .before .before .if2 .taken)) in
-    (rw (q, z) (same-answer (c .before .report-of .ensures) (c .fresh .ensures)), rw (q, z) (same-load refl refl (c .fresh .ensures)))
+    (rw (q, z) (same-answer refl (c .fresh .ensures)), rw (q, z) (same-load refl refl (c .fresh .ensures)))
 
 end-line-requires : tie.Need-end-line-requires
 end-line-requires c κs = tested (c .before .before .before .before .before)
-
-report-of-requires-2 : tie.Need-report-of-requires-2
-report-of-requires-2 c κs = search needs
 
 fresh-requires-2 : tie.Need-fresh-requires-2
 fresh-requires-2 c κs = search needs
@@ -95,7 +88,7 @@ returns-3 c =
     let h : 0 < c .before .before .before .before .before .before .before .before .before .before .before .before .before .before .before .before .before .before .before .before .before .before .before .before .args .l .kept = omega (arith, c .before .before .before .before .before .before .before .before .before .before .before .before .before .if2 .left) in
     let z = lt-ltb 0 (c .before .before .before .before .before .before .before .before .before .before .before .before .before .before .before .before .before .before .before .before .before .before .before .before .args .l .kept) h in
     let d = c .before .before .before .before .before .before .before .before .end-line .ensures in
-    (rw (q, z) (same-answer (c .before .report-of2 .ensures ∙ ap (λ (s : Load). reportOf (s .loader)) d) (c .fresh2 .ensures)), rw (q, z) (same-load (ap (λ (s : Load). s .store) d) (ap (λ (s : Load). s .line) d) (c .fresh2 .ensures)))
+    (rw (q, z) (same-answer (ap (λ (s : Load). s .loader .report) d) (c .fresh2 .ensures)), rw (q, z) (same-load (ap (λ (s : Load). s .store) d) (ap (λ (s : Load). s .line) d) (c .fresh2 .ensures)))
 
 pub end-spec : {M : Type 1} → statement M
 end-spec =
@@ -107,7 +100,6 @@ end-spec =
     same-length-3
     same-length-4
     returns
-    report-of-requires
     fresh-requires
     same-length-5
     same-length-6
@@ -115,7 +107,6 @@ end-spec =
     same-length-8
     returns-2
     end-line-requires
-    report-of-requires-2
     fresh-requires-2
     same-length-9
     same-length-10

@@ -9,11 +9,11 @@ use lib.ListN.{getD}
 use Rattle.search.specs.Search.{first, entries}
 use Rattle.search.specs.Bytes.{sameBytes}
 use Rattle.search.specs.declared.Found.the-variants.{At, Nothing}
-use Rattle.alphabet.specs.Within.{faultOf}
+use Rattle.alphabet.specs.Alphabet.{faultOf}
 use Rattle.store.specs.Layout.{store, labelAt, mappingAt, undamagedOf}
 use Rattle.store.proofs.Laws.{Undamaged, undamaged-is}
 use Rattle.store.specs.Table.{names}
-use Rattle.lookups.specs.declared.Lookup.the-variants.{Mapped}
+use Rattle.lookups.specs.declared.Lookup.the-variants.{Mapped, Refused}
 use borrow.Author.Needs.{needs}
 use Rattle.lookups.proofs.Laws.{mapping-below, stored-known, label-damaged, label-unformed, label-unknown, label-unmapped, label-mapped}
 use Rattle.lookups.proofs.by_label.Statement.{statement}
@@ -55,10 +55,13 @@ enum-told c = search needs
 enum-told-2 : tie.Need-enum-told-2
 enum-told-2 c = search needs
 
+bad-label-requires : tie.Need-bad-label-requires
+bad-label-requires c κs = search needs
+
 returns-2 : tie.Need-returns-2
 returns-2 c =
-    let a = c .before .before .before .before .before .before .before .before .before .args in
-    sym (label-unformed (a .labels .now) (a .entries .now) (a .words .now) (a .label .now) (tested (c .before .before .before)) (sym (c .before .before .label-fault .ensures) ∙ c .enum-told2 .given .1))
+    let a = c .before .before .before .before .before .before .before .before .before .before .args in
+    ap Refused (c .bad-label .ensures) ∙ sym (label-unformed (a .labels .now) (a .entries .now) (a .words .now) (a .label .now) (tested (c .before .before .before .before)) (sym (c .before .before .before .label-fault .ensures) ∙ c .before .enum-told2 .given .1))
 
 shared-slice-read-stored : tie.Need-shared-slice-read-stored
 shared-slice-read-stored c = omega (arith, whole (c .before .before .before .before) .sizes .words)
@@ -130,6 +133,7 @@ by-label-spec =
     label-fault-requires
     enum-told
     enum-told-2
+    bad-label-requires
     returns-2
     shared-slice-read-stored
     shared-slice-read-mappings

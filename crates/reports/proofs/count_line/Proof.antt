@@ -1,69 +1,19 @@
--- `reports::count_line` meets its contract, by what became of the line. Assumes nothing.
-use mathlib.Core.Path.{_≡_, refl}
-use Prim.Native.Nat.{ℕ}
-use borrow.Author.Tests.{eq-eqb, ne-eqb}
-use Rattle.reports.specs.declared.Loader.{Loader}
+-- `reports::count_line` meets its contract: the report is the one with that line. Assumes nothing.
+use mathlib.Core.Path.{ap}
 use borrow.Author.Needs.{needs}
+use Rattle.reports.specs.declared.Report.{Report}
+use Rattle.reports.specs.declared.Loader.{Loader}
 use Rattle.reports.proofs.count_line.Statement.{statement}
 use Rattle.reports.proofs.count_line.Tie as tie
 
-same-loader :
-    {a a′ b b′ d d′ e e′ f f′ g g′ h h′ : ℕ} →
-    a ≡ a′ →
-    b ≡ b′ →
-    d ≡ d′ →
-    e ≡ e′ →
-    f ≡ f′ →
-    g ≡ g′ →
-    h ≡ h′ →
-    _≡_ {A = Loader} (record { kept = a; lines = b; accepted = d; skipped = e; refused = f; first = g; reason = h }) (record { kept = a′; lines = b′; accepted = d′; skipped = e′; refused = f′; first = g′; reason = h′ })
-same-loader p q r s t u v = rw (p, q, r, s, t, u, v)
+abbrev emptied : Report → Loader
+emptied r = record { kept = 0; report = r }
 
-one-more-requires : tie.Need-one-more-requires
-one-more-requires c κs = search needs
-
-enum-told : tie.Need-enum-told
-enum-told c = search needs
-
-one-more-requires-2 : tie.Need-one-more-requires-2
-one-more-requires-2 c κs = search needs
-
-enum-told-2 : tie.Need-enum-told-2
-enum-told-2 c = search needs
-
-one-more-requires-3 : tie.Need-one-more-requires-3
-one-more-requires-3 c κs = search needs
-
-enum-known-outcome : tie.Need-enum-known-outcome
-enum-known-outcome c = search needs
-
-one-more-requires-4 : tie.Need-one-more-requires-4
-one-more-requires-4 c κs = search needs
+with-line-requires : tie.Need-with-line-requires
+with-line-requires c κs = search needs
 
 returns : tie.Need-returns
-returns c = rw (c .before .before .before .before .outcome .given .1, eq-eqb _ _ (c .if1 .taken)) (same-loader refl (c .before .before .before .before .before .before .one-more .ensures) refl refl (c .before .before .one-more4 .ensures) (c .before .before .before .before .before .before .one-more .ensures) refl)
-
-returns-2 : tie.Need-returns-2
-returns-2 c = rw (c .before .enum-told .given .1) (same-loader refl (c .before .before .before .one-more .ensures) refl (c .one-more2 .ensures) refl refl refl)
-
-returns-3 : tie.Need-returns-3
-returns-3 c = rw (c .before .enum-told2 .given .1) (same-loader refl (c .before .before .before .one-more .ensures) (c .one-more3 .ensures) refl refl refl refl)
-
-returns-4 : tie.Need-returns-4
-returns-4 c = rw (c .before .before .before .before .outcome .given .1, ne-eqb _ _ (c .if1 .left)) (same-loader refl (c .before .before .before .before .before .before .one-more .ensures) refl refl (c .before .before .one-more4 .ensures) refl refl)
+returns c = ap emptied (c .with-line .ensures)
 
 pub count-line-spec : {M : Type 1} → statement M
-count-line-spec =
-    tie.close
-    (tie.spec
-    one-more-requires
-    enum-told
-    one-more-requires-2
-    enum-told-2
-    one-more-requires-3
-    enum-known-outcome
-    one-more-requires-4
-    returns
-    returns-2
-    returns-3
-    returns-4)
+count-line-spec = tie.close (tie.spec with-line-requires returns)
