@@ -26,14 +26,60 @@
 
 /* ---- the library before a change, where it is linked in: the same calls with another name */
 
-#define IT_WAS(name) extern __typeof__(bq_##name) before_bq_##name __attribute__((weak))
-IT_WAS(fresh_table);
-IT_WAS(fresh_loader);
-IT_WAS(piece);
-IT_WAS(end);
-IT_WAS(change);
-IT_WAS(question);
-IT_WAS(list_rule);
+/* The major version of its interface, where that is another than the header's. Under version 1 no answer had a place, and the loader was flat. */
+#ifndef BEFORE_MAJOR
+#define BEFORE_MAJOR BQ_VERSION_MAJOR
+#endif
+#if BEFORE_MAJOR == 1
+typedef struct {
+    bool refused;
+    uint8_t number;
+} before_bq_written;
+typedef struct {
+    uint32_t lines, accepted, skipped, refused, first;
+    uint8_t reason;
+} before_bq_report;
+typedef struct {
+    size_t kept;
+    uint32_t lines, accepted, skipped, refused, first;
+    uint8_t reason;
+} before_bq_loader;
+typedef struct {
+    bool refused;
+    uint8_t number;
+    before_bq_loader loader;
+} before_bq_taken;
+typedef struct {
+    bool refused;
+    uint8_t number;
+    before_bq_report report;
+    before_bq_loader loader;
+} before_bq_finished;
+typedef struct {
+    uint8_t kind;
+    uint8_t number;
+    bool bringup;
+} before_bq_decision;
+#elif BEFORE_MAJOR == BQ_VERSION_MAJOR
+typedef bq_written before_bq_written;
+typedef bq_loader before_bq_loader;
+typedef bq_taken before_bq_taken;
+typedef bq_finished before_bq_finished;
+typedef bq_decision before_bq_decision;
+#else
+#error "the structs of that version are not here"
+#endif
+
+#define TO_READ const uint8_t *, size_t, const uint8_t *, size_t, const uint64_t *, size_t
+#define TO_WRITE uint8_t *, size_t, uint8_t *, size_t, uint64_t *, size_t
+#define OLDER extern __attribute__((weak))
+OLDER before_bq_written before_bq_fresh_table(uint8_t *, size_t, const uint8_t *, size_t, uint64_t *, size_t);
+OLDER before_bq_loader before_bq_fresh_loader(void);
+OLDER before_bq_taken before_bq_piece(TO_WRITE, uint8_t *, size_t, before_bq_loader, const uint8_t *, size_t);
+OLDER before_bq_finished before_bq_end(TO_WRITE, uint8_t *, size_t, before_bq_loader);
+OLDER before_bq_written before_bq_change(TO_WRITE, const uint8_t *, size_t);
+OLDER before_bq_decision before_bq_question(TO_READ, const uint8_t *, size_t, const uint8_t *, size_t, const uint8_t *, size_t, bool);
+OLDER __typeof__(bq_list_rule) before_bq_list_rule;
 
 /* ---- the second implementation */
 
@@ -67,8 +113,8 @@ static bool is_library(int side)
 {
     return side == LIBRARY || side == BEFORE;
 }
-/* A call of the library, or of the one before. */
-#define OF(side, name) ((side) == BEFORE ? before_bq_##name : bq_##name)
+/* A field of what a call of the library, or of the one before, answers. */
+#define OF(side, name, arguments, field) ((side) == BEFORE ? before_bq_##name arguments.field : bq_##name arguments.field)
 
 enum { QUESTIONS = 4096, PIECE = 65536, MOST_ROUNDS = 64 };
 
@@ -247,7 +293,7 @@ static void make_lent(struct lent *t, int l, int kind)
         int n = sprintf(line, "%s _ -\n", label[kind][i]);
         loader = bq_piece(TABLES(t), t->line, BQ_LINE, loader, (const uint8_t *)line, (size_t)n).loader;
     }
-    if (loader.accepted != 59 || t->words[0] != 64)
+    if (loader.report.accepted != 59 || t->words[0] != 64)
         fail("the labels did not enter");
     for (int i = 0; i < count[l]; i++) {
         t->entries[i] = (uint8_t)rules[l][i].subject;
@@ -380,20 +426,20 @@ static unsigned ask(int side, int l, int kind, const struct question *q, size_t 
 {
     unsigned sum = 0;
     switch (side) {
-#define LIBRARY_SIDE(CALL)                                                                                                                   \
+#define LIBRARY_SIDE(ITS)                                                                                                                    \
     {                                                                                                                                        \
         struct lent *t = &lent[l][kind];                                                                                                     \
         for (size_t i = 0; i < n; i++) {                                                                                                     \
-            bq_decision d = CALL(TABLES(t), q[i].subject, q[i].subject_len, q[i].object, q[i].object_len, q[i].request, q[i].request_len,    \
-                                 false);                                                                                                     \
+            ITS##decision d = ITS##question(TABLES(t), q[i].subject, q[i].subject_len, q[i].object, q[i].object_len, q[i].request,           \
+                                            q[i].request_len, false);                                                                        \
             sum += d.kind * 16u + d.number;                                                                                                  \
         }                                                                                                                                    \
         break;                                                                                                                               \
     }
     case LIBRARY:
-        LIBRARY_SIDE(bq_question)
+        LIBRARY_SIDE(bq_)
     case BEFORE:
-        LIBRARY_SIDE(before_bq_question)
+        LIBRARY_SIDE(before_bq_)
 #define KERNEL_SIDE(CALL, WORLD)                                                                                                             \
     {                                                                                                                                        \
         struct k_world *w = WORLD[l][kind];                                                                                                  \
@@ -517,6 +563,26 @@ static void make_text(int which, int kind, size_t bytes)
     text_lines[which][kind] = lines;
 }
 
+/* The same for the library and for the one before: a text in pieces, and a text into a fresh table. Their names do not begin as those of the calls do,
+ * which are counted. */
+#define FEED(WHICH, ITS)                                                                                                                     \
+    static unsigned feed_##WHICH(struct lent *own, const char *t, size_t n, int which)                                                       \
+    {                                                                                                                                        \
+        ITS##loader loader = ITS##fresh_loader();                                                                                            \
+        for (size_t at = 0; at < n; at += PIECE)                                                                                             \
+            loader = ITS##piece(TABLES(own), own->line, BQ_LINE, loader, (const uint8_t *)t + at, n - at < PIECE ? n - at : PIECE).loader;   \
+        ITS##finished f = ITS##end(TABLES(own), own->line, BQ_LINE, loader);                                                                 \
+        return f.refused ? 0 : which == KNOWN ? f.report.accepted : which == BLANK ? f.report.skipped : f.report.refused;                    \
+    }                                                                                                                                        \
+    static unsigned feed_fresh_##WHICH(struct lent *fresh, const char *t, size_t n)                                                          \
+    {                                                                                                                                        \
+        ITS##fresh_table(TABLES(fresh));                                                                                                     \
+        ITS##taken taken = ITS##piece(TABLES(fresh), fresh->line, BQ_LINE, ITS##fresh_loader(), (const uint8_t *)t, n);                      \
+        return ITS##end(TABLES(fresh), fresh->line, BQ_LINE, taken.loader).report.accepted;                                                  \
+    }
+FEED(library, bq_)
+FEED(before, before_bq_)
+
 /* Feeds a text of `total` bytes in pieces; what is counted of the lines comes back, for all sides the same. */
 static unsigned feed(int side, int which, int kind, size_t total)
 {
@@ -526,14 +592,8 @@ static unsigned feed(int side, int which, int kind, size_t total)
     uint32_t report[6];
     static struct lent fresh;
     if (which != FRESH) {
-        if (is_library(side)) {
-            struct lent *own = &lent_text[kind];
-            bq_loader loader = OF(side, fresh_loader)();
-            for (size_t at = 0; at < n; at += PIECE)
-                loader = OF(side, piece)(TABLES(own), own->line, BQ_LINE, loader, (const uint8_t *)t + at, n - at < PIECE ? n - at : PIECE).loader;
-            bq_finished f = OF(side, end)(TABLES(own), own->line, BQ_LINE, loader);
-            return f.refused ? 0 : which == KNOWN ? f.report.accepted : which == BLANK ? f.report.skipped : f.report.refused;
-        }
+        if (is_library(side))
+            return side == BEFORE ? feed_before(&lent_text[kind], t, n, which) : feed_library(&lent_text[kind], t, n, which);
         if (side == SECOND) {
             struct second *s = second_text[kind];
             for (size_t at = 0; at < n; at += PIECE)
@@ -545,9 +605,7 @@ static unsigned feed(int side, int which, int kind, size_t total)
     }
     for (; done < total; done += n) {
         if (is_library(side)) {
-            OF(side, fresh_table)(TABLES(&fresh));
-            bq_taken taken = OF(side, piece)(TABLES(&fresh), fresh.line, BQ_LINE, OF(side, fresh_loader)(), (const uint8_t *)t, n);
-            counted += OF(side, end)(TABLES(&fresh), fresh.line, BQ_LINE, taken.loader).report.accepted;
+            counted += side == BEFORE ? feed_fresh_before(&fresh, t, n) : feed_fresh_library(&fresh, t, n);
         } else if (side == SECOND) {
             struct second *s = second_new();
             second_piece(s, (const uint8_t *)t, n);
@@ -586,7 +644,7 @@ static unsigned do_changes(int side, int kind)
         const uint8_t *t = (const uint8_t *)change[kind][i];
         size_t n = change_len[kind][i];
         if (is_library(side))
-            done += !OF(side, change)(TABLES(&lent[SPREAD][kind]), t, n).refused;
+            done += !OF(side, change, (TABLES(&lent[SPREAD][kind]), t, n), refused);
         else if (side == SECOND)
             done += second_change(second[SPREAD][kind], t, n) == 0;
         else
@@ -601,7 +659,7 @@ static size_t do_listing(int side, int kind)
     size_t n = 0;
     if (is_library(side))
         for (size_t k = 0; k < 256; k++)
-            n += OF(side, list_rule)(TABLES(&lent[SPREAD][kind]), k, out + n, sizeof out - n).length;
+            n += OF(side, list_rule, (TABLES(&lent[SPREAD][kind]), k, out + n, sizeof out - n), length);
     else if (side == SECOND)
         for (size_t k = 0; k < 256; k++)
             n += second_list(second[SPREAD][kind], k, out + n, sizeof out - n);

@@ -9,6 +9,7 @@
  * Beyond FORMAT.md the driver tests what a second implementation cannot show. Each of these words in an answer is a fault of the library:
  *   astray    a label's part does not lie where label k's place in the lent store is
  *   stray     a field of an answer is not 0 where the header says that it is
+ *   place P   the same of the place: it is P beside an answer that is no refusal with 3
  *   touched   a call wrote into text, labels or records that it was lent to read
  *   against   bq_lowest_in_run and bq_lowest_of disagree, or bq_label_check and bq_label; both answers are given
  *   moved     a refused piece or end call handed back another loader than it was given
@@ -283,6 +284,15 @@ static void read_only(text *t) {
 
 static void put_refused(uint8_t number) { put_word_number("refused", number); }
 
+/* The place of an answer, behind all else of it: it belongs to the number 3 alone. */
+static void put_place(bool refused, uint8_t number, size_t place) {
+    if (refused && number == BQ_BAD_LABEL) {
+        put_word_number("", place);
+    } else if (place != 0) {
+        put_word_number(" place", place);
+    }
+}
+
 static void put_written(bq_written w) {
     if (w.refused) {
         put_refused(w.number);
@@ -290,29 +300,34 @@ static void put_written(bq_written w) {
         put("done");
         if (w.number != 0) put(" stray");
     }
+    put_place(w.refused, w.number, w.place);
 }
 
-static bool same_loader(bq_loader a, bq_loader b) {
-    return a.kept == b.kept && a.lines == b.lines && a.accepted == b.accepted && a.skipped == b.skipped && a.refused == b.refused &&
-           a.first == b.first && a.reason == b.reason;
+static bool same_report(bq_report a, bq_report b) {
+    return a.lines == b.lines && a.accepted == b.accepted && a.skipped == b.skipped && a.refused == b.refused && a.first == b.first &&
+           a.reason == b.reason && a.place == b.place;
 }
 
-static void put_report(bq_report r) {
-    put_word_number("report", r.lines);
+static bool same_loader(bq_loader a, bq_loader b) { return a.kept == b.kept && same_report(a.report, b.report); }
+
+static void put_report_numbers(bq_report r) {
+    put_word_number("", r.lines);
     put_word_number("", r.accepted);
     put_word_number("", r.skipped);
     put_word_number("", r.refused);
     put_word_number("", r.first);
     put_word_number("", r.reason);
+    put_word_number("", r.place);
 }
 
 static void put_finished(bq_finished f, bq_loader before) {
     if (f.refused) {
         put_refused(f.number);
-        if (f.report.lines | f.report.accepted | f.report.skipped | f.report.refused | f.report.first | f.report.reason) put(" stray");
+        if (!same_report(f.report, (bq_report){0})) put(" stray");
         if (!same_loader(f.loader, before)) put(" moved");
     } else {
-        put_report(f.report);
+        put("report");
+        put_report_numbers(f.report);
         if (f.number != 0) put(" stray");
     }
 }
@@ -333,6 +348,7 @@ static void put_mapped(bq_mapped m) {
     } else {
         put_word_number("kind", m.kind);
     }
+    put_place(m.kind == BQ_LOOKUP_REFUSED, m.number, m.place);
 }
 
 static void put_lowest(bq_lowest l) {
@@ -358,6 +374,7 @@ static void put_decision(bq_decision d) {
     }
     put_word_number(kinds[d.kind], d.number);
     if (d.bringup) put(d.kind == BQ_GRANTED ? " b" : " stray");
+    put_place(d.kind == BQ_REFUSED, d.number, d.place);
 }
 
 /* How many bytes were written to a lent output, and the whole output afterwards. */
@@ -420,7 +437,7 @@ static void call_label(uint64_t k) {
     put_written(check);
     if (part.refused != check.refused || part.number != check.number) {
         put(" against ");
-        put_written((bq_written){part.refused, part.number});
+        put_written((bq_written){part.refused, part.number, 0});
     }
     if (check.refused || part.refused) {
         put(part.start == 0 && part.length == 0 ? " -" : " astray");
@@ -440,16 +457,17 @@ static bool call_poke(const char *at, const char *end) {
         if (!read_number(value, &number) || where >= words_len) return false;
         words[where] = number;
     } else if (is(part, "loader")) {
-        if (!read_number(value, &number) || where > 6) return false;
-        if (where != 0 && number > (where == 6 ? UINT8_MAX : UINT32_MAX)) return false;
+        if (!read_number(value, &number) || where > 7) return false;
+        if (where != 0 && where != 7 && number > (where == 6 ? UINT8_MAX : UINT32_MAX)) return false;
         switch (where) {
         case 0: loader.kept = number; break;
-        case 1: loader.lines = (uint32_t)number; break;
-        case 2: loader.accepted = (uint32_t)number; break;
-        case 3: loader.skipped = (uint32_t)number; break;
-        case 4: loader.refused = (uint32_t)number; break;
-        case 5: loader.first = (uint32_t)number; break;
-        default: loader.reason = (uint8_t)number; break;
+        case 1: loader.report.lines = (uint32_t)number; break;
+        case 2: loader.report.accepted = (uint32_t)number; break;
+        case 3: loader.report.skipped = (uint32_t)number; break;
+        case 4: loader.report.refused = (uint32_t)number; break;
+        case 5: loader.report.first = (uint32_t)number; break;
+        case 6: loader.report.reason = (uint8_t)number; break;
+        default: loader.report.place = number; break;
         }
     } else {
         uint8_t *bytes;
@@ -525,12 +543,7 @@ static void call_dump(void) {
         }
     }
     put_word_number(" loader", loader.kept);
-    put_word_number("", loader.lines);
-    put_word_number("", loader.accepted);
-    put_word_number("", loader.skipped);
-    put_word_number("", loader.refused);
-    put_word_number("", loader.first);
-    put_word_number("", loader.reason);
+    put_report_numbers(loader.report);
 }
 
 /* ---- one line */
@@ -580,7 +593,7 @@ static bool call(const char *at, const char *end) {
             bq_loader before = loader;
             bq_taken taken = bq_piece(TABLES, line_part, line_len, loader, t.bytes, t.length);
             loader = taken.loader;
-            put_written((bq_written){taken.refused, taken.number});
+            put_written((bq_written){taken.refused, taken.number, 0});
             if (taken.refused && !same_loader(loader, before)) put(" moved");
             break;
         }
@@ -592,6 +605,7 @@ static bool call(const char *at, const char *end) {
             } else {
                 put_word_number("revoked", counted.count);
             }
+            put_place(counted.refused, counted.number, counted.place);
             if (counted.refused ? counted.count != 0 : counted.number != 0) put(" stray");
             break;
         }

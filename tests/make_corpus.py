@@ -4,20 +4,22 @@ the second implementation the outputs that go with them (NAME.out, NAME.answers)
 
   tests/make_corpus.py
 
-The order is that of 01, the scope paper; then come the old fixed records of 02, request One, and how labels and pairs are found, request Two. What the paper says of a call stands before the call as a
-comment line that tests/corpus_check holds the answers to:
+The order is that of 01, the scope paper; then come the old fixed records of 02, request One, how labels and pairs are found, request Two, and the places of bad bytes, request Three. What the paper says of a
+call stands before the call as a comment line that tests/corpus_check holds the answers to:
 
   # expect: ANSWER              the next call answers exactly this
   # expect: same NAME           the next call answers what the first call so marked in this script answered
   # expect: same tables NAME    of a dump: the same but for the kept line and the loader
   # expect from here: ANSWER    each call answers this, up to the line `# expect from here: any`
 
-These lines are written here from the papers, not taken from a program. What the program says to a small input is given here too, and tested as the corpus
+These lines are written here from the papers, not taken from a program. Where a call is expected to be refused with 3, the place beside it is worked out from its bytes by the short functions
+below, which say what 02, Three, says; the scripts places_* give most places by hand. What the program says to a small input is given here too, and tested as the corpus
 is written. The scripts kernel_*.calls are made of recordings of a running kernel, from the folder named by KERNEL_VECTORS; without it those that are stored
 stay as they are.
 """
 import os
 import random
+import re
 import subprocess
 import sys
 
@@ -43,6 +45,37 @@ def category(n):
     return 1 << (64 - n)
 
 
+def place_of(label):
+    """The place of a label's first bad byte: 0 for an empty label and for a leading dash, 255 for a label that is too long with no earlier fault. None for a label that is well formed."""
+    if label == b"" or label[:1] == b"-":
+        return 0
+    for at, byte in enumerate(label):
+        if at == 255 or byte not in LABEL_BYTES:
+            return at
+    return None
+
+
+def place_in(text, labels):
+    """The place in a line or write of the first bad byte of the first bad label: `labels` of its fields are labels, those in front; None: all are."""
+    for field in list(re.finditer(rb"[^ \t]+", text))[:labels]:
+        if place_of(field.group()) is not None:
+            return field.start() + place_of(field.group())
+    return None
+
+
+def place_said(call):
+    """The place that a call, refused with 3, has beside the number; None for a call that has none."""
+    name, *words = call.split(" ")
+    if name not in ("change", "revoke", "override", "mapping", "bylabel", "question"):
+        return None
+    one, *others = [b"" if word == "-" else word[1:].encode() if word[0] == "=" else bytes.fromhex(word) for word in words[:2]]
+    if name == "question":
+        return place_of(others[0]) if place_of(one) is None else place_of(one)
+    if name in ("revoke", "bylabel"):
+        return place_of(one)
+    return place_in(one, {"change": 2, "mapping": 1, "override": None}[name])
+
+
 def output_says(expect, out):
     """The answer of a call that writes to the front of `out`: `expect` is what it writes, or the number of its refusal, which leaves all of `out`."""
     if isinstance(expect, bytes):
@@ -59,6 +92,9 @@ class Script:
         self.lines.append("# " + text)
 
     def call(self, text, expect=None):
+        """`expect` may be `refused 3` without the place: then it is worked out."""
+        if expect == "refused 3":
+            expect += " %d" % place_said(text)
         if expect is not None:
             self.lines.append("# expect: " + expect)
         self.lines.append(text)
@@ -74,13 +110,16 @@ class Script:
     def piece(self, text, expect="done"):
         self.call("piece " + h(text), expect)
 
-    def end(self, expect=None):
-        self.call("end", expect)
+    def end(self, expect=None, place=0):
+        """`expect` is a report without its last number, the place of the first refused line; or another answer."""
+        self.call("end", "%s %d" % (expect, place) if (expect or "").startswith("report ") else expect)
 
-    def line(self, text, reason):
-        """One whole line. Reason None: accepted; "skipped"; else the number of its refusal."""
+    def line(self, text, reason, place=None):
+        """One whole line. Reason None: accepted; "skipped"; else the number of its refusal. The place beside 3 is worked out where it is not given."""
         self.piece(text + b"\n")
-        self.end("report 1 " + ("1 0 0 0 0" if reason is None else "0 1 0 0 0" if reason == "skipped" else "0 0 1 1 %d" % reason))
+        if reason == 3 and place is None:
+            place = place_in(text, 2)
+        self.end("report 1 " + ("1 0 0 0 0" if reason is None else "0 1 0 0 0" if reason == "skipped" else "0 0 1 1 %d" % reason), place or 0)
 
     def change(self, text, expect="done"):
         self.call("change " + h(text), expect)
@@ -899,11 +938,11 @@ def damage():
         s.end("report " + report)
         s.dump()
     s.say("A newline byte in the kept line is a bad byte of its field.")
-    for line, reason in ((b"A B r\n", 4), (b"A B\n r", 3), (b"A B r \n", 2), (b"\n", 2), (b"A\nB r w", 3)):
+    for line, reason, where in ((b"A B r\n", 4, 0), (b"A B\n r", 3, 3), (b"A B r \n", 2, 0), (b"\n", 2, 0), (b"A\nB r w", 3, 1)):
         s.fresh()
         s.poke("line", 0, line)
         s.poke("loader", 0, len(line))
-        s.end("report 1 0 0 1 1 %d" % reason)
+        s.end("report 1 0 0 1 1 %d" % reason, where)
     s.store()
 
 
@@ -1210,7 +1249,7 @@ def cuts():
     s = Script("cuts_short", "01, Piece: every cut of a short text into two pieces, into three, and byte by byte: the same report, the same state.")
     text = b"A B r\nC  D wb\n A A r\n\nE F q\n G\tH -x"
     s.piece(text)
-    s.call("end", "report 6 3 1 2 3 5")
+    s.end("report 6 3 1 2 3 5")
     for k, listed in enumerate((b"A B r\n", b"C D wb\n", b"G H x\n")):
         s.list(k, listed)
     fed(s, text, [])
@@ -2309,7 +2348,7 @@ def near_loader():
                              (b"A A r\nA B q\nA", "3 0 0 3 1 5")):
             held()
             s.piece(text)
-            s.end("report " + report)
+            s.end("report " + report, 1 if text == b"A/ B r" else 0)
             s.end("report 0 0 0 0 0 0")
     s.say("Lines are refused, and no number stands there: it stays so.")
     for refused in (1, 7, MOST):
@@ -2319,7 +2358,7 @@ def near_loader():
             s.piece(text)
             s.end("report %d 0 %d %d 0 0" % (lines, lines == 2, min(refused + (lines > 0), MOST)))
             s.end("report 0 0 0 0 0 0")
-    s.say("Whatever the seven numbers are, the end call leaves a fresh loader.")
+    s.say("Whatever these seven numbers are, the end call leaves a fresh loader; the place is in places_report.")
     for index in range(7):
         s.fresh()
         s.poke("loader", index, 1)
@@ -3382,6 +3421,538 @@ def searches():
 
 
 # ---------------------------------------------------------------------------------------------------------------------------------------------
+# 02, Three: where the first bad byte is. The places are written by hand; where every byte value is tried, place_of and place_in above work them out.
+# ---------------------------------------------------------------------------------------------------------------------------------------------
+
+def bad(where):
+    return "refused 3 %d" % where
+
+
+def spoilt(length, *others):
+    """A label of that many bytes, with other bytes at some places."""
+    label = bytearray((b"ClimateProbe_StoreNorth_" * 30)[:length])
+    for at, byte in others:
+        label[at] = byte[0]
+    return bytes(label)
+
+
+# Labels and the places of their first bad bytes; None: the label is well formed.
+SPOILT = [(b"", 0), (b"-", 0), (b"--", 0), (b"-Air", 0), (b"-A/r", 0), (b"-/", 0), (b"/", 0), (b"/Air", 0), (b"A/r", 1), (b"Ai/", 2), (b"A//", 1), (b"A/r/", 1), (b"Air", None),
+          (b"A-r", None), (b"Air-", None), (b"A--/", 3), (b"'", 0), (b'A"', 1), (b"A\\", 1), (b"A\x00", 1), (b"\x00A", 0), (b"A\x7f", 1), (b"A\x80r", 1), (b"\xffA", 0), (b"A\xff", 1),
+          (b"A\x1f\x1f", 1), (b"A\r", 1), (b"\n", 0), (b"A\n", 1), (b"\nA", 0), (b"A\x0bB", 1), (b"A\x0cB", 1), (b"A\xa0B", 1), (b"!~", None), (b"A", None),
+          (b" ", 0), (b" A", 0), (b"A ", 1), (b"\tA", 0), (b"A\t", 1), (b"A B", 1), (b"Air B/", 3), (b"Air\t-B", 3),
+          (spoilt(22), None), (spoilt(23), None), (spoilt(24), None), (spoilt(22, (21, b"/")), 21), (spoilt(23, (21, b"/")), 21), (spoilt(23, (22, b"/")), 22), (spoilt(24, (22, b"/")), 22),
+          (spoilt(24, (23, b"/")), 23), (spoilt(25, (23, b"/")), 23), (spoilt(25, (24, b"/")), 24), (spoilt(24, (23, b"/"), (22, b"'")), 22), (spoilt(24, (0, b"-"), (23, b"/")), 0),
+          (spoilt(254), None), (spoilt(254, (253, b"/")), 253), (spoilt(254, (252, b"/")), 252), (spoilt(254, (0, b"/")), 0), (spoilt(254, (0, b"-")), 0),
+          (spoilt(255), None), (spoilt(255, (253, b"/")), 253), (spoilt(255, (254, b"/")), 254), (spoilt(255, (254, b"\xff"), (253, b"\x00")), 253), (spoilt(255, (254, b"-")), None),
+          (spoilt(256), 255), (spoilt(256, (254, b"/")), 254), (spoilt(256, (255, b"/")), 255), (spoilt(256, (255, b"-")), 255), (spoilt(256, (0, b"-")), 0), (spoilt(256, (1, b"-")), 255),
+          (spoilt(256, (254, b"/"), (255, b"/")), 254), (spoilt(257), 255), (spoilt(257, (256, b"/")), 255), (spoilt(257, (255, b" "), (256, b"/")), 255),
+          (spoilt(300), 255), (spoilt(300, (100, b"/")), 100), (spoilt(300, (280, b"/")), 255), (spoilt(300, (280, b"/"), (100, b"'")), 100), (spoilt(300, (253, b"/")), 253),
+          (spoilt(300, (254, b"/")), 254), (spoilt(300, (255, b"/")), 255), (spoilt(300, (256, b"/")), 255), (spoilt(300, (299, b"/")), 255), (spoilt(300, (0, b"-")), 0),
+          (spoilt(300, (0, b"-"), (1, b"/")), 0), (spoilt(300, (1, b"/"), (280, b"/")), 1), (spoilt(511), 255), (spoilt(512, (511, b"/")), 255), (spoilt(513, (256, b"/")), 255),
+          (spoilt(594), 255), (spoilt(596), 255), (spoilt(596, (595, b"/")), 255), (spoilt(596, (200, b"/")), 200), (spoilt(598), 255), (spoilt(598, (254, b"\x00")), 254), (spoilt(599), 255),
+          (spoilt(600), 255), (spoilt(600, (599, b"/")), 255), (spoilt(600, (0, b"/")), 0), (spoilt(600, (1, b"/")), 1), (spoilt(600, (0, b"-")), 0), (spoilt(600, (255, b" ")), 255),
+          (spoilt(600, (254, b" ")), 254)]
+
+
+def places_labels():
+    s = Script("places_labels", "02, Three: the place of a label's first bad byte, in every call that takes a label: empty, a leading dash, too long, and each limit from both sides.", True)
+    s.fresh()
+    s.dump("fresh", True)
+    s.say("Lent labels. A revoke of over 600 bytes is 1; the others take any length.")
+    for label, where in SPOILT:
+        s.revoke(label, "revoked 0" if where is None else bad(where))
+        s.bylabel(label, "none" if where is None else bad(where))
+        s.ask(label, b"_", b"r", "granted 3" if where is None else bad(where))
+        s.ask(b"^", label, b"r", "granted 2" if where is None else bad(where))
+        s.ask(label, label, b"w", "granted 5" if where is None else bad(where), 1)
+    for label, where in ((spoilt(601), 255), (spoilt(601, (9, b"/")), 9), (spoilt(700, (699, b"/")), 255), (spoilt(700, (0, b"-")), 0), (b"L" * 5000, 255), (b"L" * 5000 + b"/", 255),
+                         (b"/" * 5000, 0), (b"L" * 254 + b"/" * 5000, 254), (b"L" * 255 + b"/" * 5000, 255), (b"L" * 65791, 255), (b"L" * 300 + b"/" + b"L" * 65536, 255)):
+        s.revoke(label, "refused 1")
+        s.bylabel(label, bad(where))
+        s.ask(label, b"_", b"r", bad(where))
+        s.ask(b"^", label, b"r", bad(where))
+    s.say("A question: the subject's place where the subject is bad, otherwise the object's; whatever the request and the capability.")
+    for subject, object_, where in ((b"Al/rm", b"Air", 2), (b"Alarm", b"Ai/", 2), (b"Alar/", b"A/r", 4), (b"/", b"Air/", 0), (b"Alarm", b"", 0), (b"", b"Air/", 0), (b"Alarm/", b"", 5),
+                                    (b"", b"", 0), (b"-Alarm", b"Air/", 0), (b"Alarm/", b"-Air", 5), (b"*", b"Ai/", 2), (b"^", b"Air/", 3), (b"A/", b"_", 1), (b"A/", b"*", 1),
+                                    (b"A/", b"A/", 1), (spoilt(256), b"A/", 255), (b"A/", spoilt(256), 1), (spoilt(255), spoilt(256), 255), (spoilt(300, (254, b"/")), spoilt(600), 254),
+                                    (spoilt(255), spoilt(255, (254, b"/")), 254)):
+        for request in (b"r", b"", b"q", b"rwxa"):
+            for capable in (0, 1):
+                s.ask(subject, object_, request, bad(where), capable)
+    s.say("The same labels in lines and writes, where they are no more than a field of one that is not over 600 bytes. None enters.")
+    for label, where in SPOILT:
+        if where is None or label == b"" or b" " in label or b"\t" in label:
+            continue
+        n = len(label)
+        if n <= 594:
+            s.change(label + b" B r -", bad(where))
+            s.change(b"A\t" + label + b" - r", bad(2 + where))
+        if n <= 596 and b"\n" not in label:
+            s.line(label + b" B r", 3, where)
+            s.line(b"A " + label + b" r", 3, 2 + where)
+        if n <= 598:
+            s.mapping(label + b" 9", bad(where))
+            s.override(b"A " + label, bad(2 + where))
+        if label != b"-":
+            s.override(label, bad(where))
+    s.say("A lone dash clears the override list, blanks or not; a dash among others is refused, at its place.")
+    for text in (b"-", b" -", b"\t-  ", b"  \t - "):
+        s.override(text, "done")
+    for text, where in ((b"A -", 2), (b"- A", 0), (b"- -", 0), (b" - -", 1), (b"A - -", 2), (b"A B\t-", 4), (b"--", 0), (b"-\n", 0), (b"A \n", 2), (b"\n -", 0)):
+        s.override(text, bad(where))
+    s.say("The label of 600 bytes in a line or write is a single field, or the text is too long: 2 or 1, without a place. A single field is a list.")
+    for label, where in ((spoilt(600), 255), (spoilt(600, (0, b"/")), 0), (spoilt(600, (255, b"/")), 255), (spoilt(600, (254, b"/")), 254)):
+        s.line(label, 2)
+        s.change(label, "refused 2")
+        s.mapping(label, "refused 2")
+        s.override(label, bad(where))
+        s.line(label + b" B r", 1)
+        s.line(b"A " + label + b" r", 1)
+        s.change(label + b" B r -", "refused 1")
+        s.mapping(label + b" 9", "refused 1")
+        s.override(label + b" ", "refused 1")
+        s.override(b"A " + label, "refused 1")
+    s.say("A newline in a write is a bad byte of its field, or a field of its own.")
+    for text, where in ((b"A\nB C r -", 1), (b"A B\n r -", 3), (b"A \n r -", 2), (b"\n A r -", 0), (b"\nA B r -", 0), (b"A \nB r -", 2), (b"  A\n B\n r -", 3)):
+        s.change(text, bad(where))
+    for text, where in ((b"V\n 9", 1), (b"\n 9", 0), (b" \nV 9", 1), (b"V\n9 9", 1)):
+        s.mapping(text, bad(where))
+    s.dump("fresh", True)
+    s.store()
+
+
+def blanks_before():
+    """Every row of up to three blanks."""
+    return [bytes(32 if k >> i & 1 else 9 for i in range(n)) for n in range(4) for k in range(1 << n)]
+
+
+def places_calls():
+    s = Script("places_calls", "02, Three: the place counts from the first byte of the line or write, blanks too; in a lent label a blank is itself a bad byte. Bad subject, bad object, both.", True)
+    s.fresh()
+    s.dump("fresh", True)
+    for before in blanks_before():
+        n = len(before)
+        s.say("before: %s" % (" ".join("tab" if b == 9 else "space" for b in before) or "nothing"))
+        for between in (b" ", b"\t", b"\t ", b"  \t"):
+            m = len(between)
+            # Alarm has 5 bytes, so the object begins at n + 5 + m; the places in the labels are counted by hand.
+            second = n + 5 + m
+            for subject, object_, where in ((b"Al/rm", b"Air", n + 2), (b"Alarm", b"A'r", second + 1), (b"Al/rm", b"A'r", n + 2), (b"Alar\x00", b"/Air", n + 4), (b"/Alarm", b"Air", n),
+                                            (b"Alarm", b"Air\x7f", second + 3), (b"-Alarm", b"Air", n), (b"Alarm", b"-Air", second), (b"-", b"Air", n), (b"Alarm", b"-", second), (b"-", b"-", n),
+                                            (b"Al\\rm", b"-", n + 2)):
+                s.line(before + subject + between + object_ + between + b"r", 3, where)
+                s.change(before + subject + between + object_ + between + b"r -", bad(where))
+                s.override(before + subject + between + object_, bad(where))
+            s.override(before + b"Alarm" + between + b"Air" + between + b"Do/r", bad(second + 3 + m + 2))
+            s.override(before + b"Alarm" + between + b"Air" + between + b"-", bad(second + 3 + m))
+            s.override(before + b"Alarm" + between + b"Ai/" + between + b"/Door", bad(second + 2))
+            for label, where in ((b"Al/rm", n + 2), (b"-Alarm", n), (b"-", n), (b"/", n), (b"Alarm\xff", n + 5)):
+                s.mapping(before + label + between + b"9", bad(where))
+                s.mapping(before + label + between + b"9" + between + b"1 63" + between, bad(where))
+        for label, where in ((b"Al/rm", 2), (b"-Alarm", 0), (b"Alarm\xff", 5), (b"", 0)):
+            where = 0 if n else where
+            s.revoke(before + label, bad(where))
+            s.bylabel(before + label, bad(where))
+            s.ask(before + label, b"Air", b"r", bad(where))
+            s.ask(b"Alarm", before + label, b"r", bad(where))
+            s.ask(before + label, b"A/", b"r", bad(where))
+            s.ask(b"Alar/", before + label, b"r", bad(4))
+        s.revoke(b"Alarm" + before, bad(5) if n else "revoked 0")
+        s.bylabel(b"Alarm" + before, bad(5) if n else "none")
+        s.ask(b"Alarm" + before, b"_", b"r", bad(5) if n else "granted 3")
+        s.ask(b"^", b"Alarm" + before, b"r", bad(5) if n else "granted 2")
+    s.say("The last places of a line and of writes of 600 bytes; with one blank more it is 1, and without a place.")
+    wide = b" " * 600
+    for text, where in ((wide[:595] + b"/ B r", 595), (b"A" + wide[:596] + b"/ r", 597), (b"A" + wide[:594] + b"B2/ r", 597), (b"\t" * 592 + b"A B/ r--", 595), (wide[:590] + b"ABCDE/ B r", 595)):
+        assert len(text) == 600
+        s.line(text, 3, where)
+        s.line(b" " + text, 1)
+        if text[:1] in b" \t":
+            s.line(text[1:], 3, where - 1)
+    for text, where in ((wide[:593] + b"/ B r -", 593), (b"A" + wide[:594] + b"/ r -", 595), (wide[:592] + b"A -B r -", 594)):
+        assert len(text) == 600
+        s.change(text, bad(where))
+        s.change(b" " + text, "refused 1")
+    for text, where in ((wide[:599] + b"/", 599), (b"A" + wide[:598] + b"-", 599), (b"A " * 299 + b"A/", 599), (wide[:344] + spoilt(256), 599), (wide[:345] + spoilt(255, (254, b"/")), 599)):
+        assert len(text) == 600
+        s.override(text, bad(where))
+        s.override(b" " + text, "refused 1")
+    for text, where in ((wide[:597] + b"/ 9", 597), (wide[:342] + spoilt(256) + b" 9", 597), (b"/" + wide[:598] + b"9", 0), (b"A/ 9" + b" 1" * 298, 1)):
+        assert len(text) == 600
+        s.mapping(text, bad(where))
+        s.mapping(b" " + text, "refused 1")
+    s.dump("fresh", True)
+    s.store()
+
+
+def says_rule(text):
+    """What 01 says of a line with labels that do not fill the table: the reason, or None."""
+    f = cut(text)
+    if len(text) > 600:
+        return 1
+    if len(f) != 3:
+        return 2
+    if not (is_label(f[0]) and is_label(f[1])):
+        return 3
+    if not is_access(f[2], b"rwxatb"):
+        return 4
+    return 5 if f[0] == f[1] else None
+
+
+def places_bytes():
+    """Every byte value at the places 0, 1, 254, 255 and 256 of labels of 1, 255, 256, 300 and 600 bytes. A label of one byte goes to every call; with the others the calls take turns, so that each
+    call meets each value, and each value at each place of each length goes to some call."""
+    turn = 0
+    for length in (1, 255, 256, 300, 600):
+        s = Script("places_bytes_%d" % length, "02, Three: every byte value at the places 0, 1, 254, 255, 256 of a label of %d bytes." % length, True)
+        s.fresh()
+
+        def write(name, text, answer):
+            s.call(name + " " + h(text), answer)
+            if answer == "done":
+                s.call("fresh", "done")
+
+        def line(text):
+            if b"\n" not in text:
+                s.line(text, says_rule(text))
+                if says_rule(text) is None:
+                    s.call("fresh", "done")
+        lent = [lambda label: s.revoke(label, "revoked 0" if is_label(label) else "refused 3"),
+                lambda label: s.bylabel(label, "none" if is_label(label) else "refused 3"),
+                lambda label: s.ask(label, b"_", b"r", {b"*": "denied 1", b"^": "granted 2"}.get(label, "granted 3") if is_label(label) else "refused 3"),
+                lambda label: s.ask(b"^", label, b"r", "granted 2" if is_label(label) else "refused 3")]
+        fields = [lambda label: line(label + b" Air r"), lambda label: line(b"\tAir " + label + b"\tr"),
+                  lambda label: write("change", label + b" Air r -", says_change(label + b" Air r -")), lambda label: write("change", b"Air  " + label + b" r -", says_change(b"Air  " + label + b" r -")),
+                  lambda label: write("override", b"Air " + label, says_override(b"Air " + label)), lambda label: write("mapping", b" " + label + b" 9", says_mapping(b" " + label + b" 9"))]
+        if length == 600:
+            # A line, a change or a mapping has no room for it: see places_labels.
+            fields = [lambda label: write("override", label, says_override(label))]
+        calls = lent + fields
+        for at in (0, 1, 254, 255, 256):
+            if at >= length:
+                continue
+            s.say("place %d" % at)
+            for byte in range(256):
+                label = spoilt(length, (at, bytes([byte])))
+                for call in calls if length == 1 else [calls[(byte + turn) % len(calls)]]:
+                    call(label)
+            turn += 1
+        s.store()
+
+
+def places_cuts():
+    s = Script("places_cuts", "02, Three: the place of the first refused line is the same however its text was cut, and whatever is asked or written between the pieces.", True)
+    text = b"A B r\n \t Al/rm Air r\n\nAir -B r\nA"
+    first = ("report 5 1 1 3 2 3", 5)
+
+    def feed(pieces, between=None):
+        s.fresh()
+        for piece in pieces:
+            s.piece(piece)
+            if between is not None:
+                between()
+        s.end(*first)
+    feed([text])
+    s.dump("state")
+    s.say("every cut into two pieces")
+    for cut_ in range(len(text) + 1):
+        feed([text[:cut_], text[cut_:]])
+        s.dump("state")
+    s.say("every cut into three pieces of the lines that are refused")
+    for one in range(6, 33):
+        for two in range(one, 33):
+            feed([text[:one], text[one:two], text[two:]])
+    s.dump("state")
+    s.say("byte by byte, with questions, look-ups and single writes between, refused at other places or not at all")
+
+    def asked():
+        s.ask(b"A", b"Unseen/", b"r", bad(6))
+        s.ask(b"A", b"Unseen", b"r", "denied 7")
+
+    def written():
+        s.change(b"   A/ B r -", bad(4))
+        s.override(b"A B -", bad(4))
+        s.mapping(spoilt(256) + b" 9", bad(255))
+        s.revoke(b"", bad(0))
+        s.bylabel(b"Al/", bad(2))
+    feed([text[k:k + 1] for k in range(len(text))], asked)
+    s.dump("state")
+    feed([text[k:k + 1] for k in range(len(text))], written)
+    s.dump("state")
+
+    def acted():
+        s.change(b"A B w -")
+        s.mapping(b"B 9")
+    feed([text[k:k + 3] for k in range(0, len(text), 3)], acted)
+    feed([text[:12], text[12:]], acted)
+    s.say("A label that is too long, cut at every byte.")
+    long = b"\t" + spoilt(256) + b" B r"
+    for cut_ in range(len(long) + 1):
+        s.piece(long[:cut_])
+        s.piece(long[cut_:] + b"\n")
+        s.end("report 1 0 0 1 1 3", 256)
+    s.say("A line of 600 bytes with its bad byte at 597; one of 601 has none; cut around its limits.")
+    wide = b"A" + b" " * 596 + b"/ r"
+    for cut_ in (0, 1, 2, 254, 255, 256, 257, 511, 512, 513, 595, 596, 597, 598, 599, 600):
+        s.piece(wide[:cut_])
+        s.piece(wide[cut_:])
+        s.end("report 1 0 0 1 1 3", 597)
+        s.piece(wide[:cut_])
+        s.piece(wide[cut_:] + b"\nA/ B r\n")
+        s.end("report 2 0 0 2 1 3", 597)
+        s.piece(wide[:cut_] + b" ")
+        s.piece(wide[cut_:] + b"\nA/ B r\n")
+        s.end("report 2 0 0 2 1 1")
+    s.say("A line that was kept before the call: its bytes are judged with those that come.")
+    s.fresh()
+    for line, where in ((b" Al/rm Air r", 3), (b"Alarm  -Air r", 7), (b"\t\tAlarm Air\xff r", 11)):
+        for kept in range(len(line) + 1):
+            s.poke("line", 0, line[:kept] + b"/" * (600 - kept))
+            s.poke("loader", 0, kept)
+            s.piece(line[kept:])
+            s.end("report 1 0 0 1 1 3", where)
+    s.store()
+
+
+def places_report():
+    s = Script("places_report", "02, Three: the report keeps the place of the first refused line, 0 if that is not a 3.", True)
+    s.fresh()
+    s.dump("fresh")
+    texts = ((b"A B\nA B/ r\n", "2 0 0 2 1 2", 0), (b"A B/ r\nA B\n", "2 0 0 2 1 3", 3), (b"A B\nA B/ r", "2 0 0 2 1 2", 0), (b"A B/ r\nA B", "2 0 0 2 1 3", 3),
+             (b"-A B r\nA B/ r\n", "2 0 0 2 1 3", 0), (b"/ B r\nA B/ r\n", "2 0 0 2 1 3", 0), (b"- B r\n  A/ B r\nA B/ r\n", "3 0 0 3 1 3", 0), (b"A B/ r\n-A B r\n", "2 0 0 2 1 3", 3),
+             (b"A B/ r\nA/ B r\nABC/ B r\n", "3 0 0 3 1 3", 3), (b"A/ B r\nABCDE/ B r\n", "2 0 0 2 1 3", 1), (b"A B q\nA/ B r", "2 0 0 2 1 4", 0), (b"A/ B q\nA B q", "2 0 0 2 1 3", 1),
+             (b"A A r\nA/ B r\n", "2 0 0 2 1 5", 0), (b"A/ A/ r\nA A r\n", "2 0 0 2 1 3", 1), (b" " * 601 + b"\nA/ B r\n", "2 0 0 2 1 1", 0), (b"A/" + b" " * 600 + b"\nA/ B r\n", "2 0 0 2 1 1", 0),
+             (b" A/ B r\n" + b" " * 601, "2 0 0 2 1 3", 2), (b"A B r\n\n \n  A/ B r\nA B r\n A B/ r\n", "6 2 2 2 4 3", 3), (b"A/ B r\nA B r\n", "2 1 0 1 1 3", 1), (b"A B r\nAl/rm B r", "2 1 0 1 2 3", 2),
+             (b"A B r\nA B w\n", "2 2 0 0 0 0", 0), (b"\n\n", "2 0 2 0 0 0", 0), (b"", "0 0 0 0 0 0", 0), (b"A/", "1 0 0 1 1 2", 0), (b"/", "1 0 0 1 1 2", 0), (b"A/ B r w\n", "1 0 0 1 1 2", 0),
+             (b"A B/ r", "1 0 0 1 1 3", 3), (b"\n A B r\nA B " + b"r" * 50 + b"\n\t" + spoilt(300) + b" B r\n", "4 2 1 1 4 3", 256), (b"A B r\n" + spoilt(596, (300, b"/")) + b" B r", "2 1 0 1 2 3", 255))
+    s.say("The text alone; the same after a text with a place, one with another reason and one without a refusal; and a report of zeros behind each.")
+    for text, report, where in texts:
+        s.piece(text)
+        s.end("report " + report, where)
+        s.end("report 0 0 0 0 0 0")
+    for text, report, where in texts:
+        for before, first, at in ((b"Alarm Air/ r\n", "1 0 0 1 1 3", 9), (b"Alarm Air q\n", "1 0 0 1 1 4", 0), (b"Alarm Air r\n", "1 1 0 0 0 0", 0)):
+            s.piece(before)
+            s.end("report " + first, at)
+            s.piece(text)
+            s.end("report " + report, where)
+    s.say("A fresh loader in place of an end call: the place is gone.")
+    s.piece(b"Alarm Air/ r\n")
+    s.call("freshloader", "done")
+    s.end("report 0 0 0 0 0 0")
+    s.piece(b"Alarm Air/ r\n")
+    s.call("freshloader", "done")
+    s.piece(b"A B\n")
+    s.end("report 1 0 0 1 1 2")
+    s.say("A fresh table leaves the loader: its place stays.")
+    s.piece(b"Alarm Air/ r\n")
+    s.call("fresh", "done")
+    s.piece(b"A B\n")
+    s.call("freshen", "done")
+    s.end("report 2 0 0 2 1 3", 9)
+    s.say("Refused calls leave the place; so do questions and writes.")
+    s.piece(b"Alarm Air/ r\nA B")
+    s.dump("held")
+    s.poke("words", 0, 65)
+    s.piece(b"/ r\n-A B r\n", "refused 0")
+    s.end("refused 0")
+    s.poke("words", 0, 5)
+    s.dump("held")
+    s.ask(b"A", b"Bcd/", b"r", bad(3))
+    s.change(b"A", "refused 2")
+    s.revoke(b"A/", bad(1))
+    s.dump("held")
+    s.piece(b"\n")
+    s.end("report 2 0 0 2 1 3", 9)
+    s.say("Full tables: a first line that is refused with 6 or with 7 has no place; a bad label in them has.")
+    full(s, 64, 256, 0)
+    for text, report, where in ((b"New1 New2 r\nA/ B r\n", "2 0 0 2 1 6", 0), (b"L20 L19 r\nA/ B r\n", "2 0 0 2 1 7", 0), (b"New1 New2/ r\nNew1 New2 r\n", "2 0 0 2 1 3", 9),
+                                (b"L20 L19/ r\nL20 L19 r\n", "2 0 0 2 1 3", 7), (b"L05 L06 w\nL20/ L19 r", "2 1 0 1 2 3", 3)):
+        s.piece(text)
+        s.end("report " + report, where)
+
+    s.say("A place that a host has put there: while lines are refused it is kept as it is; a first refused line brings its own, 0 if it is no 3; other lines leave it.")
+    for where in (0, 1, 2, 255, 600, 601, 65536, MOST, MOST + 1, MOST + 2, HUGE - 1, HUGE):
+        s.fresh()
+        s.poke("loader", 7, where)
+        s.end("report 0 0 0 0 0 0", where)
+        s.dump("fresh")
+        s.poke("loader", 7, where)
+        s.piece(b"A B r\n\n")
+        s.end("report 2 1 1 0 0 0", where)
+        for text, report, own in ((b"A B/ r\n", "1 0 0 1 1 3", 3), (b"A B/ r", "1 0 0 1 1 3", 3), (b"-A B r\n", "1 0 0 1 1 3", 0), (b"A A r\n", "1 0 0 1 1 5", 0), (b"A", "1 0 0 1 1 2", 0),
+                                  (b" " * 601, "1 0 0 1 1 1", 0), (b"\nA B q\nA B/ r\n", "3 0 1 2 2 4", 0)):
+            s.poke("loader", 7, where)
+            s.piece(text)
+            s.end("report " + report, own)
+        for refused in (1, 2, MOST - 1, MOST):
+            for reason in (3, 4, 0, 255):
+                for text, lines in ((b"", 0), (b"A B/ r\n", 1), (b"A B/ r", 1), (b"A A r\n", 1)):
+                    if refused > 1 and (reason != 3 or lines == 0):
+                        continue
+                    s.poke("loader", 4, refused)
+                    s.poke("loader", 5, 7)
+                    s.poke("loader", 6, reason)
+                    s.poke("loader", 7, where)
+                    s.piece(text)
+                    s.end("report %d 0 0 %d 7 %d" % (lines, min(refused + lines, MOST), reason), where)
+    s.say("The counts stop at 4294967295; the place is the true one beside them.")
+    for start in (MOST - 2, MOST - 1, MOST):
+        for text, where in ((b"A B/ r\n", 3), (b"\n  A/ B r", 3), (b"A" + b" " * 595 + b"/ r", 596), (b"A B q\nA/ B r\n", 0)):
+            s.fresh()
+            s.poke("loader", 1, start)
+            s.piece(text)
+            lines = text.count(b"\n") + (text[-1:] != b"\n")
+            first = 2 if text[:1] == b"\n" else 1
+            s.end("report %d 0 %d %d %d %d" % (min(start + lines, MOST), first - 1, lines - first + 1, min(start + first, MOST), 4 if b"q" in text else 3), where)
+    s.say("Every line of a long text but one is fine; then every line but one is refused, each at another place.")
+    s.fresh()
+    s.piece(b"A B r\n" * 500 + b"   Al/rm B r\n" + b"A B r\n" * 500)
+    s.end("report 1001 1000 0 1 501 3", 5)
+    s.piece(b"".join(b" " * k + b"A/ B r\n" for k in range(40, 0, -1)) + b"A B r")
+    s.end("report 41 1 0 40 1 3", 41)
+    s.store()
+
+
+def places_beside():
+    s = Script("places_beside", "02, Three: a place goes with 3 alone. Each call where 3 meets the other numbers, in each order; and answers behind a 3, which have none.", True)
+    s.say("0 comes before 3 and has no place: each kind of damage.")
+    for part, at, value, sound in (("words", 0, 65, 9), ("words", 1, 257, 3), ("words", 2, 33, 2), ("words", 3, 9, 2), ("entries", 0, b"\x09", b"\x05"), ("entries", 512, b"\x40", b"\x20"),
+                                   ("words", 4, 1, category(1) | category(63))):
+        small_state(s)
+        s.poke(part, at, value)
+        s.change(b"A/ B r -", "refused 0")
+        s.change(b"  A -B r -", "refused 0")
+        s.override(b"A/ B", "refused 0")
+        s.mapping(b"A/ 9", "refused 0")
+        for label in (b"A/", b"-A", b"", spoilt(256), spoilt(601)):
+            s.revoke(label, "refused 0")
+            s.bylabel(label, "refused 0")
+            s.ask(label, b"B", b"r", "refused 0")
+            s.ask(b"B", label, b"r", "refused 0", 1)
+        s.piece(b"/ B r\nA/ B r\n", "refused 0")
+        s.end("refused 0")
+        s.poke(part, at, sound)
+        s.change(b"A/ B r -", bad(1))
+        s.override(b"A/ B", bad(1))
+        s.mapping(b"A/ 9", bad(1))
+        s.revoke(b"A/", bad(1))
+        s.bylabel(b"A/", bad(1))
+        s.ask(b"A/", b"B", b"r", bad(1))
+        s.ask(b"B", b"A/", b"r", bad(1), 1)
+        s.say("`A ` is kept, and A A r was refused before: 5 stays the reason, and there is no place")
+        s.piece(b"B/ r\n")
+        s.end("report 5 3 0 2 4 5")
+    for part, size in (("labels", 16383), ("entries", 841), ("words", 35), ("line", 599)):
+        s.fresh()
+        s.call("resize %s %d" % (part, size), "done")
+        s.piece(b"A/ B r\n", "refused 0")
+        s.end("refused 0")
+        s.change(b"A/ B r -", bad(1) if part == "line" else "refused 0")
+        s.revoke(b"A/", bad(1) if part == "line" else "refused 0")
+        s.override(b"A/ B", bad(1) if part == "line" else "refused 0")
+        s.mapping(b"A/ 9", bad(1) if part == "line" else "refused 0")
+        s.bylabel(b"A/", bad(1) if part == "line" else "refused 0")
+        s.ask(b"A/", b"B", b"r", bad(1) if part == "line" else "refused 0")
+    s.say("1 and 2 come before 3 and have no place.")
+    s.fresh()
+    pad = b" " * 600
+    for text in (b"A/ B r" + pad, pad + b"A/ B r", b"/" * 601, b"-A B r" + pad, spoilt(601), spoilt(300) + b" " + spoilt(300) + b" r"):
+        s.line(text, 1)
+        s.change(text, "refused 1")
+        s.override(text, "refused 1")
+        s.mapping(text, "refused 1")
+        s.revoke(text, "refused 1")
+    for text in (b"A/", b"-", b"A/ B", b"A B/", b"A/ B/ r w", b"- - - -", spoilt(256), b"A " + spoilt(256), b"/ / / / /"):
+        s.line(text, 2)
+    for text in (b"A/", b"A/ B", b"A B/ r", b"A/ B/ r r r", spoilt(256), b"- - -", b"- - - - -"):
+        s.change(text, "refused 2")
+    for text in (b"A/", b"-", b" \t-A ", spoilt(256), spoilt(600)):
+        s.mapping(text, "refused 2")
+    s.say("3 comes before 4 5 8 9 and 11, with its place; each of these alone has none.")
+    for line, change, where in ((b"A/ B q", b"A/ B q -", 1), (b"A B/ q", b"A B/ - q", 3), (b"A/ A/ r", b"A/ A/ r -", 1), (b"A/ A/ q", b"A/ A/ b b", 1), (b" A A/ q", b" A A/ q q", 4)):
+        s.line(line, 3, where)
+        s.change(change, bad(where))
+    for line, change, number in ((b"A B q", b"A B q -", 4), (b"A B r/", b"A B - r/", 4), (b"A A r", b"A A r -", 5), (b"A A q", b"A A q -", 4)):
+        s.line(line, number)
+        s.change(change, "refused %d" % number)
+    for request in (b"", b"q", b"rt", b"/"):
+        s.ask(b"A/", b"B", request, bad(1))
+        s.ask(b"A", b"Bc/", request, bad(2))
+        s.ask(b"A", b"B", request, "refused 8")
+    for text, answer in ((b"A/ 256", bad(1)), (b"A/ x", bad(1)), (b"A/ 9 64", bad(1)), (b" -A 9 0", bad(1)), (b"A 256", "refused 9"), (b"A 9 0", "refused 9"), (b"A /", "refused 9"), (b"A 9 /", "refused 9")):
+        s.mapping(text, answer)
+    nine = b" ".join(b"N%d" % k for k in range(9))
+    for text, answer in ((nine, "refused 11"), (nine + b" A/", bad(28)), (b"A/ " + nine, bad(1)), (nine + b" -", bad(27)), (nine[:14] + b" - " + nine[15:], bad(15))):
+        s.override(text, answer)
+    s.say("3 comes before 6, 7 and 10, in full tables.")
+    full(s, 64, 256, 32)
+    s.dump("full", True)
+    for line, change, where in ((b"New1/ L05 r", b"New1/ L05 r -", 4), (b"New1 New2/ r", b"New1 New2/ r -", 9), (b"L20/ L19 r", b"L20/ L19 r -", 3), (b"L20 L19\x00 r", b"L20 L19\x00 r -", 7)):
+        s.line(line, 3, where)
+        s.change(change, bad(where))
+    for line, change, number in ((b"New1 L05 r", b"New1 L05 r -", 6), (b"New1 New2 r", b"New1 New2 r -", 6), (b"L20 L19 r", b"L20 L19 r -", 7)):
+        s.line(line, number)
+        s.change(change, "refused %d" % number)
+    for text, answer in ((b"New1 New2/", bad(9)), (b"New1", "refused 6"), (b"L05 New1 -", bad(9)), (b"L05 New1", "refused 6")):
+        s.override(text, answer)
+    for text, answer in ((b"New1/ 9", bad(4)), (b"New1 9", "refused 6"), (b"L40/ 9", bad(3)), (b"L40 9", "refused 10"), (b"-L40 9", bad(0))):
+        s.mapping(text, answer)
+    s.dump("full", True)
+    s.say("Behind a 3 with a place far on, each answer that is no 3 has none; and a 3 at place 0 says 0.")
+    s.fresh()
+    s.line(b"A B rb", None)
+    far = b" " * 300 + b"A B" + b" " * 200 + b"/"
+    other = [("change", b"A B w -", "done"), ("change", b"A B q -", "refused 4"), ("change", b"A B", "refused 2"), ("change", b"-A B r -", bad(0)), ("override", b"A B", "done"),
+             ("override", b"-", "done"), ("override", b"", "refused 2"), ("override", b"- A", bad(0)), ("mapping", b"A 9 1", "done"), ("mapping", b"A 256", "refused 9"), ("mapping", b"- 9", bad(0)),
+             ("revoke", b"A", "revoked 1"), ("revoke", b"Unseen", "revoked 0"), ("revoke", b"A" * 601, "refused 1"), ("revoke", b"", bad(0)), ("bylabel", b"A", "mapping 9 %d 1" % category(1)),
+             ("bylabel", b"B", "none"), ("bylabel", b"", bad(0)), ("freshen", None, "done")]
+    for name, text, answer in other:
+        for spoil in (0, 1):
+            if spoil:
+                s.override(far, bad(503))
+            else:
+                s.bylabel(spoilt(300), bad(255))
+            s.call(name if text is None else name + " " + h(text), answer)
+    s.line(b"A B rb", None)
+    for subject, object_, request, answer in ((b"A", b"B", b"r", "granted 6 b"), (b"A", b"B", b"w", "denied 7"), (b"*", b"B", b"w", "denied 1"), (b"A", b"A", b"w", "granted 5"), (b"A", b"B", b"q", "refused 8"),
+                                              (b"", b"B", b"r", bad(0)), (b"A", b"-", b"r", bad(0))):
+        for capable in (0, 1):
+            s.ask(spoilt(300), b"B", b"r", bad(255))
+            s.ask(subject, object_, request, "override" + answer[6:] if capable and answer.startswith("denied") else answer, capable)
+    s.say("Labels of 23 and 24 bytes: what an old record has no place for is a label all the same.")
+    s.fresh()
+    s.line(spoilt(23) + b" " + spoilt(24) + b" r", None)
+    s.line(spoilt(23, (22, b"/")) + b" " + spoilt(24) + b" r", 3, 22)
+    s.line(spoilt(23) + b" " + spoilt(24, (23, b"/")) + b" r", 3, 47)
+    s.line(spoilt(24, (23, b"/")) + b" " + spoilt(23, (22, b"/")) + b" r", 3, 23)
+    s.change(spoilt(24) + b" " + spoilt(23, (22, b"/")) + b" r -", bad(47))
+    s.say("The two calls for old records tell no place.")
+    for text in (b"A/ B r", b"  A B/ r\n", b"-A B r", spoilt(256) + b" B r"):
+        s.to_record(text, 3)
+    s.to_line(fixed(b"Al/rm", b"Air", b"rwxat"), 3)
+    s.to_line(fixed(b"Alarm", b"-Air", b"rwxat"), 3)
+    s.store()
+
+
+def places_program():
+    lines = [b"A/ B r", b"   A B/ r", b"-A B r", b"A - r", spoilt(256) + b" B r", b"A " + spoilt(300, (100, b"/")) + b" r", b"A/ B", b"A/ B r" + b" " * 600, b"A/ B/ q", b"A B r"]
+    program("program_places", b"".join(line + b"\n" for line in lines) + b"?\n" + b"".join(line + b"\n" for line in lines),
+            ["10 1 0 9 1 3"] + ["refused 3"] * 6 + ["refused 2", "refused 1", "refused 3", "granted 6"])
+
+
+def places():
+    places_labels()
+    places_calls()
+    places_bytes()
+    places_cuts()
+    places_report()
+    places_beside()
+    places_program()
+
+
+# ---------------------------------------------------------------------------------------------------------------------------------------------
 # Recordings of a running kernel, where 01 does not decide otherwise
 # ---------------------------------------------------------------------------------------------------------------------------------------------
 
@@ -3527,6 +4098,7 @@ def main():
     near()
     records()
     searches()
+    places()
     folder = os.environ.get("KERNEL_VECTORS")
     if folder:
         kernel(folder)

@@ -1,5 +1,6 @@
-//! A plain reference: the paper 01 ("What is to be built") and request One of
-//! the paper 02 ("Old fixed records") said again as code.
+//! A plain reference: the paper 01 ("What is to be built") and the requests One
+//! ("Old fixed records") and Three ("Where is the bad byte?") of the paper 02
+//! said again as code. Request Two changes no answer.
 //!
 //! - `plain`: the tables, the loader and every call of the papers. Nothing here
 //!   can be damaged, so refusal 0 does not occur.

@@ -19,6 +19,7 @@ fn main() -> ExitCode {
                 [] => Kind::Every,
                 ["records"] => Kind::Records,
                 ["searches"] => Kind::Searches,
+                ["places"] => Kind::Places,
                 _ => return usage(),
             };
             match (seed.parse(), count.parse()) {
@@ -39,7 +40,7 @@ fn main() -> ExitCode {
 
 fn usage() -> ExitCode {
     eprintln!(
-        "usage: second program | second script | second random SEED COUNT [records | searches]"
+        "usage: second program | second script | second random SEED COUNT [records | searches | places]"
     );
     ExitCode::FAILURE
 }

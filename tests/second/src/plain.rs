@@ -2,7 +2,8 @@
 //!
 //! Words in quotes are the paper's. The order of this file is the paper's:
 //! labels, modes, rule text, single writes, look-ups, questions, listing; then
-//! the requests of 02 that are built: One, old fixed records.
+//! request One of 02, old fixed records. The places of request Three stand with
+//! the labels, fields and calls that they belong to.
 //! A table here is never damaged; see `raw` for lent memory and refusal 0.
 
 /// "The label table holds 64 labels".
@@ -20,48 +21,75 @@ pub const LINE_LIMIT: usize = 600;
 /// "Each number is the true one or 4,294,967,295, whichever is smaller."
 pub const REPORT_LIMIT: u64 = 4_294_967_295;
 
-/// "The refusal numbers". The number of each case stands beside it.
+/// "The refusal numbers". The number of each case is given by `number`.
 #[derive(Clone, Copy, PartialEq, Eq, Debug)]
 pub enum Refusal {
-    /// 0: the lent state is damaged. Given only by the calls of `raw`.
-    Damaged = 0,
-    /// 1: "a line or write has over 600 bytes".
-    TooLong = 1,
-    /// 2: "wrong number of fields".
-    WrongFields = 2,
-    /// 3: "a label is not well formed".
-    BadLabel = 3,
-    /// 4: "an access field has a byte not allowed there".
-    BadAccess = 4,
-    /// 5: "subject equals object".
-    SameLabels = 5,
-    /// 6: "more new labels than free label places".
-    NoLabelPlace = 6,
-    /// 7: "the pair has no rule and 256 are stored".
-    NoRulePlace = 7,
-    /// 8: "the request is empty or has another byte".
-    BadRequest = 8,
-    /// 9: "a level or category is not as above".
-    BadLevelOrCategory = 9,
-    /// 10: "the label has no mapping and 32 are stored".
-    NoMappingPlace = 10,
-    /// 11: "over 8 different labels in an override list".
-    TooManyOverrideLabels = 11,
-    /// 12: "lent output too short".
-    OutputTooShort = 12,
-    /// 13: "no rule or label of that number".
-    NoSuchNumber = 13,
-    /// 14: "a length other than 53, a label place that is all spaces, has
-    /// another byte after a space or doesn't end in a space".
-    BadRecord = 14,
-    /// 15: "a label over 23 bytes or a b".
-    NotInARecord = 15,
+    /// "the lent state" is damaged. Given only by the calls of `raw`.
+    Damaged,
+    /// "a line or write has over 600 bytes".
+    TooLong,
+    /// "wrong number of fields".
+    WrongFields,
+    /// "a label is not well formed"; beside the number goes the place "in the
+    /// line, write or lent label, for the first bad label in order". No other
+    /// refusal has a place.
+    BadLabel { place: usize },
+    /// "an access field has a byte not allowed there".
+    BadAccess,
+    /// "subject equals object".
+    SameLabels,
+    /// "more new labels than free label places".
+    NoLabelPlace,
+    /// "the pair has no rule and 256 are stored".
+    NoRulePlace,
+    /// "the request is empty or has another byte".
+    BadRequest,
+    /// "a level or category is not as above".
+    BadLevelOrCategory,
+    /// "the label has no mapping and 32 are stored".
+    NoMappingPlace,
+    /// "over 8 different labels in an override list".
+    TooManyOverrideLabels,
+    /// "lent output too short".
+    OutputTooShort,
+    /// "no rule or label of that number".
+    NoSuchNumber,
+    /// "a length other than 53, a label place that is all spaces, has another
+    /// byte after a space or doesn't end in a space".
+    BadRecord,
+    /// "a label over 23 bytes or a b".
+    NotInARecord,
 }
 
 impl Refusal {
     /// The number that the paper gives to this refusal.
     pub fn number(self) -> u8 {
-        self as u8
+        match self {
+            Refusal::Damaged => 0,
+            Refusal::TooLong => 1,
+            Refusal::WrongFields => 2,
+            Refusal::BadLabel { .. } => 3,
+            Refusal::BadAccess => 4,
+            Refusal::SameLabels => 5,
+            Refusal::NoLabelPlace => 6,
+            Refusal::NoRulePlace => 7,
+            Refusal::BadRequest => 8,
+            Refusal::BadLevelOrCategory => 9,
+            Refusal::NoMappingPlace => 10,
+            Refusal::TooManyOverrideLabels => 11,
+            Refusal::OutputTooShort => 12,
+            Refusal::NoSuchNumber => 13,
+            Refusal::BadRecord => 14,
+            Refusal::NotInARecord => 15,
+        }
+    }
+
+    /// The place beside the number: 0 for every number but 3.
+    pub fn place(self) -> usize {
+        match self {
+            Refusal::BadLabel { place } => place,
+            _ => 0,
+        }
     }
 }
 
@@ -104,6 +132,29 @@ pub fn is_well_formed(label: &[u8]) -> bool {
         return false;
     }
     label.iter().all(|&byte| class_of(byte) == Class::Label)
+}
+
+/// Of a label that is not well formed, "the place of its first bad byte": "0 for
+/// a leading dash, 255 for a label that is too long with no earlier fault, 0 for
+/// an empty one".
+fn first_bad_byte(label: &[u8]) -> usize {
+    if label.is_empty() || label[0] == b'-' {
+        return 0;
+    }
+    let allowed = label.iter().take(LABEL_LIMIT);
+    let good = allowed.take_while(|&&byte| class_of(byte) == Class::Label);
+    // Where all of the first 255 are good, the label is too long.
+    good.count()
+}
+
+/// The label check of a label that begins at `start` of a line or write, or at 0
+/// of a lent label. Refusal 3.
+pub fn check_label(label: &[u8], start: usize) -> Result<(), Refusal> {
+    if is_well_formed(label) {
+        return Ok(());
+    }
+    let place = start + first_bad_byte(label);
+    Err(Refusal::BadLabel { place })
 }
 
 // ---------------------------------------------------------------------------
@@ -245,14 +296,31 @@ fn read_category(field: &[u8]) -> Option<u64> {
 // Fields
 // ---------------------------------------------------------------------------
 
+/// A field, and the place of its first byte in the line or write.
+#[derive(Clone, Copy, PartialEq, Eq, Debug)]
+pub struct Field<'a> {
+    pub bytes: &'a [u8],
+    pub start: usize,
+}
+
+impl Field<'_> {
+    /// The label check, its place told "as a place in the line, write".
+    fn check_label(&self) -> Result<(), Refusal> {
+        check_label(self.bytes, self.start)
+    }
+}
+
 /// "fields with one or more blanks between; blanks before and after are
 /// allowed": a field is a longest run of bytes that are not blanks.
-pub fn fields(line: &[u8]) -> Vec<&[u8]> {
+pub fn fields(line: &[u8]) -> Vec<Field<'_>> {
     let mut found = Vec::new();
+    let mut start = 0;
     for part in line.split(|&byte| is_blank(byte)) {
         if !part.is_empty() {
-            found.push(part);
+            found.push(Field { bytes: part, start });
         }
+        // The part and the blank behind it.
+        start += part.len() + 1;
     }
     found
 }
@@ -436,17 +504,17 @@ fn read_rule(line: &[u8]) -> Result<(&[u8], &[u8], u8), Refusal> {
         return Err(Refusal::WrongFields);
     }
     let (subject, object, access) = (fields[0], fields[1], fields[2]);
-    if !is_well_formed(subject) || !is_well_formed(object) {
-        return Err(Refusal::BadLabel);
-    }
-    let Some(modes) = read_access(access, RULE_LETTERS) else {
+    subject.check_label()?;
+    object.check_label()?;
+    let Some(modes) = read_access(access.bytes, RULE_LETTERS) else {
         return Err(Refusal::BadAccess);
     };
-    Ok((subject, object, modes))
+    Ok((subject.bytes, object.bytes, modes))
 }
 
 /// The plain reader's loader: "a kept line of any length and the report's true
-/// numbers". The first refused line is number 0 with reason 0 "where none".
+/// numbers". The first refused line is number 0 with reason 0 "where none", and
+/// place 0.
 #[derive(Clone, PartialEq, Eq, Debug)]
 pub struct Loader {
     pub line: Vec<u8>,
@@ -456,10 +524,13 @@ pub struct Loader {
     pub refused: u64,
     pub first_line: u64,
     pub first_reason: u64,
+    pub first_place: u64,
 }
 
 /// "The report: lines, accepted, skipped, refused, and the number (from 1) and
-/// reason of the first refused line."
+/// reason of the first refused line." "The report ... keeps" the place too "for
+/// the first refused line, 0 if that isn't a 3". A place is no count and has no
+/// limit of its own.
 #[derive(Clone, Copy, PartialEq, Eq, Debug)]
 pub struct Report {
     pub lines: u32,
@@ -468,6 +539,7 @@ pub struct Report {
     pub refused: u32,
     pub first_line: u32,
     pub first_reason: u32,
+    pub first_place: u64,
 }
 
 /// "Each number is the true one or 4,294,967,295, whichever is smaller."
@@ -486,6 +558,7 @@ impl Loader {
             refused: 0,
             first_line: 0,
             first_reason: 0,
+            first_place: 0,
         }
     }
 
@@ -498,6 +571,7 @@ impl Loader {
             refused: limited(self.refused),
             first_line: limited(self.first_line),
             first_reason: limited(self.first_reason),
+            first_place: self.first_place,
         }
     }
 
@@ -511,6 +585,7 @@ impl Loader {
                 if self.refused == 0 {
                     self.first_line = self.lines;
                     self.first_reason = u64::from(refusal.number());
+                    self.first_place = refusal.place() as u64;
                 }
                 self.refused += 1;
             }
@@ -566,16 +641,15 @@ impl Table {
         if fields.len() != 4 {
             return Err(Refusal::WrongFields);
         }
-        let (subject, object) = (fields[0], fields[1]);
-        if !is_well_formed(subject) || !is_well_formed(object) {
-            return Err(Refusal::BadLabel);
-        }
-        let Some(allow) = read_access(fields[2], CHANGE_LETTERS) else {
+        fields[0].check_label()?;
+        fields[1].check_label()?;
+        let Some(allow) = read_access(fields[2].bytes, CHANGE_LETTERS) else {
             return Err(Refusal::BadAccess);
         };
-        let Some(deny) = read_access(fields[3], CHANGE_LETTERS) else {
+        let Some(deny) = read_access(fields[3].bytes, CHANGE_LETTERS) else {
             return Err(Refusal::BadAccess);
         };
+        let (subject, object) = (fields[0].bytes, fields[1].bytes);
         self.check_pair(subject, object)?;
         // "A pair with no rule starts from none".
         let old = match self.place_of_pair(subject, object) {
@@ -595,9 +669,7 @@ impl Table {
         if write.len() > LINE_LIMIT {
             return Err(Refusal::TooLong);
         }
-        if !is_well_formed(write) {
-            return Err(Refusal::BadLabel);
-        }
+        check_label(write, 0)?;
         let Some(subject) = self.number_of(write) else {
             return Ok(0);
         };
@@ -621,17 +693,17 @@ impl Table {
         if fields.is_empty() {
             return Err(Refusal::WrongFields);
         }
-        if fields.len() == 1 && fields[0] == b"-" {
+        if fields.len() == 1 && fields[0].bytes == b"-" {
             self.override_list.clear();
             return Ok(());
         }
-        if !fields.iter().all(|field| is_well_formed(field)) {
-            return Err(Refusal::BadLabel);
+        for field in &fields {
+            field.check_label()?;
         }
         let mut different: Vec<&[u8]> = Vec::new();
         for field in fields {
-            if !different.contains(&field) {
-                different.push(field);
+            if !different.contains(&field.bytes) {
+                different.push(field.bytes);
             }
         }
         if different.len() > OVERRIDE_PLACES {
@@ -657,16 +729,14 @@ impl Table {
         if fields.len() < 2 {
             return Err(Refusal::WrongFields);
         }
-        let label = fields[0];
-        if !is_well_formed(label) {
-            return Err(Refusal::BadLabel);
-        }
-        let Some(level) = read_level(fields[1]) else {
+        fields[0].check_label()?;
+        let label = fields[0].bytes;
+        let Some(level) = read_level(fields[1].bytes) else {
             return Err(Refusal::BadLevelOrCategory);
         };
         let mut set = 0;
         for field in &fields[2..] {
-            let Some(bit) = read_category(field) else {
+            let Some(bit) = read_category(field.bytes) else {
                 return Err(Refusal::BadLevelOrCategory);
             };
             set |= bit;
@@ -729,9 +799,7 @@ fn check_level_and_set(level: u64, set: u64) -> Result<(), Refusal> {
 impl Table {
     /// "An unmapped label gives none." Refusal 3.
     pub fn by_label(&self, label: &[u8]) -> Result<Option<Found>, Refusal> {
-        if !is_well_formed(label) {
-            return Err(Refusal::BadLabel);
-        }
+        check_label(label, 0)?;
         let Some(number) = self.number_of(label) else {
             return Ok(None);
         };
@@ -858,7 +926,9 @@ impl Table {
     }
 
     /// "A question is a subject, an object, a request and whether the asker has
-    /// the override capability." Refusals 3 8. "A question changes nothing."
+    /// the override capability." Refusals 3 8; the place of 3 is one in the
+    /// subject, or in the object where the subject is well formed. "A question
+    /// changes nothing."
     pub fn question(
         &self,
         subject: &[u8],
@@ -866,8 +936,10 @@ impl Table {
         request: &[u8],
         has_override: bool,
     ) -> Answer {
-        if !is_well_formed(subject) || !is_well_formed(object) {
-            return Answer::Refused(Refusal::BadLabel);
+        for label in [subject, object] {
+            if let Err(refusal) = check_label(label, 0) {
+                return Answer::Refused(refusal);
+            }
         }
         let Some(request) = read_request(request) else {
             return Answer::Refused(Refusal::BadRequest);
@@ -985,7 +1057,8 @@ fn read_fixed_access(bytes: &[u8]) -> Option<u8> {
 
 /// A record turned into a rule line: "The line is written in the listing's
 /// form"; "the length written to a lent output is answered". Refusals 14 3 4 5
-/// 12; 14 of either place comes before 3 of either label.
+/// 12; 14 of either place comes before 3 of either label. These calls are not 01's,
+/// so no place is told beside their 3: it is 0 here.
 pub fn record_to_line(record: &[u8], output: &mut [u8]) -> Result<usize, Refusal> {
     if record.len() != FIXED_RECORD {
         return Err(Refusal::BadRecord);
@@ -999,7 +1072,7 @@ pub fn record_to_line(record: &[u8], output: &mut [u8]) -> Result<usize, Refusal
         return Err(Refusal::BadRecord);
     };
     if !is_well_formed(subject) || !is_well_formed(object) {
-        return Err(Refusal::BadLabel);
+        return Err(Refusal::BadLabel { place: 0 });
     }
     let Some(modes) = read_fixed_access(access) else {
         return Err(Refusal::BadAccess);
@@ -1012,13 +1085,17 @@ pub fn record_to_line(record: &[u8], output: &mut [u8]) -> Result<usize, Refusal
 
 /// A rule line turned into a record. The line is "read with or without one
 /// closing newline; another is a bad byte": any other newline is a byte of the
-/// field that it is in. Nothing is skipped here. Refusals 1 2 3 4 5 15 12.
+/// field that it is in. Nothing is skipped here. Refusals 1 2 3 4 5 15 12; the
+/// place is 0 here too.
 pub fn line_to_record(line: &[u8], output: &mut [u8]) -> Result<usize, Refusal> {
     let line = match line.split_last() {
         Some((b'\n', before)) => before,
         _ => line,
     };
-    let (subject, object, modes) = read_rule(line)?;
+    let (subject, object, modes) = read_rule(line).map_err(|refusal| match refusal {
+        Refusal::BadLabel { .. } => Refusal::BadLabel { place: 0 },
+        other => other,
+    })?;
     if subject == object {
         return Err(Refusal::SameLabels);
     }

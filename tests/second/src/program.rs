@@ -61,15 +61,16 @@ pub fn question_line(table: &Table, line: &[u8]) -> Answer {
         return Answer::Refused(Refusal::TooLong);
     }
     let fields = fields(line);
-    let has_override = fields.len() == 4 && fields[3] == b"o";
+    let has_override = fields.len() == 4 && fields[3].bytes == b"o";
     if fields.len() != 3 && !has_override {
         return Answer::Refused(Refusal::WrongFields);
     }
-    table.question(fields[0], fields[1], fields[2], has_override)
+    let (subject, object, request) = (fields[0].bytes, fields[1].bytes, fields[2].bytes);
+    table.question(subject, object, request, has_override)
 }
 
 /// "lines, accepted, skipped, refused, first refused line, its reason; 0 0
-/// where none".
+/// where none". 02, Three: "the program prints as before", so no place.
 pub fn report_text(report: &Report) -> String {
     format!(
         "{} {} {} {} {} {}",
@@ -83,7 +84,7 @@ pub fn report_text(report: &Report) -> String {
 }
 
 /// "`granted 6`, `granted 6 b`, `denied 7`, `override 7` or `refused 3`, with
-/// the number that applies".
+/// the number that applies"; no place here either.
 pub fn answer_text(answer: &Answer) -> String {
     match answer {
         Answer::Granted { rule, has_b: false } => format!("granted {rule}"),

@@ -10,7 +10,8 @@
 //! stands with a `freshloader`; so a reader that cannot lend a part of another
 //! size may leave out all lines from a `resize` up to the next `fresh`.
 //! The loader's numbers are poked so that "no line was refused yet" is said by
-//! all three of refused, first line and first reason, or by none.
+//! all three of refused, first line and first reason, or by none. The place is
+//! poked to any number.
 
 use std::io::{self, Write};
 
@@ -64,13 +65,14 @@ impl Xorshift {
 }
 
 /// Which calls a script has: all of them; the two that turn old records into
-/// lines and back; or questions, and some writes, about labels that are hard to
-/// tell apart.
+/// lines and back; questions, and some writes, about labels that are hard to
+/// tell apart; or the calls that tell the place of a bad byte.
 #[derive(Clone, Copy, PartialEq, Eq)]
 pub enum Kind {
     Every,
     Records,
     Searches,
+    Places,
 }
 
 /// Writes a script of `count` calls.
@@ -91,6 +93,7 @@ pub fn write_script(seed: u64, count: u64, kind: Kind, output: &mut dyn Write) -
             Kind::Every => generator.episode(),
             Kind::Records => generator.records_episode(),
             Kind::Searches => generator.searches_episode(),
+            Kind::Places => generator.places_episode(),
         }
     }
     match generator.error {
@@ -193,6 +196,52 @@ impl Generator<'_> {
         for _ in 0..count {
             self.search_call();
         }
+        self.emit("dump");
+    }
+
+    /// Labels with faults at all kinds of places, in a table that is fresh, used,
+    /// full or damaged.
+    fn places_episode(&mut self) {
+        self.emit("fresh");
+        self.emit("freshloader");
+        self.pending.clear();
+        self.make_pool();
+        self.new_percent = 5;
+        match self.random.below(12) {
+            0..=3 => {}
+            4..=7 => self.base_state(),
+            8 => {
+                let target = self.random.pick(&[62, 63, 64]);
+                self.fill_labels_to(target);
+            }
+            9 => self.fill_rules_to(256),
+            10 => {
+                let target = self.random.pick(&[40, 64]);
+                self.fill_labels_to(target);
+                self.fill_mappings_to(32);
+            }
+            _ => {
+                self.base_state();
+                let undo = match self.random.chance(75) {
+                    true => self.damage(),
+                    false => {
+                        self.resize_part();
+                        vec!["fresh".to_string(), "freshloader".to_string()]
+                    }
+                };
+                for _ in 0..12 {
+                    self.place_call();
+                }
+                for call in undo {
+                    self.emit(&call);
+                }
+            }
+        }
+        let count = 20 + self.random.below(40);
+        for _ in 0..count {
+            self.place_call();
+        }
+        self.emit("end");
         self.emit("dump");
     }
 
@@ -731,16 +780,26 @@ impl Generator<'_> {
             _ => {
                 let value = self.near_saturation();
                 self.emit(&format!("poke loader {} {value}", raw::LINES));
-                let refused = self.random.pick(&[0, 1, 7, 4294967294, 4294967295u32]);
-                let (line, reason) = match refused {
-                    0 => (0, 0),
-                    _ => (1 + self.near_saturation() / 2, 1 + self.random.below(7)),
-                };
-                self.emit(&format!("poke loader {} {refused}", raw::REFUSED));
-                self.emit(&format!("poke loader {} {line}", raw::FIRST_LINE));
-                self.emit(&format!("poke loader {} {reason}", raw::FIRST_REASON));
+                self.poke_first_refused();
             }
         }
+    }
+
+    /// So many lines refused so far, the first of them with any place.
+    fn poke_first_refused(&mut self) {
+        let refused = self.random.pick(&[0, 0, 1, 7, 4294967294, 4294967295u32]);
+        let (line, reason) = match refused {
+            0 => (0, 0),
+            _ => (1 + self.near_saturation() / 2, 1 + self.random.below(7)),
+        };
+        let any = self.random.next_number();
+        let place = self
+            .random
+            .pick(&[0, 0, 1, 255, 600, 4294967295, 1 << 32, u64::MAX, any]);
+        self.emit(&format!("poke loader {} {refused}", raw::REFUSED));
+        self.emit(&format!("poke loader {} {line}", raw::FIRST_LINE));
+        self.emit(&format!("poke loader {} {reason}", raw::FIRST_REASON));
+        self.emit(&format!("poke loader {} {place}", raw::FIRST_PLACE));
     }
 
     fn near_saturation(&mut self) -> u32 {
@@ -850,7 +909,7 @@ impl Generator<'_> {
     }
 
     fn bad_label(&mut self) -> Vec<u8> {
-        match self.random.below(6) {
+        match self.random.below(8) {
             0 => self
                 .random
                 .pick(&["-", "--", "-A", "-CIPSO"])
@@ -871,7 +930,8 @@ impl Generator<'_> {
                 label
             }
             4 => self.random_bytes(12),
-            _ => vec![self.random.byte()],
+            5 => vec![self.random.byte()],
+            _ => self.faulty_label(),
         }
     }
 
@@ -1567,6 +1627,260 @@ impl Generator<'_> {
             _ => self.label_call(),
         }
         if self.random.chance(5) {
+            self.emit("dump");
+        }
+    }
+
+    // -----------------------------------------------------------------------
+    // Labels with faults at all kinds of places
+    // -----------------------------------------------------------------------
+
+    /// The length of such a label: short, at an edge, or long.
+    fn faulty_length(&mut self) -> u64 {
+        match self.random.below(10) {
+            0..=2 => 1 + self.random.below(40),
+            3 | 4 => self.random.pick(&[1, 2, 22, 23, 24, 25]),
+            5..=7 => self
+                .random
+                .pick(&[200, 253, 254, 255, 255, 256, 256, 257, 300]),
+            8 => self
+                .random
+                .pick(&[590, 594, 595, 596, 597, 598, 599, 600, 601, 700]),
+            _ => 1 + self.random.below(300),
+        }
+    }
+
+    /// A place below this length: often at an edge or an end.
+    fn fault_place(&mut self, length: u64) -> usize {
+        let edge = self.random.pick(&[
+            0,
+            1,
+            15,
+            16,
+            22,
+            23,
+            24,
+            31,
+            32,
+            253,
+            254,
+            255,
+            256,
+            257,
+            length / 2,
+            length.saturating_sub(2),
+            length - 1,
+            length - 1,
+        ]);
+        match edge < length && self.random.chance(70) {
+            true => edge as usize,
+            false => self.random.below(length) as usize,
+        }
+    }
+
+    /// A byte that is mostly no label byte: of each value, or a blank, or a dash.
+    fn bad_byte(&mut self) -> u8 {
+        match self.random.below(8) {
+            0 => self.random.byte(),
+            1 => self.random.pick(b"-- \t\n"),
+            _ => loop {
+                let byte = self.random.byte();
+                if matches!(class_of(byte), Class::Other | Class::Newline) {
+                    return byte;
+                }
+            },
+        }
+    }
+
+    /// A label with some bytes put in that are mostly none of a label's.
+    fn faulty_label(&mut self) -> Vec<u8> {
+        let length = self.faulty_length();
+        let mut label = self.label_of_length(length);
+        for _ in 0..self.random.pick(&[0, 1, 1, 1, 1, 2, 3]) {
+            let at = self.fault_place(length);
+            label[at] = self.bad_byte();
+        }
+        if self.random.chance(10) {
+            label[0] = b'-';
+        }
+        label
+    }
+
+    /// A subject and an object: both good, or one faulty, or both.
+    fn place_pair(&mut self) -> (Vec<u8>, Vec<u8>) {
+        let mut subject = self.label();
+        let mut object = self.label();
+        let which = self.random.below(12);
+        if matches!(which, 0..=2 | 6) {
+            subject = self.faulty_label();
+        }
+        if matches!(which, 3..=6) {
+            object = self.faulty_label();
+        }
+        if self.random.chance(4) {
+            object = subject.clone();
+        }
+        // Mostly the two have room in a line.
+        if subject.len() + object.len() > 590 && self.random.chance(80) {
+            match which {
+                0..=2 => object = self.new_name(),
+                3..=5 => subject = self.new_name(),
+                _ => object.truncate(20),
+            }
+        }
+        (subject, object)
+    }
+
+    fn some_blanks(&mut self, counts: &[u64]) -> Vec<u8> {
+        let count = self.random.pick(counts);
+        (0..count).map(|_| self.random.pick(b" \t")).collect()
+    }
+
+    /// Fields with more blanks before and between than `join` has. Now and then a
+    /// field too few or too many, or a text of about 600 bytes.
+    fn spread(&mut self, mut fields: Vec<Vec<u8>>) -> Vec<u8> {
+        if self.random.chance(4) {
+            fields.pop();
+        }
+        if self.random.chance(4) {
+            fields.push(self.label());
+        }
+        let mut text = self.some_blanks(&[0, 0, 0, 1, 2, 3, 9]);
+        for (k, field) in fields.iter().enumerate() {
+            if k > 0 {
+                text.extend(self.some_blanks(&[1, 1, 1, 1, 2, 3, 20]));
+            }
+            text.extend_from_slice(field);
+        }
+        text.extend(self.some_blanks(&[0, 0, 0, 1, 3]));
+        if self.random.chance(10) {
+            text = self.pad(text);
+        }
+        text
+    }
+
+    fn place_line(&mut self) -> Vec<u8> {
+        let (subject, object) = self.place_pair();
+        let access = self.any_access();
+        self.spread(vec![subject, object, access])
+    }
+
+    /// A few lines; that they are few lets each of them be the first that is
+    /// refused.
+    fn place_text(&mut self) -> Vec<u8> {
+        let mut text = Vec::new();
+        for _ in 0..1 + self.random.below(4) {
+            let line = match self.random.below(6) {
+                0 => self.rule_line(),
+                1 => self.good_rule_line(),
+                _ => self.place_line(),
+            };
+            text.extend_from_slice(&line);
+            text.push(b'\n');
+        }
+        if self.random.chance(30) {
+            text.pop();
+        }
+        text
+    }
+
+    /// A lent label: faulty, good, or none.
+    fn place_label(&mut self) -> Vec<u8> {
+        match self.random.below(12) {
+            0..=5 => self.faulty_label(),
+            6 => Vec::new(),
+            _ => self.label(),
+        }
+    }
+
+    fn place_call(&mut self) {
+        match self.random.below(64) {
+            0..=19 => {
+                if self.pending.is_empty() {
+                    // Often the text before ends here.
+                    if self.random.chance(60) {
+                        self.emit("end");
+                    }
+                    if self.random.chance(10) {
+                        self.poke_first_refused();
+                    }
+                    self.pending = self.place_text();
+                }
+                self.piece_call();
+            }
+            20 | 21 => self.emit("end"),
+            22..=29 => {
+                let (subject, object) = self.place_pair();
+                let fields = vec![subject, object, self.change_access(), self.change_access()];
+                let write = self.spread(fields);
+                self.emit(&format!("change {}", write_hex(&write)));
+            }
+            30..=34 => {
+                let label = match self.random.below(6) {
+                    0 => self.ruling_label(),
+                    _ => self.place_label(),
+                };
+                self.emit(&format!("revoke {}", write_hex(&label)));
+            }
+            35..=40 => {
+                let count = self.random.pick(&[1, 1, 2, 3, 5, 8, 9, 12]);
+                let mut fields: Vec<Vec<u8>> = Vec::new();
+                for _ in 0..count {
+                    let used: usize = fields.iter().map(|field| field.len() + 2).sum();
+                    let mut field = match self.random.below(10) {
+                        0 | 1 => self.faulty_label(),
+                        2 => b"-".to_vec(),
+                        _ => self.label(),
+                    };
+                    if used + field.len() > 570 && self.random.chance(90) {
+                        field = self.new_name();
+                    }
+                    fields.push(field);
+                }
+                let write = self.spread(fields);
+                self.emit(&format!("override {}", write_hex(&write)));
+            }
+            41..=46 => {
+                let label = match self.random.below(2) {
+                    0 => self.faulty_label(),
+                    _ => self.label(),
+                };
+                let level = self.digits(&["0", "9", "255"]);
+                let mut fields = vec![label, level];
+                for _ in 0..self.random.below(3) {
+                    fields.push(self.digits(&["1", "5", "63"]));
+                }
+                let write = self.spread(fields);
+                self.emit(&format!("mapping {}", write_hex(&write)));
+            }
+            47..=51 => {
+                let label = match self.random.below(6) {
+                    0 => self.mapped_label(),
+                    _ => self.place_label(),
+                };
+                self.emit(&format!("bylabel {}", write_hex(&label)));
+            }
+            52..=60 => {
+                let (mut subject, mut object) = self.place_pair();
+                match self.random.below(16) {
+                    0 => subject = Vec::new(),
+                    1 => object = Vec::new(),
+                    2 => object = subject.clone(),
+                    _ => {}
+                }
+                let request = self.request();
+                self.emit_question(&subject, &object, &request);
+            }
+            // These tell no place.
+            61 => {
+                let line = self.place_line();
+                let output = self.output(None);
+                self.emit_line(&line, &output);
+            }
+            62 => self.record_call(),
+            _ => self.emit("dump"),
+        }
+        if self.random.chance(8) {
             self.emit("dump");
         }
     }

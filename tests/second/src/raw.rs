@@ -8,7 +8,7 @@
 //! | `entries`     | 840 bytes   | rule subjects 0..256, rule objects 256..512, rule modes 512..768, mapping labels 768..800, mapping levels 800..832, override labels 832..840 |
 //! | `words`       | 36 words    | counts of labels, rules, mappings, override labels 0..4, category sets of the mappings 4..36 |
 //! | `line`        | 600 bytes   | the kept line |
-//! | `numbers`     | 7 numbers   | kept, lines, accepted, skipped, refused, first line, first reason |
+//! | `numbers`     | 8 numbers   | kept, lines, accepted, skipped, refused, first line, first reason, first place |
 //!
 //! `kept` is the length of the kept line, or 601 for a line of over 600 bytes.
 //!
@@ -49,6 +49,7 @@ pub const SKIPPED: usize = 3;
 pub const REFUSED: usize = 4;
 pub const FIRST_LINE: usize = 5;
 pub const FIRST_REASON: usize = 6;
+pub const FIRST_PLACE: usize = 7;
 
 /// `kept` where the kept line has over 600 bytes.
 pub const OVER: u64 = 601;
@@ -65,9 +66,9 @@ pub struct RawState {
 #[derive(Clone, PartialEq, Eq, Debug)]
 pub struct RawLoader {
     pub line: Vec<u8>,
-    /// `kept` may be any 64-bit number, the five counts any of 32 bits, the
-    /// reason any byte.
-    pub numbers: [u64; 7],
+    /// `kept` and the place may be any 64-bit number, the five counts any of 32
+    /// bits, the reason any byte.
+    pub numbers: [u64; 8],
 }
 
 impl RawState {
@@ -88,7 +89,7 @@ impl RawLoader {
     pub fn fresh() -> RawLoader {
         RawLoader {
             line: vec![0; LINE_LIMIT],
-            numbers: [0; 7],
+            numbers: [0; 8],
         }
     }
 }
@@ -224,6 +225,7 @@ pub fn loader_of(loader: &RawLoader) -> Result<Loader, Refusal> {
         refused: loader.numbers[REFUSED],
         first_line: loader.numbers[FIRST_LINE],
         first_reason: loader.numbers[FIRST_REASON],
+        first_place: loader.numbers[FIRST_PLACE],
     })
 }
 
@@ -257,7 +259,7 @@ pub fn write_table(table: &Table, state: &mut RawState) {
     state.words[OVERRIDE_COUNT] = table.override_list.len() as u64;
 }
 
-/// Writes the seven numbers. The kept line's bytes are `store_bytes`' affair.
+/// Writes the eight numbers. The kept line's bytes are `store_bytes`' affair.
 pub fn write_numbers(model: &Loader, loader: &mut RawLoader) {
     loader.numbers[KEPT] = model.line.len().min(OVER as usize) as u64;
     loader.numbers[LINES] = u64::from(limited(model.lines));
@@ -266,6 +268,7 @@ pub fn write_numbers(model: &Loader, loader: &mut RawLoader) {
     loader.numbers[REFUSED] = u64::from(limited(model.refused));
     loader.numbers[FIRST_LINE] = u64::from(limited(model.first_line));
     loader.numbers[FIRST_REASON] = u64::from(limited(model.first_reason));
+    loader.numbers[FIRST_PLACE] = model.first_place;
 }
 
 /// The kept line's bytes are stored at 0..kept as they come and are never

@@ -13,15 +13,15 @@
 //! | `freshen` | `done` or `refused N` (a fresh table in the memory as it is) |
 //! | `freshloader` | `done` (new zero-filled memory, a fresh loader) |
 //! | `piece HEX` | `done` or `refused N` |
-//! | `end` | `report LINES ACCEPTED SKIPPED REFUSED FIRSTLINE REASON` or `refused N` |
-//! | `change HEX` | `done` or `refused N` |
-//! | `revoke HEX` | `revoked COUNT` or `refused N` |
-//! | `override HEX` | `done` or `refused N` |
-//! | `mapping HEX` | `done` or `refused N` |
-//! | `bylabel HEX` | `mapping LEVEL SET COUNT`, `none` or `refused N` |
+//! | `end` | `report LINES ACCEPTED SKIPPED REFUSED FIRSTLINE REASON PLACE` or `refused N` |
+//! | `change HEX` | `done`, `refused 3 PLACE` or `refused N` |
+//! | `revoke HEX` | `revoked COUNT`, `refused 3 PLACE` or `refused N` |
+//! | `override HEX` | `done`, `refused 3 PLACE` or `refused N` |
+//! | `mapping HEX` | `done`, `refused 3 PLACE` or `refused N` |
+//! | `bylabel HEX` | `mapping LEVEL SET COUNT`, `none`, `refused 3 PLACE` or `refused N` |
 //! | `bylevel LEVEL SET` | `label NUMBER`, `none` or `refused N` |
 //! | `run LEVEL SET n,l,s n,l,s ...` | `label NUMBER`, `none` or `refused N` |
-//! | `question SUBJECT OBJECT REQUEST 0` or `1` | `granted R`, `granted 6 b`, `denied R`, `override R` or `refused N` |
+//! | `question SUBJECT OBJECT REQUEST 0` or `1` | `granted R`, `granted 6 b`, `denied R`, `override R`, `refused 3 PLACE` or `refused N` |
 //! | `list K HEX` | `length N HEX` or `refused N HEX`: the whole buffer afterwards |
 //! | `label K` | `done HEX` or `refused N -` |
 //! | `recordtoline HEX OUT` | `length N HEX` or `refused N HEX`: the whole output afterwards |
@@ -30,16 +30,19 @@
 //! | `poke entries OFFSET HEX` | `done` |
 //! | `poke words INDEX VALUE` | `done`: one word |
 //! | `poke line OFFSET HEX` | `done` |
-//! | `poke loader INDEX VALUE` | `done`: one of the seven numbers |
+//! | `poke loader INDEX VALUE` | `done`: one of the eight numbers |
 //! | `resize labels N`, `entries`, `words`, `line` | `done`: cut at the end, or zeros added |
-//! | `dump` | `dump labels H entries H words H line H counts L R M O loader K L A S R F N` |
+//! | `dump` | `dump labels H entries H words H line H counts L R M O loader K L A S R F N P` |
+//!
+//! PLACE is where the first bad byte of the first bad label stands, from 0. The
+//! two calls for old records have none: their 3 is `refused 3 HEX`.
 //!
 //! In a dump H is the 64-bit FNV-1a hash of a part as 16 hex digits; a word
 //! counts as its eight bytes, lowest first. A count whose word has been cut off
 //! is written `-`. Before the first call there are a fresh table and a fresh
 //! loader.
 
-use crate::plain::{Record, Refusal};
+use crate::plain::{Answer, Record, Refusal};
 use crate::program::{answer_text, report_text};
 use crate::raw::{self, RawLoader, RawState};
 
@@ -90,7 +93,9 @@ impl Machine {
                 Some(done_text(answer))
             }
             ["end"] => Some(match raw::end(&mut self.state, &mut self.loader) {
-                Ok(report) => format!("report {}", report_text(&report)),
+                Ok(report) => {
+                    format!("report {} {}", report_text(&report), report.first_place)
+                }
                 Err(refusal) => refused_text(refusal),
             }),
             ["change", bytes] => {
@@ -154,7 +159,10 @@ impl Machine {
                     _ => return None,
                 };
                 let answer = raw::question(&self.state, &subject, &object, &request, has_override);
-                Some(answer_text(&answer))
+                Some(match answer {
+                    Answer::Refused(refusal) => refused_text(refusal),
+                    other => answer_text(&other),
+                })
             }
             ["list", k, buffer] => {
                 let k = read_u64(k)?;
@@ -198,7 +206,7 @@ impl Machine {
             "loader" => {
                 let value = read_u64(value)?;
                 let limit = match at {
-                    raw::KEPT => u64::MAX,
+                    raw::KEPT | raw::FIRST_PLACE => u64::MAX,
                     raw::FIRST_REASON => u64::from(u8::MAX),
                     _ => u64::from(u32::MAX),
                 };
@@ -228,7 +236,7 @@ impl Machine {
         Some("done".to_string())
     }
 
-    /// The hash of each part, the four counts and the loader's seven numbers.
+    /// The hash of each part, the four counts and the loader's eight numbers.
     fn dump(&self) -> String {
         let mut word_bytes = Vec::new();
         for word in &self.state.words {
@@ -267,8 +275,12 @@ fn poke_bytes(part: &mut [u8], at: usize, bytes: &[u8]) -> Option<()> {
     Some(())
 }
 
+/// The number, and beside 3 the place.
 fn refused_text(refusal: Refusal) -> String {
-    format!("refused {}", refusal.number())
+    match refusal {
+        Refusal::BadLabel { place } => format!("refused 3 {place}"),
+        other => format!("refused {}", other.number()),
+    }
 }
 
 fn done_text(answer: Result<(), Refusal>) -> String {
@@ -278,11 +290,12 @@ fn done_text(answer: Result<(), Refusal>) -> String {
     }
 }
 
-/// What was written to a lent output, and the whole output afterwards.
+/// What was written to a lent output, and the whole output afterwards. No such
+/// call tells a place.
 fn length_text(answer: Result<usize, Refusal>, output: &[u8]) -> String {
     let answer = match answer {
         Ok(length) => format!("length {length}"),
-        Err(refusal) => refused_text(refusal),
+        Err(refusal) => format!("refused {}", refusal.number()),
     };
     format!("{answer} {}", write_hex(output))
 }

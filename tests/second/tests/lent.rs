@@ -24,7 +24,7 @@ fn assert_every_call_gets_0(state: &RawState) {
     assert!(raw_is_damaged(state));
     let mut copy = state.clone();
     let mut loader = RawLoader::fresh();
-    loader.numbers = [3, 9, 4, 3, 2, 1, 5];
+    loader.numbers = [3, 9, 4, 3, 2, 1, 5, 77];
     loader.line[..3].copy_from_slice(b"A B");
     let loader_before = loader.clone();
     let long = vec![b'/'; 700];
@@ -196,7 +196,7 @@ fn a_damaged_loader() {
     }
     // Numbers that do not add up are not damage.
     let mut loader = RawLoader::fresh();
-    loader.numbers = [601, 1, 2, 3, 4, 5, 99];
+    loader.numbers = [601, 1, 2, 3, 4, 5, 99, u64::MAX];
     assert!(!raw_loader_is_damaged(&loader));
 }
 
@@ -414,16 +414,16 @@ fn the_kept_line_is_stored_as_it_comes() {
     loader.line.fill(0xee);
     raw::piece(&mut state, &mut loader, b"A B r\nAir").unwrap();
     assert_eq!(&loader.line[..6], b"Air r\xee");
-    assert_eq!(loader.numbers, [3, 1, 1, 0, 0, 0, 0]);
+    assert_eq!(loader.numbers, [3, 1, 1, 0, 0, 0, 0, 0]);
     raw::piece(&mut state, &mut loader, b"\n").unwrap();
     assert_eq!(&loader.line[..6], b"Air r\xee");
-    assert_eq!(loader.numbers, [0, 2, 1, 0, 1, 2, 2]);
+    assert_eq!(loader.numbers, [0, 2, 1, 0, 1, 2, 2, 0]);
     // The end call clears the numbers, not the bytes.
     raw::piece(&mut state, &mut loader, b"X").unwrap();
     let report = raw::end(&mut state, &mut loader).unwrap();
     assert_eq!((report.lines, report.refused, report.first_line), (3, 2, 2));
     assert_eq!(&loader.line[..6], b"Xir r\xee");
-    assert_eq!(loader.numbers, [0; 7]);
+    assert_eq!(loader.numbers, [0; 8]);
 }
 
 #[test]
@@ -443,7 +443,7 @@ fn an_over_long_line_keeps_its_first_600_bytes() {
     assert_eq!(loader.line, full);
     raw::piece(&mut state, &mut loader, b"\nA B r\n").unwrap();
     assert_eq!(&loader.line[..6], b"A B r ");
-    assert_eq!(loader.numbers, [0, 2, 1, 0, 1, 1, 1]);
+    assert_eq!(loader.numbers, [0, 2, 1, 0, 1, 1, 1, 0]);
 }
 
 #[test]
@@ -470,9 +470,9 @@ fn the_lent_numbers_stop_at_their_limit() {
     let mut state = RawState::fresh();
     let mut loader = RawLoader::fresh();
     let most = u64::from(u32::MAX);
-    loader.numbers = [0, most, most - 1, most, 0, 0, 0];
+    loader.numbers = [0, most, most - 1, most, 0, 0, 0, 0];
     raw::piece(&mut state, &mut loader, b"A B r\nA B w\n\nA A r\n").unwrap();
-    assert_eq!(loader.numbers, [0, most, most, most, 1, most, 5]);
+    assert_eq!(loader.numbers, [0, most, most, most, 1, most, 5, 0]);
 }
 
 #[test]

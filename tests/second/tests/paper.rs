@@ -174,6 +174,7 @@ fn the_report_names_the_first_refused_line() {
         refused: 3,
         first_line: 3,
         first_reason: 5,
+        first_place: 0,
     };
     assert_eq!(report, expected);
     assert_eq!(table.rules, vec![(5, 6, W)]);
@@ -195,6 +196,7 @@ fn report_numbers_are_limited_each_by_itself() {
         refused: 1,
         first_line: 4_294_967_295,
         first_reason: 5,
+        first_place: 0,
     };
     assert_eq!(report, expected);
 }

@@ -72,7 +72,7 @@ fn the_numbers() {
         Refusal::Damaged,
         Refusal::TooLong,
         Refusal::WrongFields,
-        Refusal::BadLabel,
+        Refusal::BadLabel { place: 12 },
         Refusal::BadAccess,
         Refusal::SameLabels,
         Refusal::NoLabelPlace,
@@ -376,17 +376,25 @@ fn mapping_neighbours() {
 #[test]
 fn by_label() {
     let table = Table::fresh();
-    for label in ["", "-", "V/", " V", "V ", "V\n"] {
+    for (label, place) in [
+        ("", 0),
+        ("-", 0),
+        ("V/", 1),
+        (" V", 0),
+        ("V ", 1),
+        ("V\n", 1),
+    ] {
         assert_eq!(
             table.by_label(label.as_bytes()),
-            Err(Refusal::BadLabel),
+            Err(Refusal::BadLabel { place }),
             "{label:?}"
         );
     }
+    let too_long = Err(Refusal::BadLabel { place: 255 });
     assert_eq!(table.by_label(&[b'V'; 255]), Ok(None));
-    assert_eq!(table.by_label(&[b'V'; 256]), Err(Refusal::BadLabel));
+    assert_eq!(table.by_label(&[b'V'; 256]), too_long);
     // A look-up is no write: never 1.
-    assert_eq!(table.by_label(&[b'V'; 601]), Err(Refusal::BadLabel));
+    assert_eq!(table.by_label(&[b'V'; 601]), too_long);
 }
 
 #[test]
@@ -411,16 +419,23 @@ fn by_level_and_run() {
 #[test]
 fn question() {
     let table = loaded("A B r\n");
-    let bad_label = Answer::Refused(Refusal::BadLabel);
+    let bad_label = |place| Answer::Refused(Refusal::BadLabel { place });
     let bad_request = Answer::Refused(Refusal::BadRequest);
-    for (subject, object) in [("", "B"), ("A", ""), ("-", "B"), ("A", "B/"), ("A ", "B")] {
-        assert_eq!(ask(&table, subject, object, "r"), bad_label);
+    for (subject, object, place) in [
+        ("", "B", 0),
+        ("A", "", 0),
+        ("-", "B", 0),
+        ("A", "B/", 1),
+        ("A ", "B", 1),
+    ] {
+        assert_eq!(ask(&table, subject, object, "r"), bad_label(place));
         // 3 before 8
-        assert_eq!(ask(&table, subject, object, "q"), bad_label);
-        assert_eq!(ask(&table, subject, object, ""), bad_label);
+        assert_eq!(ask(&table, subject, object, "q"), bad_label(place));
+        assert_eq!(ask(&table, subject, object, ""), bad_label(place));
     }
-    assert_eq!(table.question(&[b'A'; 256], b"B", b"r", true), bad_label);
-    assert_eq!(table.question(b"B", &[b'A'; 601], b"r", true), bad_label);
+    let too_long = bad_label(255);
+    assert_eq!(table.question(&[b'A'; 256], b"B", b"r", true), too_long);
+    assert_eq!(table.question(b"B", &[b'A'; 601], b"r", true), too_long);
     for request in [
         "", "-", "r-", "t", "b", "rt", "rb", "q", " r", "r\n", "l", "0",
     ] {

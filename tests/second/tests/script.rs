@@ -43,8 +43,8 @@ fn every_form() {
         ("fresh", "done"),
         ("freshloader", "done"),
         (&piece, "done"),
-        ("end", "report 3 1 0 2 2 5"),
-        ("end", "report 0 0 0 0 0 0"),
+        ("end", "report 3 1 0 2 2 5 0"),
+        ("end", "report 0 0 0 0 0 0 0"),
         (&change, "done"),
         // One byte too short for the listing.
         (
@@ -64,7 +64,19 @@ fn every_form() {
         (&mapping, "done"),
         (&by_label, "mapping 9 9223372036854775810 2"),
         (&unmapped, "none"),
-        ("bylabel -", "refused 3"),
+        ("bylabel -", "refused 3 0"),
+        ("bylabel =A/", "refused 3 1"),
+        ("revoke =A/", "refused 3 1"),
+        // ` A B/ r -`, ` A -`, `\tA/ 9`
+        ("change 204120422f2072202d", "refused 3 4"),
+        ("override 2041202d", "refused 3 3"),
+        ("mapping 09412f2039", "refused 3 2"),
+        ("question =A/ =-B =r 0", "refused 3 1"),
+        ("question =A =-B =r 0", "refused 3 0"),
+        // ` A/ B r` twice, without a newline at the end
+        ("piece 20412f204220720a", "done"),
+        ("piece 20412f20422072", "done"),
+        ("end", "report 2 0 0 2 1 3 2"),
         ("bylevel 9 9223372036854775810", "label 6"),
         ("bylevel 9 0", "none"),
         ("bylevel 256 0", "refused 9"),
@@ -80,6 +92,8 @@ fn every_form() {
         ("recordtoline - 0708", "refused 14 0708"),
         ("linetorecord - 0708", "refused 2 0708"),
         ("linetorecord =A -", "refused 2 -"),
+        // ` A/ B r`: no place here
+        ("linetorecord 20412f20422072 0708", "refused 3 0708"),
         ("poke words 0 65", "done"),
         // No table is lent to these two.
         (&to_line, &written_line),
@@ -98,6 +112,9 @@ fn every_form() {
         ("poke loader 0 18446744073709551615", "done"),
         ("end", "refused 0"),
         ("poke loader 0 0", "done"),
+        ("poke loader 7 18446744073709551615", "done"),
+        ("end", "report 0 0 0 0 0 0 18446744073709551615"),
+        ("end", "report 0 0 0 0 0 0 0"),
         (
             "run 9 2 18446744073709551615,9,2 256,9,2 1,265,2",
             "label 256",
@@ -140,7 +157,8 @@ fn lines_that_are_no_calls() {
         "poke words 36 0",
         "poke line 600 00",
         "poke line 599 0000",
-        "poke loader 7 0",
+        "poke loader 8 0",
+        "poke loader 7 18446744073709551616",
         "poke loader 0 18446744073709551616",
         "poke loader 1 4294967296",
         "poke loader 6 256",
@@ -174,7 +192,7 @@ fn a_dump() {
     let zeros = format!("{:016x}", fnv1a(&[0; 600]));
     let dump = machine.execute("dump").unwrap();
     assert!(dump.contains(&format!(
-        " line {zeros} counts 5 0 0 0 loader 0 0 0 0 0 0 0"
+        " line {zeros} counts 5 0 0 0 loader 0 0 0 0 0 0 0 0"
     )));
     machine.execute("resize words 2");
     let dump = machine.execute("dump").unwrap();
@@ -378,6 +396,11 @@ fn random_searches_get_every_answer() {
             questions += 1;
             labels_twice += u32::from(labels.len() < table.labels.len());
             pairs_twice += u32::from(pairs.len() < table.rules.len());
+            // All places of a 3 as one answer.
+            let answer = match answer.starts_with("refused 3 ") {
+                true => "refused 3".to_string(),
+                false => answer,
+            };
             *answers.entry(answer).or_insert(0) += 1;
         }
     }
@@ -401,6 +424,68 @@ fn random_searches_get_every_answer() {
     assert!(pairs_twice * 4 > questions, "{pairs_twice} {questions}");
 }
 
+/// Of calls about places, every one is both accepted and refused with 3 in a good
+/// share; first refused lines have every reason, and places of every kind come.
+#[test]
+fn random_places_are_of_every_kind() {
+    let kinds = [
+        "change", "revoke", "override", "mapping", "bylabel", "question",
+    ];
+    let mut calls = std::collections::BTreeMap::new();
+    let mut places = std::collections::BTreeSet::new();
+    let mut first = std::collections::BTreeMap::new();
+    for seed in 0..6 {
+        let mut machine = Machine::new();
+        for call in script_of(Kind::Places, seed, 10000) {
+            let answer = machine.execute(&call).unwrap();
+            assert_ne!(answer, "bad line", "{call}");
+            let kind = call.split(' ').next().unwrap().to_string();
+            let words: Vec<&str> = answer.split(' ').collect();
+            if words[0] == "report" {
+                *first.entry(words[6].to_string()).or_insert(0) += 1;
+                if words[6] == "3" {
+                    places.insert(("line".to_string(), words[7].parse::<u64>().unwrap()));
+                }
+            }
+            if !kinds.contains(&kind.as_str()) {
+                continue;
+            }
+            let count = calls.entry(kind.clone()).or_insert([0; 3]);
+            count[0] += 1;
+            match words[..] {
+                ["refused", "3", place] => {
+                    count[2] += 1;
+                    places.insert((kind, place.parse().unwrap()));
+                }
+                ["refused", _] => {}
+                ["refused", ..] => panic!("{answer}"),
+                _ => count[1] += 1,
+            }
+        }
+    }
+    for kind in kinds {
+        let [all, accepted, bad] = calls[kind];
+        assert!(accepted * 4 > all, "{kind} {all} {accepted}");
+        assert!(bad * 6 > all, "{kind} {all} {bad}");
+        for place in [0, 1, 22, 23, 24, 254, 255] {
+            assert!(
+                places.contains(&(kind.to_string(), place)),
+                "{kind} {place}"
+            );
+        }
+        // A lent label has no place over 255; a write has.
+        let far = places.iter().any(|(k, place)| k == kind && *place > 300);
+        let is_write = ["change", "override", "mapping"].contains(&kind);
+        assert_eq!(far, is_write, "{kind}");
+    }
+    let lines = places.iter().filter(|(kind, _)| kind == "line").count();
+    assert!(lines > 100, "{lines}");
+    let reasons: Vec<&str> = first.keys().map(String::as_str).collect();
+    assert_eq!(reasons, ["0", "1", "2", "3", "4", "5", "6", "7"]);
+    let all: u32 = first.values().sum();
+    assert!(first["3"] * 6 > all, "{first:?}");
+}
+
 /// Demand 3: the same bytes and end calls, whatever the cuts and questions.
 #[test]
 fn random_cuts_do_not_matter() {
@@ -408,7 +493,7 @@ fn random_cuts_do_not_matter() {
     for _ in 0..200 {
         let mut text = Vec::new();
         for _ in 0..random.below(30) {
-            let choices: [&[u8]; 10] = [
+            let choices: [&[u8]; 11] = [
                 b"A B r\n",
                 b"C D",
                 b"\n",
@@ -417,6 +502,7 @@ fn random_cuts_do_not_matter() {
                 b"A A r\n",
                 b"x\n",
                 b"/ B r\n",
+                b" \tA B/ r\n",
                 b"E F q\n",
                 b"G H -wb\n",
             ];
