@@ -1,5 +1,5 @@
-/* A host of the library in C: it loads a rule file in pieces, asks, changes, revokes, maps and lists, and turns a file of old records into
- * rules and back.
+/* A host of the library in C: it loads a rule file in pieces, asks, changes, revokes, maps and lists, says where a bad label goes wrong, and
+ * turns a file of old records into rules and back.
  *
  *   gcc -O2 -Iinclude examples/host.c target/staticlib/libhost.a -o host && ./host examples/store_north.rules examples/old_logger.records
  *
@@ -18,7 +18,26 @@ static uint64_t words[BQ_WORDS];
 #define TABLES labels, BQ_LABELS, entries, BQ_ENTRIES, words, BQ_WORDS
 #define TEXT(s) (const uint8_t *)(s), strlen(s)
 
-/* Every answer says whether its call was refused. Where it was, this prints which call and with which number, and is true. */
+/* Where the first bad label goes wrong: at a byte that no label may have, at a dash that begins it, at the first byte too many, or, of an empty
+ * label, where its first byte would be. The library counts bytes from 0; a reader counts them from 1, as lines are counted. */
+static void print_place(size_t place, const char *of)
+{
+    printf("a label goes wrong at byte %zu of %s, counted from 1: by that byte, by a dash in front or by its length", place + 1, of);
+}
+
+/* A refusal, and beside 3 the place, which no other number has. `of` is what the place is counted in. */
+static void print_refused(uint8_t number, size_t place, const char *of)
+{
+    printf("refused %d", number);
+    if (number == BQ_BAD_LABEL) {
+        printf(": ");
+        print_place(place, of);
+    }
+    printf("\n");
+}
+
+/* Every answer says whether its call was refused. Where it was, this prints which call and with which number, and is true. It is for the calls
+ * that have no label to refuse. */
 static bool refused(const char *call, bool was, uint8_t number)
 {
     if (was)
@@ -26,12 +45,44 @@ static bool refused(const char *call, bool was, uint8_t number)
     return was;
 }
 
+/* The same for a write of fields. */
 static bool done(const char *call, bq_written w)
 {
-    if (refused(call, w.refused, w.number))
-        return false;
-    printf("%s: done\n", call);
-    return true;
+    printf("%s: ", call);
+    if (w.refused)
+        print_refused(w.number, w.place, "the write");
+    else
+        printf("done\n");
+    return !w.refused;
+}
+
+/* What a line of rule text, or one of the two calls of old records, is refused for, in words. */
+static const char *in_words(uint8_t number)
+{
+    switch (number) {
+    case BQ_TOO_LONG:
+        return "it has over 600 bytes";
+    case BQ_WRONG_FIELDS:
+        return "it does not have three fields";
+    case BQ_BAD_LABEL:
+        return "a label is not well formed";
+    case BQ_BAD_ACCESS:
+        return "an access byte is not allowed where it stands";
+    case BQ_SAME_LABELS:
+        return "subject and object are the same label";
+    case BQ_LABELS_FULL:
+        return "there is no room for its new labels";
+    case BQ_RULES_FULL:
+        return "there is no room for one more rule";
+    case BQ_OUTPUT_TOO_SHORT:
+        return "the lent output is too short";
+    case BQ_BAD_RECORD:
+        return "it does not have 53 bytes, or a label place is all spaces, has another byte after a space or does not end in a space";
+    case BQ_NOT_IN_A_RECORD:
+        return "a label has over 23 bytes, or there is a b; no old record holds that, and a label is never cut";
+    default:
+        return "no reason that is given here";
+    }
 }
 
 /* Ends the text and prints its report. */
@@ -40,10 +91,15 @@ static bool finish(bq_loader loader)
     bq_finished end = bq_end(TABLES, line, BQ_LINE, loader);
     if (refused("end call", end.refused, end.number))
         return false;
-    printf("load: %u lines, %u accepted, %u skipped, %u refused", end.report.lines, end.report.accepted, end.report.skipped, end.report.refused);
-    if (end.report.refused > 0)
-        printf(", the first at line %u for reason %d", end.report.first, end.report.reason);
-    printf("\n");
+    printf("load: %u lines, %u accepted, %u skipped, %u refused\n", end.report.lines, end.report.accepted, end.report.skipped, end.report.refused);
+    if (end.report.refused > 0) {
+        printf("line %u is the first refused, with %d: ", end.report.first, end.report.reason);
+        if (end.report.reason == BQ_BAD_LABEL)
+            print_place(end.report.place, "the line");
+        else
+            printf("%s", in_words(end.report.reason));
+        printf("\n");
+    }
     return true;
 }
 
@@ -77,27 +133,35 @@ static bool load(const char *path)
 
 static void ask(const char *subject, const char *object, const char *request, bool capable)
 {
-    static const char *const kinds[] = {
-        [BQ_GRANTED] = "granted", [BQ_DENIED] = "denied", [BQ_OVERRIDE] = "override", [BQ_REFUSED] = "refused"};
+    static const char *const kinds[] = {[BQ_GRANTED] = "granted", [BQ_DENIED] = "denied", [BQ_OVERRIDE] = "override"};
     bq_decision d = bq_question(TABLES, TEXT(subject), TEXT(object), TEXT(request), capable);
-    printf("may %s have %s to %s%s: %s %d%s\n", subject, request, object, capable ? " (override capability)" : "", kinds[d.kind], d.number,
-           d.bringup ? " b" : "");
+    printf("may %s have %s to %s%s: ", subject, request, object, capable ? " (override capability)" : "");
+    if (d.kind == BQ_REFUSED)
+        print_refused(d.number, d.place, "the subject or, where that is well formed, of the object");
+    else
+        printf("%s %d%s\n", kinds[d.kind], d.number, d.bringup ? " b" : "");
 }
 
 static void revoke(const char *subject)
 {
     bq_counted r = bq_revoke(TABLES, TEXT(subject));
-    if (!refused("revoke", r.refused, r.number))
-        printf("revoke '%s': %zu rules\n", subject, r.count);
+    printf("revoke '%s': ", subject);
+    if (r.refused)
+        print_refused(r.number, r.place, "that label");
+    else
+        printf("%zu rules\n", r.count);
 }
 
 static void show_mapping(const char *label)
 {
     bq_mapped m = bq_by_label(TABLES, TEXT(label));
-    if (m.kind == BQ_UNMAPPED)
-        printf("%s: no mapping\n", label);
-    else if (!refused("mapping by label", m.kind == BQ_LOOKUP_REFUSED, m.number))
-        printf("%s: level %d, %u categories\n", label, m.level, m.count);
+    printf("mapping of '%s': ", label);
+    if (m.kind == BQ_LOOKUP_REFUSED)
+        print_refused(m.number, m.place, "that label");
+    else if (m.kind == BQ_UNMAPPED)
+        printf("none\n");
+    else
+        printf("level %d, %u categories\n", m.level, m.count);
 }
 
 static void show_label_of(uint64_t level, uint64_t set)
@@ -134,31 +198,6 @@ static void list(void)
         if (refused("listing", r.refused, r.number))
             return;
         printf("rule %zu: %.*s", k, (int)r.length, (const char *)out);
-    }
-}
-
-/* What the two calls of old records refuse, in words. */
-static const char *in_words(uint8_t number)
-{
-    switch (number) {
-    case BQ_TOO_LONG:
-        return "it has over 600 bytes";
-    case BQ_WRONG_FIELDS:
-        return "it does not have three fields";
-    case BQ_BAD_LABEL:
-        return "a label is not well formed";
-    case BQ_BAD_ACCESS:
-        return "an access byte is not allowed where it stands";
-    case BQ_SAME_LABELS:
-        return "subject and object are the same label";
-    case BQ_OUTPUT_TOO_SHORT:
-        return "the lent output is too short";
-    case BQ_BAD_RECORD:
-        return "it does not have 53 bytes, or a label place is all spaces, has another byte after a space or does not end in a space";
-    case BQ_NOT_IN_A_RECORD:
-        return "a label has over 23 bytes, or there is a b; no old record holds that, and a label is never cut";
-    default:
-        return "no reason that these calls give";
     }
 }
 
@@ -262,20 +301,25 @@ int main(int argc, char **argv)
     ask("Desk", "Air_StoreNorth_01", "r", false);
     ask("Desk", "Air_StoreNorth_01", "r", true);
     ask("Desk", "Air_StoreNorth_01", "rt", true); /* BQ_BAD_REQUEST: t is no letter of a request */
+    ask("Desk", "Archive/2026", "r", true);       /* BQ_BAD_LABEL: with the place of the slash */
 
     done("change 'Alarm Archive r -'", bq_change(TABLES, TEXT("Alarm Archive r -")));
-    done("change 'Alarm Alarm r -'", bq_change(TABLES, TEXT("Alarm Alarm r -"))); /* BQ_SAME_LABELS */
+    done("change 'Alarm Alarm r -'", bq_change(TABLES, TEXT("Alarm Alarm r -")));               /* BQ_SAME_LABELS */
+    done("change 'Alarm Archive/2026 r -'", bq_change(TABLES, TEXT("Alarm Archive/2026 r -"))); /* BQ_BAD_LABEL, as three more below */
     ask("Alarm", "Archive", "r", false);
 
+    revoke("Recorder "); /* the blank is a byte of the label here */
     revoke("Recorder");
     ask("Recorder", "Archive", "a", false);
 
+    done("override list 'Desk -'", bq_onlycap(TABLES, TEXT("Desk -"))); /* only a dash alone clears the list */
     done("override list 'Desk Alarm'", bq_onlycap(TABLES, TEXT("Desk Alarm")));
     ask("Recorder", "Archive", "a", true);
     ask("Desk", "Archive", "a", true);
 
     done("mapping 'Archive 9 1 63'", bq_mapping(TABLES, TEXT("Archive 9 1 63")));
     show_mapping("Archive");
+    show_mapping("Archive/2026");
     show_label_of(9, BQ_CATEGORY(1) | BQ_CATEGORY(63));
     bq_record run[] = {{7, 9, BQ_CATEGORY(1)}, {5, 9, BQ_CATEGORY(1)}, {3, 8, BQ_CATEGORY(1)}};
     show_lowest(run, sizeof run / sizeof *run, 9, BQ_CATEGORY(1));

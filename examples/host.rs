@@ -1,5 +1,5 @@
-//! A host of the library in Rust: it loads a rule file in pieces, asks, changes, revokes, maps and lists, and turns a file of old records into
-//! rules and back.
+//! A host of the library in Rust: it loads a rule file in pieces, asks, changes, revokes, maps and lists, says where a bad label goes wrong, and
+//! turns a file of old records into rules and back.
 //!
 //!   rustc -O --edition 2021 -L target/staticlib examples/host.rs -o host && ./host examples/store_north.rules examples/old_logger.records
 //!
@@ -28,18 +28,7 @@ mod balqirven {
         1 << (64 - n)
     }
 
-    #[repr(C)]
-    #[derive(Clone, Copy)]
-    pub struct Loader {
-        pub kept: usize,
-        pub lines: u32,
-        pub accepted: u32,
-        pub skipped: u32,
-        pub refused: u32,
-        pub first: u32,
-        pub reason: u8,
-    }
-
+    /// `place` belongs to the first refused line, and says something where `reason` is 3.
     #[repr(C)]
     #[derive(Clone, Copy)]
     pub struct Report {
@@ -49,6 +38,14 @@ mod balqirven {
         pub refused: u32,
         pub first: u32,
         pub reason: u8,
+        pub place: usize,
+    }
+
+    #[repr(C)]
+    #[derive(Clone, Copy)]
+    pub struct Loader {
+        pub kept: usize,
+        pub report: Report,
     }
 
     #[repr(C)]
@@ -63,6 +60,7 @@ mod balqirven {
     struct Written {
         refused: bool,
         number: u8,
+        place: usize,
     }
 
     #[repr(C)]
@@ -70,6 +68,7 @@ mod balqirven {
         refused: bool,
         number: u8,
         count: usize,
+        place: usize,
     }
 
     #[repr(C)]
@@ -101,6 +100,7 @@ mod balqirven {
         level: u8,
         count: u32,
         set: u64,
+        place: usize,
     }
 
     #[repr(C)]
@@ -111,10 +111,11 @@ mod balqirven {
     }
 
     #[repr(C)]
-    struct Shown {
+    struct Decision {
         kind: u8,
         number: u8,
         bringup: bool,
+        place: usize,
     }
 
     #[repr(C)]
@@ -150,34 +151,44 @@ mod balqirven {
         fn bq_by_label(l: Bytes, ln: usize, e: Bytes, en: usize, w: *const u64, wn: usize, label: Bytes, label_n: usize) -> Mapped;
         fn bq_by_level(l: Bytes, ln: usize, e: Bytes, en: usize, w: *const u64, wn: usize, level: u64, set: u64) -> Lowest;
         fn bq_lowest_in_run(records: *const Record, n: usize, level: u64, set: u64) -> Lowest;
-        fn bq_question(l: Bytes, ln: usize, e: Bytes, en: usize, w: *const u64, wn: usize, subject: Bytes, subject_n: usize, object: Bytes, object_n: usize, request: Bytes, request_n: usize, capable: bool) -> Shown;
+        fn bq_question(l: Bytes, ln: usize, e: Bytes, en: usize, w: *const u64, wn: usize, subject: Bytes, subject_n: usize, object: Bytes, object_n: usize, request: Bytes, request_n: usize, capable: bool) -> Decision;
         fn bq_list_rule(l: Bytes, ln: usize, e: Bytes, en: usize, w: *const u64, wn: usize, k: usize, out: *mut u8, out_n: usize) -> Length;
         fn bq_label(l: Bytes, ln: usize, e: Bytes, en: usize, w: *const u64, wn: usize, k: usize) -> Part;
         fn bq_record_to_line(record: Bytes, record_n: usize, out: *mut u8, out_n: usize) -> Length;
         fn bq_line_to_record(line: Bytes, line_n: usize, out: *mut u8, out_n: usize) -> Length;
     }
 
-    /// A refusal, by its number; what each means, include/balqirven.h says.
+    /// A refusal: its number; and beside BAD_LABEL the place of the first bad byte, from 0, in the line, the write or the lent label. Beside any
+    /// other number, and from the calls of old records, the place is 0 and says nothing. include/balqirven.h tells it all.
     #[derive(Clone, Copy, Debug, PartialEq, Eq)]
-    pub struct Refused(pub u8);
+    pub struct Refused {
+        pub number: u8,
+        pub place: usize,
+    }
 
+    /// The numbers.
     impl Refused {
-        pub const DAMAGED: Refused = Refused(0);
-        pub const TOO_LONG: Refused = Refused(1);
-        pub const WRONG_FIELDS: Refused = Refused(2);
-        pub const BAD_LABEL: Refused = Refused(3);
-        pub const BAD_ACCESS: Refused = Refused(4);
-        pub const SAME_LABELS: Refused = Refused(5);
-        pub const LABELS_FULL: Refused = Refused(6);
-        pub const RULES_FULL: Refused = Refused(7);
-        pub const BAD_REQUEST: Refused = Refused(8);
-        pub const BAD_LEVEL_OR_CATEGORY: Refused = Refused(9);
-        pub const MAPPINGS_FULL: Refused = Refused(10);
-        pub const TOO_MANY_OVERRIDES: Refused = Refused(11);
-        pub const OUTPUT_TOO_SHORT: Refused = Refused(12);
-        pub const NO_SUCH_NUMBER: Refused = Refused(13);
-        pub const BAD_RECORD: Refused = Refused(14);
-        pub const NOT_IN_A_RECORD: Refused = Refused(15);
+        pub const DAMAGED: u8 = 0;
+        pub const TOO_LONG: u8 = 1;
+        pub const WRONG_FIELDS: u8 = 2;
+        pub const BAD_LABEL: u8 = 3;
+        pub const BAD_ACCESS: u8 = 4;
+        pub const SAME_LABELS: u8 = 5;
+        pub const LABELS_FULL: u8 = 6;
+        pub const RULES_FULL: u8 = 7;
+        pub const BAD_REQUEST: u8 = 8;
+        pub const BAD_LEVEL_OR_CATEGORY: u8 = 9;
+        pub const MAPPINGS_FULL: u8 = 10;
+        pub const TOO_MANY_OVERRIDES: u8 = 11;
+        pub const OUTPUT_TOO_SHORT: u8 = 12;
+        pub const NO_SUCH_NUMBER: u8 = 13;
+        pub const BAD_RECORD: u8 = 14;
+        pub const NOT_IN_A_RECORD: u8 = 15;
+    }
+
+    /// A refusal of a call whose answer has no place.
+    fn plain(number: u8) -> Refused {
+        Refused { number, place: 0 }
     }
 
     /// The answer to a question: rule numbers are 01's.
@@ -204,19 +215,19 @@ mod balqirven {
     }
 
     fn done(w: Written) -> Result<(), Refused> {
-        if w.refused { Err(Refused(w.number)) } else { Ok(()) }
+        if w.refused { Err(Refused { number: w.number, place: w.place }) } else { Ok(()) }
     }
 
     fn found(w: Lowest) -> Result<Option<usize>, Refused> {
         match w.kind {
             LABEL => Ok(Some(w.label)),
             NO_LABEL => Ok(None),
-            _ => Err(Refused(w.number)),
+            _ => Err(plain(w.number)),
         }
     }
 
     fn front(r: Length, out: &[u8]) -> Result<&[u8], Refused> {
-        if r.refused { Err(Refused(r.number)) } else { Ok(&out[..r.length]) }
+        if r.refused { Err(plain(r.number)) } else { Ok(&out[..r.length]) }
     }
 
     // The three parts as pointers and lengths: to write, to read, or with only the entries to write.
@@ -253,7 +264,7 @@ mod balqirven {
             let w = unsafe {
                 bq_revoke(self.labels.as_ptr(), LABELS, self.entries.as_mut_ptr(), ENTRIES, self.words.as_ptr(), WORDS, label.as_ptr(), label.len())
             };
-            if w.refused { Err(Refused(w.number)) } else { Ok(w.count) }
+            if w.refused { Err(Refused { number: w.number, place: w.place }) } else { Ok(w.count) }
         }
 
         pub fn by_label(&self, label: &[u8]) -> Result<Option<Mapping>, Refused> {
@@ -261,7 +272,7 @@ mod balqirven {
             match m.kind {
                 MAPPED => Ok(Some(Mapping { level: m.level, set: m.set, count: m.count })),
                 UNMAPPED => Ok(None),
-                _ => Err(Refused(m.number)),
+                _ => Err(Refused { number: m.number, place: m.place }),
             }
         }
 
@@ -275,7 +286,7 @@ mod balqirven {
                 GRANTED => Answer::Granted { rule: d.number, bringup: d.bringup },
                 DENIED => Answer::Denied { rule: d.number },
                 OVERRIDE => Answer::Override { rule: d.number },
-                _ => Answer::Refused(Refused(d.number)),
+                _ => Answer::Refused(Refused { number: d.number, place: d.place }),
             }
         }
 
@@ -287,7 +298,7 @@ mod balqirven {
         /// Label k: the very part of the label store that holds it.
         pub fn label(&self, k: usize) -> Result<&[u8], Refused> {
             let p = call!(bq_label, read self, k);
-            if p.refused { Err(Refused(p.number)) } else { Ok(&self.labels[p.start..p.start + p.length]) }
+            if p.refused { Err(plain(p.number)) } else { Ok(&self.labels[p.start..p.start + p.length]) }
         }
     }
 
@@ -320,13 +331,13 @@ mod balqirven {
         pub fn piece(&mut self, t: &mut Tables, text: &[u8]) -> Result<(), Refused> {
             let r = call!(bq_piece, write t, self.line.as_mut_ptr(), LINE, self.loader, text.as_ptr(), text.len());
             self.loader = r.loader;
-            if r.refused { Err(Refused(r.number)) } else { Ok(()) }
+            if r.refused { Err(plain(r.number)) } else { Ok(()) }
         }
 
         pub fn end(&mut self, t: &mut Tables) -> Result<Report, Refused> {
             let r = call!(bq_end, write t, self.line.as_mut_ptr(), LINE, self.loader);
             self.loader = r.loader;
-            if r.refused { Err(Refused(r.number)) } else { Ok(r.report) }
+            if r.refused { Err(plain(r.number)) } else { Ok(r.report) }
         }
     }
 }
@@ -336,20 +347,37 @@ use balqirven::{FIXED_PLACE, FIXED_RECORD, LONGEST_FIXED_LINE, LONGEST_RULE};
 use std::fs::File;
 use std::io::Read;
 
-/// Every answer says whether its call was refused. Where it was, this prints which call and with which number.
+/// Where the first bad label goes wrong: at a byte that no label may have, at a dash that begins it, at the first byte too many, or, of an empty
+/// label, where its first byte would be. The library counts bytes from 0; a reader counts them from 1, as lines are counted.
+fn place_in_words(place: usize, of: &str) -> String {
+    format!("a label goes wrong at byte {} of {of}, counted from 1: by that byte, by a dash in front or by its length", place + 1)
+}
+
+/// A refusal, and beside 3 the place, which no other number has. `of` is what the place is counted in.
+fn refused(refusal: Refused, of: &str) -> String {
+    match refusal.number {
+        Refused::BAD_LABEL => format!("refused 3: {}", place_in_words(refusal.place, of)),
+        number => format!("refused {number}"),
+    }
+}
+
+/// Every answer says whether its call was refused. Where it was, this prints which call and with which number. It is for the calls that have no
+/// label to refuse.
 fn accepted<T>(call: &str, answer: Result<T, Refused>) -> Option<T> {
     match answer {
         Ok(value) => Some(value),
-        Err(Refused(number)) => {
-            println!("{call}: refused {number}");
+        Err(refusal) => {
+            println!("{call}: refused {}", refusal.number);
             None
         }
     }
 }
 
+/// The same for a write of fields.
 fn done(call: &str, answer: Result<(), Refused>) {
-    if accepted(call, answer).is_some() {
-        println!("{call}: done");
+    match answer {
+        Ok(()) => println!("{call}: done"),
+        Err(refusal) => println!("{call}: {}", refused(refusal, "the write")),
     }
 }
 
@@ -362,11 +390,14 @@ fn fresh() -> Option<Box<Tables>> {
 /// Ends the text and prints its report.
 fn finish(t: &mut Tables, text: &mut Load) -> Option<()> {
     let r = accepted("end call", text.end(t))?;
-    print!("load: {} lines, {} accepted, {} skipped, {} refused", r.lines, r.accepted, r.skipped, r.refused);
+    println!("load: {} lines, {} accepted, {} skipped, {} refused", r.lines, r.accepted, r.skipped, r.refused);
     if r.refused > 0 {
-        print!(", the first at line {} for reason {}", r.first, r.reason);
+        let why = match r.reason {
+            Refused::BAD_LABEL => place_in_words(r.place, "the line"),
+            reason => in_words(reason).to_string(),
+        };
+        println!("line {} is the first refused, with {}: {why}", r.first, r.reason);
     }
-    println!();
     Some(())
 }
 
@@ -392,17 +423,27 @@ fn ask(t: &Tables, subject: &str, object: &str, request: &str, capable: bool) {
         Answer::Granted { rule, bringup } => format!("granted {rule}{}", if bringup { " b" } else { "" }),
         Answer::Denied { rule } => format!("denied {rule}"),
         Answer::Override { rule } => format!("override {rule}"),
-        Answer::Refused(Refused(number)) => format!("refused {number}"),
+        // the subject or, where that is well formed, the object
+        Answer::Refused(refusal) => refused(refusal, "the subject or, where that is well formed, of the object"),
     };
     println!("may {subject} have {request} to {object}{}: {answer}", if capable { " (override capability)" } else { "" });
 }
 
+fn revoke(t: &mut Tables, subject: &str) {
+    let answer = match t.revoke(subject.as_bytes()) {
+        Ok(count) => format!("{count} rules"),
+        Err(refusal) => refused(refusal, "that label"),
+    };
+    println!("revoke '{subject}': {answer}");
+}
+
 fn show_mapping(t: &Tables, label: &str) {
-    match accepted("mapping by label", t.by_label(label.as_bytes())) {
-        Some(Some(m)) => println!("{label}: level {}, {} categories", m.level, m.count),
-        Some(None) => println!("{label}: no mapping"),
-        None => {}
-    }
+    let answer = match t.by_label(label.as_bytes()) {
+        Ok(Some(m)) => format!("level {}, {} categories", m.level, m.count),
+        Ok(None) => "none".to_string(),
+        Err(refusal) => refused(refusal, "that label"),
+    };
+    println!("mapping of '{label}': {answer}");
 }
 
 fn show_label_of(t: &Tables, level: u64, set: u64) {
@@ -430,7 +471,7 @@ fn list(t: &Tables) {
     let mut out = [0; LONGEST_RULE];
     for k in 0.. {
         match t.list_rule(k, &mut out) {
-            Err(Refused::NO_SUCH_NUMBER) => return,
+            Err(Refused { number: Refused::NO_SUCH_NUMBER, .. }) => return,
             answer => match accepted("listing", answer) {
                 Some(text) => print!("rule {k}: {}", String::from_utf8_lossy(text)),
                 None => return,
@@ -439,18 +480,20 @@ fn list(t: &Tables) {
     }
 }
 
-/// What the two calls of old records refuse, in words.
-fn in_words(refusal: Refused) -> &'static str {
-    match refusal {
+/// What a line of rule text, or one of the two calls of old records, is refused for, in words.
+fn in_words(number: u8) -> &'static str {
+    match number {
         Refused::TOO_LONG => "it has over 600 bytes",
         Refused::WRONG_FIELDS => "it does not have three fields",
         Refused::BAD_LABEL => "a label is not well formed",
         Refused::BAD_ACCESS => "an access byte is not allowed where it stands",
         Refused::SAME_LABELS => "subject and object are the same label",
+        Refused::LABELS_FULL => "there is no room for its new labels",
+        Refused::RULES_FULL => "there is no room for one more rule",
         Refused::OUTPUT_TOO_SHORT => "the lent output is too short",
         Refused::BAD_RECORD => "it does not have 53 bytes, or a label place is all spaces, has another byte after a space or does not end in a space",
         Refused::NOT_IN_A_RECORD => "a label has over 23 bytes, or there is a b; no old record holds that, and a label is never cut",
-        _ => "no reason that these calls give",
+        _ => "no reason that is given here",
     }
 }
 
@@ -463,7 +506,7 @@ fn load_records(t: &mut Tables, file: &[u8]) -> Option<()> {
         // of a file cut short, the rest is refused with BAD_RECORD
         match record_to_line(record, &mut out) {
             Ok(line) => accepted("piece", text.piece(t, line))?,
-            Err(refusal) => println!("record {k} is refused with {}: {}", refusal.0, in_words(refusal)),
+            Err(Refused { number, .. }) => println!("record {k} is refused with {number}: {}", in_words(number)),
         }
     }
     finish(t, &mut text)
@@ -482,11 +525,11 @@ fn back_to_records(t: &Tables, file: &[u8]) -> Option<()> {
     let (mut k, mut back) = (0, 0);
     loop {
         let rule = match t.list_rule(k, &mut out) {
-            Err(Refused::NO_SUCH_NUMBER) => break,
+            Err(Refused { number: Refused::NO_SUCH_NUMBER, .. }) => break,
             answer => accepted("listing", answer)?,
         };
         match line_to_record(rule, &mut record) {
-            Err(refusal) => println!("rule {k} is refused with {}: {}", refusal.0, in_words(refusal)),
+            Err(Refused { number, .. }) => println!("rule {k} is refused with {number}: {}", in_words(number)),
             Ok(record) if !has(file, record) => println!("rule {k} came back as a record that the file does not have"),
             Ok(_) => back += 1,
         }
@@ -498,7 +541,7 @@ fn back_to_records(t: &Tables, file: &[u8]) -> Option<()> {
 
 fn show_record(rule: &str) {
     match line_to_record(rule.as_bytes(), &mut [0; FIXED_RECORD]) {
-        Err(refusal) => println!("'{rule}' is refused with {}: {}", refusal.0, in_words(refusal)),
+        Err(Refused { number, .. }) => println!("'{rule}' is refused with {number}: {}", in_words(number)),
         Ok(record) => println!("'{rule}' as a record: '{}'", String::from_utf8_lossy(record)),
     }
 }
@@ -545,22 +588,25 @@ fn main() {
     ask(t, "Desk", "Air_StoreNorth_01", "r", false);
     ask(t, "Desk", "Air_StoreNorth_01", "r", true);
     ask(t, "Desk", "Air_StoreNorth_01", "rt", true); // BAD_REQUEST: t is no letter of a request
+    ask(t, "Desk", "Archive/2026", "r", true); // BAD_LABEL: with the place of the slash
 
     done("change 'Alarm Archive r -'", t.change(b"Alarm Archive r -"));
     done("change 'Alarm Alarm r -'", t.change(b"Alarm Alarm r -")); // SAME_LABELS
+    done("change 'Alarm Archive/2026 r -'", t.change(b"Alarm Archive/2026 r -")); // BAD_LABEL, as three more below
     ask(t, "Alarm", "Archive", "r", false);
 
-    if let Some(count) = accepted("revoke", t.revoke(b"Recorder")) {
-        println!("revoke 'Recorder': {count} rules");
-    }
+    revoke(t, "Recorder "); // the blank is a byte of the label here
+    revoke(t, "Recorder");
     ask(t, "Recorder", "Archive", "a", false);
 
+    done("override list 'Desk -'", t.override_list(b"Desk -")); // only a dash alone clears the list
     done("override list 'Desk Alarm'", t.override_list(b"Desk Alarm"));
     ask(t, "Recorder", "Archive", "a", true);
     ask(t, "Desk", "Archive", "a", true);
 
     done("mapping 'Archive 9 1 63'", t.mapping(b"Archive 9 1 63"));
     show_mapping(t, "Archive");
+    show_mapping(t, "Archive/2026");
     show_label_of(t, 9, category(1) | category(63));
     let run = [(7, 9), (5, 9), (3, 8)].map(|(label, level)| Record { label, level, set: category(1) });
     show_lowest(&run, 9, category(1));
