@@ -3936,6 +3936,142 @@ def places_beside():
     s.store()
 
 
+def places_two():
+    s = Script("places_two", "02, Three: two bad bytes in a label, the first counts whatever the two are; a bad label beside other fields, in full tables, and beside calls that tell no place.", True)
+    s.fresh()
+    s.dump("fresh", True)
+
+    def every_call(label, where):
+        """The label in each call and at each place of a label there; `where` is the place of its first bad byte."""
+        s.revoke(label, bad(where))
+        s.bylabel(label, bad(where))
+        s.ask(label, b"Air", b"r", bad(where))
+        s.ask(b"Air", label, b"r", bad(where))
+        if b" " in label or b"\t" in label:
+            return
+        s.change(b" " + label + b" Air r -", bad(1 + where))
+        s.change(b"Air  " + label + b" r -", bad(5 + where))
+        s.override(b"\t" + label, bad(1 + where))
+        s.override(b"Air Door " + label, bad(9 + where))
+        s.mapping(b"  " + label + b" 9 1", bad(2 + where))
+        if b"\n" not in label:
+            s.line(b"\t" + label + b" Air r", 3, 1 + where)
+            s.line(b"Air\t " + label + b" r", 3, 5 + where)
+    s.say("Every byte that no label may have, at place 3 before a slash, and behind one.")
+    for byte in range(256):
+        if byte not in LABEL_BYTES:
+            every_call(b"Air%cDo/r" % byte, 3)
+            every_call(b"Ai/r%cDoor" % byte, 2)
+    s.say("Bytes of each kind before each other kind, side by side and apart; a dash is none of them but in front.")
+    kinds = b"\x00\x1f\x7f\x80\xff/\\'\""
+    for one in kinds:
+        for other in kinds:
+            if one != other:
+                every_call(b"Alarm%c%cAir" % (one, other), 5)
+                every_call(b"A-%cDoor-North%c" % (one, other), 2)
+    s.dump("fresh", True)
+    s.say("The fields behind the labels have no place, whatever they hold.")
+    for other in (b"/", b"-/", b"r/", b"-", b"--r", b"q", b"\x00", b"\xff", spoilt(256), b"rwxatb"):
+        s.line(b"A/ B " + other, 3, 1)
+        s.line(b"A B/ " + other, 3, 3)
+        for more in (b"-", b"/", b"r"):
+            for text, where in ((b"A/ B ", 1), (b"A B/ ", 3)):
+                s.change(text + other + b" " + more, bad(where))
+                s.change(text + more + b" " + other, bad(where))
+        s.mapping(b"A/ " + other, bad(1))
+        s.mapping(b"A/ 9 1 " + other, bad(1))
+        s.mapping(b" -A 9 " + other + b" 1", bad(1))
+    s.say("A good label before a bad one, of each mark; a lone dash before a bad label counts, in a list of labels too.")
+    for mark in (b"_", b"^", b"*", b"?", b"@", b"Air", b"-A"):
+        first, where = len(mark) + 1, 0 if mark == b"-A" else len(mark) + 3
+        s.line(mark + b" Do/r r", 3, where)
+        s.change(mark + b" Do/r - r", bad(where))
+        s.override(mark + b" Do/r", bad(where))
+        s.override(mark + b" - Do/r", bad(0 if mark == b"-A" else first))
+        s.override(mark + b" -D Do/r", bad(0 if mark == b"-A" else first))
+        s.ask(mark, b"Do/r", b"r", bad(0 if mark == b"-A" else 2))
+        s.ask(b"Do/r", mark, b"r", bad(2))
+    for text, where in ((b"- A/", 0), (b" - A/", 1), (b"A - B/", 2), (b"-- A/", 0), (b"A -B C/", 2), (b"A/ -", 1), (b"A/ - -", 1), (b"A B/ -", 3)):
+        s.override(text, bad(where))
+    for text, where in ((b"- A/ r", 0), (b"A/ - r", 1), (b"- - r", 0), (b"- - -", 0), (b"A - -", 2)):
+        s.line(text, 3, where)
+        s.change(text + b" -", bad(where))
+    s.dump("fresh", True)
+    s.say("Writes of 598 to 600 bytes, their blanks before, between and behind.")
+    for length in (598, 599, 600):
+        for text, where in ((b"A/ B r -", 1), (b"A B/ r -", 3)):
+            wide = b" " * (length - len(text))
+            s.change(text + wide, bad(where))
+            s.change(wide + text, bad(len(wide) + where))
+            s.change(text[:2] + wide + text[2:], bad(where if where == 1 else len(wide) + where))
+        wide = b"\t" * (length - 4)
+        s.mapping(b"A/ 9" + wide, bad(1))
+        s.mapping(wide + b"A/ 9", bad(len(wide) + 1))
+        s.override(b"A -B" + wide, bad(2))
+        s.override(wide + b"A -B", bad(len(wide) + 2))
+        s.override(b"A " + wide + b"-B", bad(len(wide) + 2))
+    s.say("In full tables, and with an override list.")
+    full(s, 64, 256, 32)
+    s.override(b"L05 L06")
+    for subject, object_, where in ((b"L0/", b"L06", 2), (b"L05", b"L0/", 2), (b"L05", b"-", 0), (b"L05/", b"L0/", 3), (b"Unseen", b"L0/", 2), (b"*", b"", 0)):
+        for capable in (0, 1):
+            s.ask(subject, object_, b"r", bad(where), capable)
+    s.revoke(b"L0/", bad(2))
+    s.bylabel(b"L0/", bad(2))
+    s.mapping(b"\tL0/ 9", bad(3))
+    s.override(b"L05 L0/", bad(6))
+    s.change(b"L05  L0/ r -", bad(7))
+    s.line(b"L05 \t L0/ r", 3, 8)
+    s.say("A place that is kept stays through every call, done or refused, that tells none.")
+    s.fresh()
+    s.line(b"A B r", None)
+    s.mapping(b"A 9 1")
+    s.piece(b"Alarm Air/ r\nA B")
+    s.dump("held")
+    s.list(0, b"A B r\n")
+    s.list(1, 13)
+    s.list(0, 12, b"\xee" * 5)
+    s.label(5, b"A")
+    s.label(7, 13)
+    s.bylevel(9, category(1), "label 5")
+    s.bylevel(256, 0, "refused 9")
+    s.run(9, 0, ((3, 9, 0),), "label 3")
+    s.to_line(fixed(b"A/", b"B", b"-----"), 3)
+    s.to_line(fixed(b"A", b"B", b"-----"), b"A B -\n")
+    s.to_record(b"A B/ r", 3)
+    s.to_record(b"A B r", fixed(b"A", b"B", b"r----"))
+    s.bylabel(b"A", "mapping 9 %d 1" % category(1))
+    s.ask(b"A", b"B", b"r", "granted 6")
+    s.dump("held")
+    s.piece(b"", "done")
+    s.dump("held")
+    s.say("A piece and an end call that are refused for the line part or for the loader leave it too.")
+    s.call("resize line 599", "done")
+    s.piece(b"/ r\n", "refused 0")
+    s.end("refused 0")
+    s.call("resize line 600", "done")
+    s.poke("loader", 0, 602)
+    s.piece(b"/ r\n", "refused 0")
+    s.end("refused 0")
+    s.poke("loader", 0, 3)
+    s.dump("held")
+    s.piece(b" r\n")
+    s.end("report 2 1 0 1 1 3", 9)
+    s.say("So many lines refused before, and 300 in a row: the first one's place stays.")
+    for refused in (2, 127, 128, 255, 256, 257, 32768, 65535, 65536, 16777216, 2147483648):
+        s.poke("loader", 4, refused)
+        s.poke("loader", 5, 1)
+        s.poke("loader", 6, 3)
+        s.poke("loader", 7, 9)
+        s.piece(b"A B/ r\n-A B r\nA B\n")
+        s.end("report 3 0 0 %d 1 3" % (refused + 3), 9)
+    s.piece(b"Alarm Air/ r\n" + b"A B/ r\n" * 299 + b"Ala/rm Air r")
+    s.end("report 301 0 0 301 1 3", 9)
+    s.piece(b"A\n" + b"A B/ r\n" * 300)
+    s.end("report 301 0 0 301 1 2")
+    s.store()
+
+
 def places_program():
     lines = [b"A/ B r", b"   A B/ r", b"-A B r", b"A - r", spoilt(256) + b" B r", b"A " + spoilt(300, (100, b"/")) + b" r", b"A/ B", b"A/ B r" + b" " * 600, b"A/ B/ q", b"A B r"]
     program("program_places", b"".join(line + b"\n" for line in lines) + b"?\n" + b"".join(line + b"\n" for line in lines),
@@ -3949,6 +4085,7 @@ def places():
     places_cuts()
     places_report()
     places_beside()
+    places_two()
     places_program()
 
 

@@ -13,10 +13,12 @@ use Rattle.modes.specs.Modes.{bitOf, allowedByte, modesOf, readModes}
 use Rattle.numbers.specs.Numbers.{numberOf}
 use Rattle.store.specs.Table.{isPair}
 use Rattle.store.specs.Pairs.{modesBetween}
-use Rattle.lines.specs.Lines.{ruleBy, ruleOf}
+use Rattle.lines.specs.Lines.{ruleBy, ruleOf, changeOf}
 use Rattle.rules.specs.Rules.{withPair}
+use Rattle.revoke.specs.Revoke.{revokeWrite}
 use Rattle.onlycap.specs.Onlycap.{onlycapWrite}
 use Rattle.cipso.specs.Cipso.{saidBy, mappingOf, mappingWrite, categoriesOf}
+use Rattle.lookups.specs.Lookups.{labelLookup}
 use Rattle.access.specs.Access.{effective, decide, answer}
 use Rattle.lists.specs.Reader.{endLine, takeByte, finish, limited}
 use Rattle.replies.specs.Replies.{decimal, answerLine}
@@ -45,7 +47,7 @@ examples-of-01 =
     }
 
 pub examples-of-02 : ExamplesOf02
-unfolding all first put sameBytes isBlank labelByte wellFormed faultOf fields badByteIn bitOf allowedByte modesOf readModes ruleBy ruleOf onlycapWrite saidBy mappingOf mappingWrite numberOf categoriesOf isPair withPair modesBetween endLine takeByte finish limited effective decide answer decimal answerLine answerTo reportLine output
+unfolding all first put sameBytes isBlank labelByte wellFormed faultOf fields badByteIn bitOf allowedByte modesOf readModes ruleBy ruleOf onlycapWrite saidBy mappingOf mappingWrite numberOf categoriesOf isPair withPair modesBetween endLine takeByte finish limited effective decide answer decimal answerLine answerTo reportLine output changeOf revokeWrite labelLookup
 examples-of-02 =
     record {
       subject = refl;
@@ -58,4 +60,5 @@ examples-of-02 =
       first-refused = refl;
       first-refused-cut = refl;
       another-first = refl;
+      replies = refl;
     }

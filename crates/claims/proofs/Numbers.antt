@@ -47,4 +47,6 @@ numbers-of-02 =
       plain = λ n. refl;
       written = (refl, λ r. refl);
       revoked = (λ k. refl, λ r. refl);
+      taken = (λ old l. refl, λ old n. refl);
+      finished = (λ old l r. refl, λ old n. refl);
     }

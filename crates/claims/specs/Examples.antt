@@ -12,7 +12,8 @@ use Rattle.store.specs.Judged.{is-refused}
 use Rattle.lines.specs.Lines.{ruleOf, refused}
 use Rattle.onlycap.specs.Onlycap.{onlycapWrite}
 use Rattle.cipso.specs.Cipso.{mappingWrite}
-use Rattle.lists.specs.Reader.{piece, end-call, report, startOn, saysAll, reports}
+use Rattle.lists.specs.Reader as r
+use Rattle.lists.specs.Reader.{piece, end-call, ask, write, refusal, report, answered, mapped, startOn, saysAll, reports}
 use Rattle.access.specs.declared.Denial.the-variants.{StarSubject, AnyOther}
 use Rattle.access.specs.declared.Answer.the-variants.{Granted, Denied, Override, Refused}
 use Rattle.replies.specs.Replies.{answerLine}
@@ -64,3 +65,13 @@ pub record ExamplesOf02 : Type 0 where
   pub another-first :
       reports (saysAll (startOn fresh) (piece (ascii "Air\nAir/2 Door r\n") ∷ end-call ∷ []))
       ≡ report (record { lines = 2; accepted = 0; skipped = 0; refused = 2; first = 1; reason = 2; place = 0 }) ∷ []
+  -- what the plain reader says to the single writes and to the calls that write no table; in a label that is lent by itself a blank is a bad byte
+  pub replies :
+      saysAll (startOn fresh)
+      (write (r.change (ascii " Air/2 Do\\or q -")) ∷ write (r.revoke (ascii "Air ")) ∷ write (r.onlycap (ascii "Air - /")) ∷ write (r.mapping (ascii "\tAi/r 9"))
+      ∷ ask (r.by-label (ascii "Air/")) ∷ ask (r.question (ascii "Air/") (ascii "D/") [] false) ∷ ask (r.question (ascii "Air") (ascii "D/") [] true) ∷ [])
+      ≡ refusal (badLabelAt 4) ∷ refusal (badLabelAt 3) ∷ refusal (badLabelAt 4) ∷ refusal (badLabelAt 3)
+      ∷ mapped (record { kind = 2; number = 3; level = 0; count = 0; set = 0; place = 3 })
+      ∷ answered (record { kind = 3; number = 3; bringup = false; place = 3 })
+      ∷ answered (record { kind = 3; number = 3; bringup = false; place = 1 })
+      ∷ []

@@ -22,7 +22,11 @@ use Rattle.lookups.specs.declared.Label.the-variants as label
 use Rattle.output.specs.declared.Output.the-variants as output
 use Rattle.store.specs.declared.Done.the-variants as done
 use Rattle.revoke.specs.declared.Revoked.the-variants as revoked
-use Rattle.answers.specs.Answers.{shown, writeShown, revokeShown, lookupShown, searchShown, outputShown}
+use Rattle.reports.specs.declared.Report.{Report}
+use Rattle.reports.specs.declared.Loader.{Loader}
+use Rattle.load.specs.declared.Fed.the-variants as fed
+use Rattle.load.specs.declared.Ended.the-variants as ended
+use Rattle.answers.specs.Answers.{shown, writeShown, revokeShown, pieceShown, endShown, lookupShown, searchShown, outputShown}
 use Rattle.store.specs.Pairs.{no-rule, modesSoFar}
 
 -- the refusals and the limits, in 01's order
@@ -81,3 +85,15 @@ pub record NumbersOf02 : Type 0 where
       × ((r : Refusal) → writeShown (done.Refused r) ≡ record { refused = true; number = r .number; place = r .place })
   pub revoked : ((k : ℕ) → revokeShown (revoked.Count k) ≡ record { refused = false; number = 0; count = k; place = 0 })
       × ((r : Refusal) → revokeShown (revoked.Refused r) ≡ record { refused = true; number = r .number; count = 0; place = r .place })
+  -- a piece and the end call, which are refused with 0 alone: the loader is then the one that was handed in, and the report has no number and no place
+  pub taken : ((old l : Loader) → pieceShown old (fed.Done l) ≡ record { refused = false; number = 0; loader = l })
+      × ((old : Loader) (n : ℕ) → pieceShown old (fed.Refused n) ≡ record { refused = true; number = n; loader = old })
+  pub finished : ((old l : Loader) (r : Report) → endShown old (ended.Report r l) ≡ record { refused = false; number = 0; report = r; loader = l })
+      × ((old : Loader) (n : ℕ) →
+      endShown old (ended.Refused n)
+      ≡ record {
+        refused = true;
+        number = n;
+        report = record { lines = 0; accepted = 0; skipped = 0; refused = 0; first = 0; reason = 0; place = 0 };
+        loader = old;
+      })
