@@ -1,4 +1,5 @@
--- What only contracts inside the library and proofs speak of: the table of the byte classes, whether a part of a label is label bytes, and where in a line its fields stand. Nobody has to believe it: what it says of lines is held to `fields` by the laws. Assumes nothing.
+-- What only contracts inside the library and proofs speak of: the table of the byte classes, whether a part of a label is label bytes, and where in a line its
+-- fields stand. Nobody has to believe it: what it says of lines is held to `fields` by the laws. Assumes nothing.
 use Prim.Native.Nat.{ℕ, zero, suc, _+_, _-_}
 use mathlib.Core.Bool.{Bool, true, false, cond}
 use mathlib.Core.List.{List, [], _∷_}

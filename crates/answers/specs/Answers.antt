@@ -1,8 +1,8 @@
 -- 01's number and values for each case of each answer that is an enum: what a host gets for it, as plain numbers. The promises of the
 -- exported functions use these definitions. Where an answer is refused the number and the place are the refusal's, and otherwise 0 (but for the number
--- of a question); what a case has no value for is 0. A call that tells no place
--- (a piece, the end call, what is written to a lent output, by level and set, the label by its number) has none in its answer; the fresh table and the call
--- beside the label of a number answer as a write does, with place 0. Assumes nothing.
+-- of a question); what a case has no value for is 0. A call that tells no place (a piece, the end call, what is written to a lent output, by level and
+-- set, the label by its number) has none in its answer; the fresh table and the call beside the label of a number answer as a write does, with place 0.
+-- Assumes nothing.
 use Prim.Native.Nat.{ℕ}
 use mathlib.Core.Bool.{true, false}
 use Rattle.store.specs.declared.Done.{Done}

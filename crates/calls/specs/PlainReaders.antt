@@ -64,7 +64,8 @@ Sets t t₁ (r.mapping text) = (l : List ℕ) × (level : ℕ) × (set : ℕ) ×
 pub data Made : Table → List Act → Table → Type 0 where
   none : {t : Table} → Made t [] t
   skipped : {t t′ : Table} {bytes : List ℕ} {rest : List Act} → judged t (ruleOf bytes) ≡ is-skipped → Made t rest t′ → Made t (line bytes ∷ rest) t′
-  refused : {t t′ : Table} {bytes : List ℕ} {rest : List Act} (why : Refusal) → judged t (ruleOf bytes) ≡ is-refused why → Made t rest t′ → Made t (line bytes ∷ rest) t′
+  refused : {t t′ : Table} {bytes : List ℕ} {rest : List Act} (why : Refusal) → judged t (ruleOf bytes) ≡ is-refused why → Made t rest t′ →
+      Made t (line bytes ∷ rest) t′
   accepted :
       {t t₁ t′ : Table} {bytes : List ℕ} {rest : List Act} (s o : List ℕ) (m : ℕ) →
       judged t (ruleOf bytes) ≡ is-accepted t₁ →
@@ -74,7 +75,8 @@ pub data Made : Table → List Act → Table → Type 0 where
       KeepsPlaces t t₁ s o →
       Made t₁ rest t′ →
       Made t (line bytes ∷ rest) t′
-  write-refused : {t t′ : Table} {rest : List Act} (w : Write) (why : Refusal) → judgeWrite w t ≡ is-refused why → Made t rest t′ → Made t (single w ∷ rest) t′
+  write-refused : {t t′ : Table} {rest : List Act} (w : Write) (why : Refusal) → judgeWrite w t ≡ is-refused why → Made t rest t′ →
+      Made t (single w ∷ rest) t′
   write-accepted : {t t₁ t′ : Table} {rest : List Act} (w : Write) → judgeWrite w t ≡ is-accepted t₁ → Sets t t₁ w →
       Made t₁ rest t′ → Made t (single w ∷ rest) t′
 

@@ -1,5 +1,5 @@
--- 01's examples and further ones of 02, byte for byte: what the program writes for its example input, and further inputs whose reports have every column; each form of an answer line; a
--- record of a run that matches; where the first bad byte is. Assumes nothing.
+-- 01's examples, and some of 02, byte for byte: what the program writes for its example input, and further inputs whose reports have every column; each form
+-- of an answer line; a record of a run that matches; where the first bad byte is. Assumes nothing.
 use Prim.Native.Nat.{ℕ}
 use mathlib.Core.Path.{_≡_}
 use mathlib.Core.Bool.{true, false}

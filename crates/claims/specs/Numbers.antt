@@ -78,7 +78,8 @@ pub record NumbersOf01 : Type 0 where
 -- what 02 adds, request by request. One: the refusals 14 and 15; the most bytes of a label in an old record, the bytes of a label's place, and those
 -- of the record. Three: the place beside a 3, as every answer that has one shows it; a refusal is plain where its place is 0
 pub record NumbersOf02 : Type 0 where
-  pub old-records : (refusal.badRecord .number ∷ refusal.notInARecord .number ∷ recordLabel ∷ labelPlace ∷ recordSize ∷ []) ≡ 14 ∷ 15 ∷ 23 ∷ 24 ∷ 53 ∷ []
+  pub old-records :
+      (refusal.badRecord .number ∷ refusal.notInARecord .number ∷ recordLabel ∷ labelPlace ∷ recordSize ∷ []) ≡ 14 ∷ 15 ∷ 23 ∷ 24 ∷ 53 ∷ []
   pub bad-label : (p : ℕ) → refusal.badLabelAt p ≡ record { number = 3; place = p }
   pub plain : (n : ℕ) → refusal.plain n ≡ record { number = n; place = 0 }
   pub written : (writeShown done.Done ≡ record { refused = false; number = 0; place = 0 })

@@ -91,8 +91,8 @@ recordSays r = cond (isRecord r) (saidBy (placeLabel (subjectPlace r)) (placeLab
 
 -- ---- a record to a line, in the listing's form
 
--- a text made of a rule that is said, or the refusal's number (02, Three, asks for no place here). A line without a field, which is skipped where rule text is loaded, has the wrong number of fields here;
--- neither a record nor a line of rule text says a change
+-- a text made of a rule that is said, or the refusal's number (02, Three, asks for no place here). A line without a field, which is skipped where rule text is
+-- loaded, has the wrong number of fields here; neither a record nor a line of rule text says a change
 abbrev pub ofRule : (List ℕ → List ℕ → ℕ → Text) → Said → Text
 ofRule made said.skipped = refused (wrongFields .number)
 ofRule made (said.refused r) = refused (r .number)
