@@ -10,7 +10,7 @@ ghost use lib.ListN.{length};
 ghost use Rattle.search.specs.Search.{placeOf};
 ghost use Rattle.search.specs.Bytes.{sameBytes};
 ghost use Rattle.store.specs.Table.{labelLimit, ruleLimit, onlycapLimit};
-ghost use Rattle.store.specs.Layout.{store, lent, modesFrom, onlycapFrom, setsFrom, tableOf, Sizes};
+ghost use Rattle.store.specs.Layout.{store, lent, modesFrom, onlycapFrom, firstsFrom, tableOf, Sizes};
 ghost use Rattle.store.specs.Within.{Counts};
 ghost use Rattle.store.specs.Pairs.{ruleBetween};
 ghost use Rattle.access.specs.SevenRules as rules;
@@ -105,7 +105,7 @@ fn same_label(subject: &[u8], object: &[u8], s: Found, o: Found) -> bool
 // Where the rule of two labels that were sought stands. The rule search, `places::find_pair`, is handed two numbers and lent no label; it is not begun
 // where a label has no number. Who calls it has tested the store, and has the numbers from searches of it.
 fn find_rule(entries: &[u8], words: &[u64], subject: Found, object: Found) -> Found
-    requires { ⌜ (modesFrom + ruleLimit ≤ length (now entries)) × (setsFrom ≤ length (now words)) × Counts (now words) ⌝ }
+    requires { ⌜ (modesFrom + ruleLimit ≤ length (now entries)) × (firstsFrom ≤ length (now words)) × Counts (now words) ⌝ }
     requires { ⌜ (placeOf subject 0 < labelLimit) × (placeOf object 0 < labelLimit) ⌝ }
     ensures { λ r. ⌜ r ≡ ruleBetween (tableOf (store [] (now (entries .entry)) (now (words .entry)))) subject object ⌝ }
 {
@@ -120,7 +120,7 @@ fn find_rule(entries: &[u8], words: &[u64], subject: Found, object: Found) -> Fo
 
 // Whether the onlycap list holds a label, by its number. Who calls it has tested the store.
 fn on_list(entries: &[u8], words: &[u64], subject: Found) -> bool
-    requires { ⌜ (onlycapFrom + onlycapLimit ≤ length (now entries)) × (setsFrom ≤ length (now words)) × Counts (now words) ⌝ }
+    requires { ⌜ (onlycapFrom + onlycapLimit ≤ length (now entries)) × (firstsFrom ≤ length (now words)) × Counts (now words) ⌝ }
     ensures { λ r. ⌜ r ≡ access.onList (tableOf (store [] (now (entries .entry)) (now (words .entry))) .onlycap) subject ⌝ }
 {
     let Found::At(s) = subject else {
@@ -140,7 +140,7 @@ fn on_list(entries: &[u8], words: &[u64], subject: Found) -> bool
 // Whether override counts after a denial: the asker has it, and the onlycap list is empty or holds the subject. Who calls it has tested the
 // store.
 fn effective(entries: &[u8], words: &[u64], subject: Found, capable: bool) -> bool
-    requires { ⌜ (onlycapFrom + onlycapLimit ≤ length (now entries)) × (setsFrom ≤ length (now words)) × Counts (now words) ⌝ }
+    requires { ⌜ (onlycapFrom + onlycapLimit ≤ length (now entries)) × (firstsFrom ≤ length (now words)) × Counts (now words) ⌝ }
     ensures { λ r. ⌜ r ≡ access.effective (tableOf (store [] (now (entries .entry)) (now (words .entry)))) subject capable ⌝ }
 {
     if !capable {
@@ -154,7 +154,7 @@ fn effective(entries: &[u8], words: &[u64], subject: Found, capable: bool) -> bo
 
 // The answer after a denial. Who calls it has tested the store.
 fn denied(entries: &[u8], words: &[u64], subject: Found, by: Denial, capable: bool) -> Answer
-    requires { ⌜ (onlycapFrom + onlycapLimit ≤ length (now entries)) × (setsFrom ≤ length (now words)) × Counts (now words) ⌝ }
+    requires { ⌜ (onlycapFrom + onlycapLimit ≤ length (now entries)) × (firstsFrom ≤ length (now words)) × Counts (now words) ⌝ }
     ensures { λ r. ⌜ r ≡ access.denied (access.effective (tableOf (store [] (now (entries .entry)) (now (words .entry)))) subject capable) by ⌝ }
 {
     if effective(entries, words, subject, capable) {
@@ -171,7 +171,7 @@ fn answered(
     verdict: Verdict,
     capable: bool,
 ) -> Answer
-    requires { ⌜ (onlycapFrom + onlycapLimit ≤ length (now entries)) × (setsFrom ≤ length (now words)) × Counts (now words) ⌝ }
+    requires { ⌜ (onlycapFrom + onlycapLimit ≤ length (now entries)) × (firstsFrom ≤ length (now words)) × Counts (now words) ⌝ }
     ensures { λ r. ⌜ r ≡ access.answered (access.effective (tableOf (store [] (now (entries .entry)) (now (words .entry)))) subject capable) verdict ⌝ }
 {
     match verdict {

@@ -130,7 +130,7 @@ badByteOfTwo s o = cond (wellFormed s) (badByte o) (badByte s)
 
 -- ---- lines
 
--- a line, and a single write, has at most 600 bytes
+-- a line, and every single write but a mapping, has at most 600 bytes
 abbrev pub lineLimit : ℕ
 lineLimit = 600
 

@@ -15,7 +15,7 @@ pub const SPACE: u8 = b' ';
 
 pub const DASH: u8 = b'-';
 
-// The most bytes of a label, and of a line or a single write.
+// The most bytes of a label; of a line, and of every single write but a mapping.
 pub const LABEL_LONGEST: usize = 255;
 
 pub const LINE_LIMIT: usize = 600;

@@ -13,6 +13,7 @@ use Rattle.access.specs.declared.Answer.{Answer}
 use Rattle.access.specs.declared.Answer.the-variants as answer
 use Rattle.revoke.specs.declared.Revoked.{Revoked}
 use Rattle.revoke.specs.declared.Revoked.the-variants as revoked
+use Rattle.numbers.specs.Categories.{noCategories}
 use Rattle.lookups.specs.declared.Lookup.{Lookup}
 use Rattle.lookups.specs.declared.Lookup.the-variants as lookup
 use Rattle.lookups.specs.declared.Label.{Label}
@@ -70,8 +71,8 @@ outputShown (output.Refused n) = record { refused = true; number = n; length = 0
 -- a look-up by label: kind 0 a mapping, with level, set and how many categories are in the set; 1 none; 2 refused
 abbrev pub lookupShown : Lookup → Mapped
 lookupShown (lookup.Mapped level s count) = record { kind = 0; number = 0; level = level; count = count; set = s; place = 0 }
-lookupShown lookup.Unmapped = record { kind = 1; number = 0; level = 0; count = 0; set = 0; place = 0 }
-lookupShown (lookup.Refused r) = record { kind = 2; number = r .number; level = 0; count = 0; set = 0; place = r .place }
+lookupShown lookup.Unmapped = record { kind = 1; number = 0; level = 0; count = 0; set = noCategories; place = 0 }
+lookupShown (lookup.Refused r) = record { kind = 2; number = r .number; level = 0; count = 0; set = noCategories; place = r .place }
 
 -- a look-up by level and set, in the table or in a run: kind 0 a label, by its number; 1 none; 2 refused
 abbrev pub searchShown : Label → Lowest

@@ -6,6 +6,7 @@ use load::Ended;
 use load::Fed;
 use lookups::Label;
 use lookups::Lookup;
+use numbers::CategorySet;
 use output::Output;
 use reports::Loader;
 use reports::Report;
@@ -74,7 +75,7 @@ pub struct Mapped {
     pub number: u8,
     pub level: u8,
     pub count: u32,
-    pub set: u64,
+    pub set: CategorySet,
     pub place: usize,
 }
 
@@ -249,7 +250,7 @@ pub fn lookup_shown(answer: Lookup) -> Mapped
             number: 0,
             level: 0,
             count: 0,
-            set: 0,
+            set: numbers::NO_CATEGORIES,
             place: 0,
         },
         Lookup::Refused(refusal) => Mapped {
@@ -257,7 +258,7 @@ pub fn lookup_shown(answer: Lookup) -> Mapped
             number: refusal.number,
             level: 0,
             count: 0,
-            set: 0,
+            set: numbers::NO_CATEGORIES,
             place: refusal.place,
         },
     }

@@ -13,6 +13,7 @@ use borrow.Fn.Kinds.{PK, RK, In, Out}
 use borrow.Fn.Run.{Over}
 use borrow.Fn.Plain.{Known}
 use borrow.Fn.World.{World}
+use Rattle.numbers.specs.declared.CategorySet.{CategorySet}
 use Rattle.host.proofs.bq_piece.Kinds as piece-kinds
 use Rattle.host.proofs.bq_piece.Reads as piece-reads
 use Rattle.host.proofs.bq_piece.Symbol as piece-symbol
@@ -300,7 +301,7 @@ by-label-call st l =
       ensures = refl;
     }
 
-abbrev by-level-call : (st : Store) (level set : ℕ) → Called-by-level
+abbrev by-level-call : (st : Store) (level : ℕ) (set : CategorySet) → Called-by-level
 by-level-call st level set =
     record {
       lifetimes = ([], ([], ([], tt)));

@@ -6,6 +6,7 @@ use mathlib.Core.List.{List, [], _∷_, _++_}
 use Rattle.refusals.specs.Refusals.{damaged}
 use Rattle.refusals.specs.declared.Refusal.{Refusal}
 use Rattle.alphabet.specs.Alphabet.{isNewline, fields}
+use Rattle.numbers.specs.declared.CategorySet.{CategorySet}
 use Rattle.store.specs.Table.{Table}
 use Rattle.store.specs.Layout.{tableOf}
 use Rattle.lines.specs.Lines.{ruleOf}
@@ -56,7 +57,7 @@ Sets t t₁ (r.change text) =
     × KeepsPlaces t t₁ s o
 Sets t t₁ (r.revoke l) = Revokes t t₁ l
 Sets t t₁ (r.onlycap text) = SetsFields t t₁ (fields text)
-Sets t t₁ (r.mapping text) = (l : List ℕ) × (level : ℕ) × (set : ℕ) × MappingText text l level set × Maps t t₁ l level set
+Sets t t₁ (r.mapping text) = (l : List ℕ) × (level : ℕ) × (set : CategorySet) × MappingText text l level set × Maps t t₁ l level set
 
 -- From table t to table t′ by these acts, one after the other. A line is judged whole, by its bytes and the table that the acts before it
 -- left: skipped or refused it changes nothing; accepted it is a well-formed triple with room for it, sets its pair's modes and changes no other

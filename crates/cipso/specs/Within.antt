@@ -8,6 +8,7 @@ use Rattle.refusals.specs.Refusals.{labelsFull, mappingsFull}
 use Rattle.search.specs.Search.{put, placeOf}
 use Rattle.search.specs.declared.Found.{Found}
 use Rattle.alphabet.specs.Within.{part}
+use Rattle.numbers.specs.declared.CategorySet.{CategorySet}
 use Rattle.store.specs.declared.Mapping.{Mapping}
 use Rattle.store.specs.Table.{Table, labelIn, labelLimit, mappingLimit, withLabels, withMappings, noPlace, labelsEntered, mappingIn}
 use Rattle.store.specs.Layout.{Store, tableOf, Sizes}
@@ -43,15 +44,15 @@ unfoldable pub placing : Table → List ℕ → Place
 placing t l = placeBy t (labelIn t l)
 
 -- the mapping that a write makes at that place, and the tables with it
-abbrev pub mappingOfSpot : Table → Spot → ℕ → ℕ → Mapping
+abbrev pub mappingOfSpot : Table → Spot → ℕ → CategorySet → Mapping
 mappingOfSpot t spot level s = record { label = placeOf (spot .label) (length (t .labels)); level = level; set = s }
 
-unfoldable pub withMappingAt : Table → List ℕ → Spot → ℕ → ℕ → Table
+unfoldable pub withMappingAt : Table → List ℕ → Spot → ℕ → CategorySet → Table
 withMappingAt t l spot level s =
     withMappings (withLabels t (labelsEntered (spot .label) (t .labels) l)) (put (spot .mapping) (t .mappings) (mappingOfSpot t spot level s))
 
 -- what becomes of it
-abbrev pub judgedAt : Table → List ℕ → ℕ → ℕ → Place → Judged
+abbrev pub judgedAt : Table → List ℕ → ℕ → CategorySet → Place → Judged
 judgedAt t l level s (place.Refused n) = is-refused n
 judgedAt t l level s (place.At spot) = is-accepted (withMappingAt t l spot level s)
 

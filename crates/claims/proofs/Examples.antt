@@ -11,6 +11,9 @@ use Rattle.search.proofs.Laws.{and-both}
 use Rattle.alphabet.specs.Alphabet.{isBlank, labelByte, wellFormed, faultOf, fields, badByteIn}
 use Rattle.modes.specs.Modes.{bitOf, allowedByte, modesOf, readModes}
 use Rattle.numbers.specs.Numbers.{numberOf}
+use Rattle.numbers.specs.Categories.{sameSet, withCategory}
+use Rattle.numbers.specs.declared.CategorySet.{CategorySet}
+use Rattle.numbers.proofs.Sets.{category-sets}
 use Rattle.store.specs.Table.{isPair}
 use Rattle.store.specs.Pairs.{modesBetween}
 use Rattle.lines.specs.Lines.{ruleBy, ruleOf, changeOf}
@@ -28,10 +31,10 @@ use Rattle.run.specs.Run.{matches}
 use Rattle.program.specs.Program.{answerTo, reportLine, output}
 use Rattle.claims.specs.Examples.{ExamplesOf01, ExamplesOf02}
 
-matching : (level set : ℕ) (r : Record) → (matches level set r ≡ true) ↔ ((r .level ≡ level) × (r .set ≡ set))
+matching : (level : ℕ) (set : CategorySet) (r : Record) → (matches level set r ≡ true) ↔ ((r .level ≡ level) × (r .set ≡ set))
 matching level set r = (
-  λ e. let h = and-both (eqb (r .level) level) (eqb (r .set) set) e in (eqb-true _ _ (h .0), eqb-true _ _ (h .1)),
-  λ h. rw (eq-eqb (r .level) level (h .0), eq-eqb (r .set) set (h .1)),
+  λ e. let h = and-both (eqb (r .level) level) (sameSet (r .set) set) e in (eqb-true _ _ (h .0), category-sets .equal (r .set) set .0 (h .1)),
+  λ h. rw (eq-eqb (r .level) level (h .0), category-sets .equal (r .set) set .1 (h .1)),
 )
 
 pub examples-of-01 : ExamplesOf01
@@ -47,7 +50,7 @@ examples-of-01 =
     }
 
 pub examples-of-02 : ExamplesOf02
-unfolding all first put sameBytes isBlank labelByte wellFormed faultOf fields badByteIn bitOf allowedByte modesOf readModes ruleBy ruleOf onlycapWrite saidBy mappingOf mappingWrite numberOf categoriesOf isPair withPair modesBetween endLine takeByte finish limited effective decide answer decimal answerLine answerTo reportLine output changeOf revokeWrite labelLookup
+unfolding all first put sameBytes isBlank labelByte wellFormed faultOf fields badByteIn bitOf allowedByte modesOf readModes ruleBy ruleOf onlycapWrite saidBy mappingOf mappingWrite numberOf withCategory categoriesOf isPair withPair modesBetween endLine takeByte finish limited effective decide answer decimal answerLine answerTo reportLine output changeOf revokeWrite labelLookup
 examples-of-02 =
     record {
       subject = refl;
@@ -56,6 +59,8 @@ examples-of-02 =
       other-fault = refl;
       override-list = refl;
       mapping = refl;
+      category-0 = refl;
+      category-185 = refl;
       program-line = refl;
       first-refused = refl;
       first-refused-cut = refl;

@@ -11,7 +11,6 @@ unfolding endAfter
 after-the-end s e = rw e
 
 pub numbers-of-01 : NumbersOf01
-unfolding withCategory
 numbers-of-01 =
     record {
       refused-by = refl;
@@ -21,8 +20,6 @@ numbers-of-01 =
       fresh-loader = refl;
       after-the-end = after-the-end;
       levels = λ n. refl;
-      categories = λ n. refl;
-      first-and-last = refl;
       granted = λ n b. refl;
       denied-1 = refl;
       denied-7 = refl;
@@ -40,6 +37,7 @@ numbers-of-01 =
     }
 
 pub numbers-of-02 : NumbersOf02
+unfolding withCategory
 numbers-of-02 =
     record {
       old-records = refl;
@@ -49,4 +47,9 @@ numbers-of-02 =
       revoked = (λ k. refl, λ r. refl);
       taken = (λ old l. refl, λ old n. refl);
       finished = (λ old l r. refl, λ old n. refl);
+      categories-and-mapping = refl;
+      lent-parts = refl;
+      categories = λ n. refl;
+      first-and-last = refl;
+      no-category = refl;
     }

@@ -90,7 +90,8 @@ cases =
     ∷ []
 
 -- further ones, of each rule and of what P1 to P12 leave out: rule 3; the other letters of rules 2 and 3; ? and @ are ordinary; two labels that are alike in their
--- first 23 bytes; write does not stand for append; dashes between letters; a rule without b; each refusal of a question; a change of a new pair, and of one with b
+-- first 23 bytes; write does not stand for append; dashes between letters; a rule without b; each refusal of a question; a change of a new pair, and of one with b;
+-- categories of each word of a set, one of them twice
 abbrev pub furtherCases : List Case
 furtherCases =
     asks [] (ascii "Door") (ascii "_") (ascii "rx") (granted 3)
@@ -115,4 +116,5 @@ furtherCases =
     ∷ asks [] (ascii "Door") (ascii "Air") [] (refusedWith 8)
     ∷ changes (ascii "Air Door r") (ascii "Probe3 Air xt -") (ascii "Probe3") (ascii "Air") (ascii "xt")
     ∷ changes (ascii "Probe3 Air rb") (ascii "Probe3 Air a r") (ascii "Probe3") (ascii "Air") (ascii "ab")
+    ∷ maps (ascii "Vault7 9 63 64 065 128 129 184 064") (ascii "Vault7") 9 (63 ∷ 64 ∷ 65 ∷ 128 ∷ 129 ∷ 184 ∷ []) 6
     ∷ []

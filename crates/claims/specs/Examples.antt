@@ -1,5 +1,5 @@
 -- 01's examples, and some of 02, byte for byte: what the program writes for its example input, and further inputs whose reports have every column; each form
--- of an answer line; a record of a run that matches; where the first bad byte is. Assumes nothing.
+-- of an answer line; a record of a run that matches; where the first bad byte is; categories that are none. Assumes nothing.
 use Prim.Native.Nat.{ℕ}
 use mathlib.Core.Path.{_≡_}
 use mathlib.Core.Bool.{true, false}
@@ -7,6 +7,8 @@ use mathlib.Core.Logic.{_↔_}
 use mathlib.Core.List.{[], _∷_}
 use Rattle.search.specs.Bytes.{ascii}
 use Rattle.refusals.specs.Refusals.{plain, badLabelAt}
+use Rattle.numbers.specs.Categories.{noCategories}
+use Rattle.numbers.specs.declared.CategorySet.{CategorySet}
 use Rattle.store.specs.Table.{fresh}
 use Rattle.store.specs.Judged.{is-refused}
 use Rattle.lines.specs.Lines.{ruleOf, refused}
@@ -38,9 +40,9 @@ pub record ExamplesOf01 : Type 0 where
   -- a rule as it is listed
   pub listed : textOf (ascii "Probe3") (ascii "Air") (ascii "w") ≡ ascii "Probe3 Air w\n"
   -- a record matches where its level and its set are those that are sought
-  pub matching : (level set : ℕ) (r : Record) → (matches level set r ≡ true) ↔ ((r .level ≡ level) × (r .set ≡ set))
+  pub matching : (level : ℕ) (set : CategorySet) (r : Record) → (matches level set r ≡ true) ↔ ((r .level ≡ level) × (r .set ≡ set))
 
--- 02, Three: where the first bad byte is, counted from 0
+-- 02, Three: where the first bad byte is, counted from 0; and Four: categories 0 and 185 are refused
 pub record ExamplesOf02 : Type 0 where
   -- in a line: past blanks, in the subject or else in the object; a leading dash; and other faults have no place
   pub subject : ruleOf (ascii " \tAir/2 Do\\or q") ≡ refused (badLabelAt 5)
@@ -50,6 +52,8 @@ pub record ExamplesOf02 : Type 0 where
   -- in an override list and a mapping
   pub override-list : onlycapWrite (ascii "Air - Door") fresh ≡ is-refused (badLabelAt 4)
   pub mapping : mappingWrite (ascii " Air\" 999") fresh ≡ is-refused (badLabelAt 4)
+  pub category-0 : mappingWrite (ascii "Vault7 9 1 0") fresh ≡ is-refused (plain 9)
+  pub category-185 : mappingWrite (ascii "Vault7 9 184 185") fresh ≡ is-refused (plain 9)
   -- the program prints as before
   pub program-line : output (ascii "Air/2 Door r\n?\nAir/2 Door r\n") ≡ ascii "1 0 0 1 1 3\nrefused 3\n"
   -- the report keeps the place of the first refused line, however the text is cut
@@ -71,7 +75,7 @@ pub record ExamplesOf02 : Type 0 where
       (write (r.change (ascii " Air/2 Do\\or q -")) ∷ write (r.revoke (ascii "Air ")) ∷ write (r.onlycap (ascii "Air - /")) ∷ write (r.mapping (ascii "\tAi/r 9"))
       ∷ ask (r.by-label (ascii "Air/")) ∷ ask (r.question (ascii "Air/") (ascii "D/") [] false) ∷ ask (r.question (ascii "Air") (ascii "D/") [] true) ∷ [])
       ≡ refusal (badLabelAt 4) ∷ refusal (badLabelAt 3) ∷ refusal (badLabelAt 4) ∷ refusal (badLabelAt 3)
-      ∷ mapped (record { kind = 2; number = 3; level = 0; count = 0; set = 0; place = 3 })
+      ∷ mapped (record { kind = 2; number = 3; level = 0; count = 0; set = noCategories; place = 3 })
       ∷ answered (record { kind = 3; number = 3; bringup = false; place = 3 })
       ∷ answered (record { kind = 3; number = 3; bringup = false; place = 1 })
       ∷ []

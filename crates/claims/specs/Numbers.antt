@@ -4,12 +4,15 @@ use Prim.Native.Nat.{ℕ}
 use mathlib.Core.Path.{_≡_}
 use mathlib.Core.Bool.{Bool, true, false, _&&_}
 use lib.Dec.{leb}
-use mathlib.Core.List.{List, [], _∷_, map}
+use mathlib.Core.List.{List, [], _∷_, map, foldl}
 use Rattle.search.specs.Bytes.{ascii}
 use Rattle.refusals.specs.Refusals as refusal
 use Rattle.refusals.specs.declared.Refusal.{Refusal}
 use Rattle.alphabet.specs.Alphabet.{labelLongest, lineLimit}
 use Rattle.numbers.specs.Categories.{levelLimit, isLevel, categoryLimit, isCategory, noCategories, withCategory}
+use Rattle.numbers.specs.declared.CategorySet.{CategorySet}
+use Rattle.cipso.specs.Cipso.{mappingLongest}
+use Rattle.store.specs.Layout.{labelsSize, entriesSize, wordsSize}
 use Rattle.store.specs.Table.{fresh, labelLimit, ruleLimit, mappingLimit, onlycapLimit}
 use Rattle.reports.specs.Report.{countLimit, freshLoader}
 use Rattle.load.specs.Loader.{Load, ready, endAfter}
@@ -37,11 +40,11 @@ refusals =
     ∷ refusal.noSuchNumber ∷ []
 
 abbrev pub limits : List ℕ
-limits = labelLongest ∷ labelLimit ∷ ruleLimit ∷ mappingLimit ∷ onlycapLimit ∷ lineLimit ∷ levelLimit ∷ categoryLimit ∷ countLimit ∷ longestRule ∷ []
+limits = labelLongest ∷ labelLimit ∷ ruleLimit ∷ mappingLimit ∷ onlycapLimit ∷ lineLimit ∷ levelLimit ∷ countLimit ∷ longestRule ∷ []
 
 pub record NumbersOf01 : Type 0 where
   pub refused-by : refusals ≡ map refusal.plain (0 ∷ 1 ∷ 2 ∷ 3 ∷ 4 ∷ 5 ∷ 6 ∷ 7 ∷ 8 ∷ 9 ∷ 10 ∷ 11 ∷ 12 ∷ 13 ∷ [])
-  pub sizes : limits ≡ 255 ∷ 64 ∷ 256 ∷ 32 ∷ 8 ∷ 600 ∷ 255 ∷ 63 ∷ 4294967295 ∷ 519 ∷ []
+  pub sizes : limits ≡ 255 ∷ 64 ∷ 256 ∷ 32 ∷ 8 ∷ 600 ∷ 255 ∷ 4294967295 ∷ 519 ∷ []
   -- a fresh table has the five labels and nothing else; a change of a pair that has no rule starts from no letter
   pub fresh-table :
       fresh
@@ -50,10 +53,7 @@ pub record NumbersOf01 : Type 0 where
   -- a fresh loader has kept nothing and counted nothing, and an end call that is not refused leaves one
   pub fresh-loader : freshLoader ≡ record { kept = 0; report = record { lines = 0; accepted = 0; skipped = 0; refused = 0; first = 0; reason = 0; place = 0 } }
   pub after-the-end : (s : Load) → ready s ≡ true → endAfter s .loader ≡ freshLoader
-  -- levels are 0 to 255 and categories 1 to 63; category 1 is the highest bit of a u64, and 63 the lowest but one
   pub levels : (n : ℕ) → isLevel n ≡ leb n 255
-  pub categories : (n : ℕ) → isCategory n ≡ (leb 1 n && leb n 63)
-  pub first-and-last : withCategory (withCategory noCategories 1) 63 ≡ 9223372036854775810
   -- a question: 0 granted, 1 denied, 2 granted by override, 3 refused, with the number that applies
   pub granted : (n : ℕ) (b : Bool) → shown (answer.Granted n b) ≡ record { kind = 0; number = n; bringup = b; place = 0 }
   pub denied-1 : shown (answer.Denied StarSubject) ≡ record { kind = 1; number = 1; bringup = false; place = 0 }
@@ -63,11 +63,11 @@ pub record NumbersOf01 : Type 0 where
   pub refused : (r : Refusal) → shown (answer.Refused r) ≡ record { kind = 3; number = r .number; bringup = false; place = r .place }
   -- a look-up: 0 found, 1 none, 2 refused
   pub mapped :
-      (level set count : ℕ) →
+      (level : ℕ) (set : CategorySet) (count : ℕ) →
       lookupShown (lookup.Mapped level set count) ≡ record { kind = 0; number = 0; level = level; count = count; set = set; place = 0 }
-  pub unmapped : lookupShown lookup.Unmapped ≡ record { kind = 1; number = 0; level = 0; count = 0; set = 0; place = 0 }
+  pub unmapped : lookupShown lookup.Unmapped ≡ record { kind = 1; number = 0; level = 0; count = 0; set = noCategories; place = 0 }
   pub look-up-refused :
-      (r : Refusal) → lookupShown (lookup.Refused r) ≡ record { kind = 2; number = r .number; level = 0; count = 0; set = 0; place = r .place }
+      (r : Refusal) → lookupShown (lookup.Refused r) ≡ record { kind = 2; number = r .number; level = 0; count = 0; set = noCategories; place = r .place }
   pub found : (k : ℕ) → searchShown (label.Number k) ≡ record { kind = 0; number = 0; label = k }
   pub none : searchShown label.Nothing ≡ record { kind = 1; number = 0; label = 0 }
   pub search-refused : (n : ℕ) → searchShown (label.Refused n) ≡ record { kind = 2; number = n; label = 0 }
@@ -76,7 +76,8 @@ pub record NumbersOf01 : Type 0 where
   pub not-listed : (n : ℕ) → outputShown (output.Refused n) ≡ record { refused = true; number = n; length = 0 }
 
 -- what 02 adds, request by request. One: the refusals 14 and 15; the most bytes of a label in an old record, the bytes of a label's place, and those
--- of the record. Three: the place beside a 3, as every answer that has one shows it; a refusal is plain where its place is 0
+-- of the record. Three: the place beside a 3, as every answer that has one shows it; a refusal is plain where its place is 0. Four: the highest category
+-- and the most bytes of a mapping write; the sizes of the lent parts, which the header has too; the first and the last category of each word of a set
 pub record NumbersOf02 : Type 0 where
   pub old-records :
       (refusal.badRecord .number ∷ refusal.notInARecord .number ∷ recordLabel ∷ labelPlace ∷ recordSize ∷ []) ≡ 14 ∷ 15 ∷ 23 ∷ 24 ∷ 53 ∷ []
@@ -98,3 +99,10 @@ pub record NumbersOf02 : Type 0 where
         report = record { lines = 0; accepted = 0; skipped = 0; refused = 0; first = 0; reason = 0; place = 0 };
         loader = old;
       })
+  pub categories-and-mapping : (categoryLimit ∷ mappingLongest ∷ []) ≡ 184 ∷ 1000 ∷ []
+  pub lent-parts : (labelsSize ∷ entriesSize ∷ wordsSize ∷ []) ≡ 16384 ∷ 840 ∷ 100 ∷ []
+  pub categories : (n : ℕ) → isCategory n ≡ (leb 1 n && leb n 184)
+  pub first-and-last :
+      foldl withCategory noCategories (1 ∷ 64 ∷ 65 ∷ 127 ∷ 128 ∷ 129 ∷ 184 ∷ [])
+      ≡ record { first = 9223372036854775809; second = 9223372036854775811; third = 9223372036854776064 }
+  pub no-category : noCategories ≡ record { first = 0; second = 0; third = 0 }

@@ -93,7 +93,7 @@ pub fn examples_of_01()
     ensures { λ _. ⌜ ExamplesOf01 ⌝ }
 {}
 
-// Examples of 02: where the first bad byte is, in a line, a write and the report; and what the program writes.
+// Examples of 02: where the first bad byte is, in a line, a write and the report; what the program writes; and that categories 0 and 185 are refused.
 pub fn examples_of_02()
     ensures { λ _. ⌜ ExamplesOf02 ⌝ }
 {}

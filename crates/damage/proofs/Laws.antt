@@ -10,6 +10,7 @@ use lib.ListN.{length, take, drop, getD, length-take, length-drop}
 use lib.Seq.{take-suc, getD-take, getD-drop}
 use Rattle.search.specs.Search.{all, entries}
 use Rattle.search.proofs.Laws.{all-snoc}
+use Rattle.numbers.specs.Categories.{knownSet}
 use Rattle.store.specs.declared.Rule.{Rule}
 use Rattle.store.specs.declared.Mapping.{Mapping}
 use Rattle.store.specs.Table.{soundRule, soundMapping, soundTable}
@@ -85,17 +86,17 @@ rules-within n m label modes e h few known =
 pub sound-runs :
     (n : ℕ) (e w : List ℕ) →
     840 ≤ length e →
-    36 ≤ length w →
+    100 ≤ length w →
     Counts w →
     soundTable n (tableOf (store [] e w))
     ≡ ((all (soundRule n) (entries (ruleAt e) (getD w 1 0))
-    && (all (λ (x : ℕ). ltb x n) (take (getD w 2 0) (take 32 (drop 768 e))) && all (λ (x : ℕ). eqb (x % 2) 0) (take (getD w 2 0) (take 32 (drop 4 w)))))
+    && (all (λ (x : ℕ). ltb x n) (take (getD w 2 0) (take 32 (drop 768 e))) && all (λ (x : ℕ). eqb (x % 256) 0) (take (getD w 2 0) (take 32 (drop 68 w)))))
     && all (λ (x : ℕ). ltb x n) (take (getD w 3 0) (take 8 (drop 832 e))))
 unfolding soundTable soundMapping mappingAt onlycapAt
 sound-runs n e w he hw c =
     rw (
-      all-and (λ (m : Mapping). ltb (m .label) n) (λ (m : Mapping). eqb (m .set % 2) 0) (entries (mappingAt e w) (getD w 2 0)),
+      all-and (λ (m : Mapping). ltb (m .label) n) (λ (m : Mapping). knownSet (m .set)) (entries (mappingAt e w) (getD w 2 0)),
       all-run (λ (m : Mapping). ltb (m .label) n) (λ (x : ℕ). ltb x n) (mappingAt e w) (take 32 (drop 768 e)) (getD w 2 0) (rw (part-length e 768 32 (omega arith)) (c .mappings)) (λ k h. ap (λ (x : ℕ). ltb x n) (sym (part-at e 768 32 k (omega (arith, c .mappings))))),
-      all-run (λ (m : Mapping). eqb (m .set % 2) 0) (λ (x : ℕ). eqb (x % 2) 0) (mappingAt e w) (take 32 (drop 4 w)) (getD w 2 0) (rw (part-length w 4 32 (omega arith)) (c .mappings)) (λ k h. ap (λ (x : ℕ). eqb (x % 2) 0) (sym (part-at w 4 32 k (omega (arith, c .mappings))))),
+      all-run (λ (m : Mapping). knownSet (m .set)) (λ (x : ℕ). eqb (x % 256) 0) (mappingAt e w) (take 32 (drop 68 w)) (getD w 2 0) (rw (part-length w 68 32 (omega arith)) (c .mappings)) (λ k h. ap (λ (x : ℕ). eqb (x % 256) 0) (sym (part-at w 68 32 k (omega (arith, c .mappings))))),
       all-run (λ (k : ℕ). ltb k n) (λ (x : ℕ). ltb x n) (onlycapAt e) (take 8 (drop 832 e)) (getD w 3 0) (rw (part-length e 832 8 (omega arith)) (c .onlycap)) (λ k h. ap (λ (x : ℕ). ltb x n) (sym (part-at e 832 8 k (omega (arith, c .onlycap))))),
     )

@@ -31,7 +31,7 @@ rule-passes n e k q =
     let b = and-both _ _ (a .0) in
     (ltb-true _ _ (b .0), ltb-true _ _ (b .1), ltb-true _ _ (a .1))
 
-mapping-passes : (n : ℕ) (e w : List ℕ) (k : ℕ) → soundMapping n (mappingAt e w k) ≡ true → (getD e (768 + k) 0 < n) × (getD w (4 + k) 0 % 2 ≡ 0)
+mapping-passes : (n : ℕ) (e w : List ℕ) (k : ℕ) → soundMapping n (mappingAt e w k) ≡ true → (getD e (768 + k) 0 < n) × (getD w (68 + k) 0 % 256 ≡ 0)
 unfolding soundMapping mappingAt
 mapping-passes n e w k q = let a = and-both _ _ q in (ltb-true _ _ (a .0), eqb-true _ _ (a .1))
 

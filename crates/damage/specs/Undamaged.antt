@@ -5,7 +5,7 @@ use mathlib.Core.Path.{_≡_}
 use mathlib.Core.Bool.{true}
 use mathlib.Core.Logic.{_↔_}
 use lib.ListN.{length, getD}
-use Rattle.store.specs.Layout.{Store, labelsSize, entriesSize, wordsSize, objectsFrom, modesFrom, mappedFrom, onlycapFrom, setsFrom, undamagedOf}
+use Rattle.store.specs.Layout.{Store, labelsSize, entriesSize, wordsSize, objectsFrom, modesFrom, mappedFrom, onlycapFrom, thirdsFrom, undamagedOf}
 
 -- the counts of labels, rules, mappings and onlycap labels are words 0 to 3
 pub record Undamaged (s : Store) : Type 0 where
@@ -25,8 +25,8 @@ pub record Undamaged (s : Store) : Type 0 where
   pub onlycap : (k : ℕ) → k < getD (s .words) 3 0 → getD (s .entries) (onlycapFrom + k) 0 < getD (s .words) 0 0
   -- no mode bit is unknown: the six known ones are the lowest
   pub modes : (k : ℕ) → k < getD (s .words) 1 0 → getD (s .entries) (modesFrom + k) 0 < 64
-  -- no category bit is unknown: bit 0 is no category
-  pub sets : (k : ℕ) → k < getD (s .words) 2 0 → getD (s .words) (setsFrom + k) 0 % 2 ≡ 0
+  -- no category bit is unknown: the eight lowest of a set's third word are no category, and all others are
+  pub sets : (k : ℕ) → k < getD (s .words) 2 0 → getD (s .words) (thirdsFrom + k) 0 % 256 ≡ 0
 
 -- a state passes the test exactly where it is as 01 says
 abbrev pub WhatUndamagedIs : Type 0

@@ -6,7 +6,7 @@ ghost use lib.Dec.{eqb};
 ghost use mathlib.Core.List.{[]};
 ghost use Rattle.search.specs.Search.{all, entries as listed};
 ghost use Rattle.store.specs.Table.{soundRule, soundTable, ruleLimit, mappingLimit, onlycapLimit};
-ghost use Rattle.store.specs.Layout.{store, lent, modesFrom, onlycapFrom, setsFrom, ruleAt, tableOf, undamagedOf};
+ghost use Rattle.store.specs.Layout.{store, lent, modesFrom, onlycapFrom, thirdsFrom, ruleAt, tableOf, undamagedOf};
 ghost use Rattle.store.specs.Within.{Counts};
 ghost use Rattle.damage.specs.Undamaged.{WhatUndamagedIs};
 ghost use Rattle.damage.specs.Within.{Bounded};
@@ -14,21 +14,21 @@ ghost use Rattle.damage.specs.Within.{Bounded};
 // What no known modes reach: there are six letters, each a bit.
 const MODES_END: u8 = 64;
 
-// Where the mappings' sets and the onlycap list end.
-const SETS_TO: usize = store::SETS_FROM + store::MAPPING_LIMIT;
+// Where the sets' third words and the onlycap list end.
+const THIRDS_TO: usize = store::THIRDS_FROM + store::MAPPING_LIMIT;
 
 const ONLYCAP_TO: usize = store::ONLYCAP_FROM + store::ONLYCAP_LIMIT;
 
-// Whether the first `count` words of a run are all even: no set has the bit that names no category. It reads all of them, so that the
+// Whether the first `count` third words of a run of sets have no bit that is no category, as `knownSet` has it. It reads all of them, so that the
 // compiler can take many at a time. Who calls it has made sure that the run has that many.
-fn all_even(run: &[u64], count: usize) -> bool
+fn all_known(run: &[u64], count: usize) -> bool
     requires { ⌜ count ≤ length (now run) ⌝ }
-    ensures { λ r. ⌜ r ≡ all (λ x. eqb (x % 2) 0) (take count (now (run .entry))) ⌝ }
+    ensures { λ r. ⌜ r ≡ all (λ x. eqb (x % 256) 0) (take count (now (run .entry))) ⌝ }
 {
     let mut ok = true;
     let mut i = 0;
     while i < count {
-        ok = ok & (run[i] % 2 == 0);
+        ok = ok & (run[i] % numbers::LOWEST_CATEGORY_BIT == 0);
         i += 1;
     }
     ok
@@ -91,7 +91,7 @@ fn rules_sound(entries: &[u8], rules: usize, labels: u8) -> bool
 // Whether each stored number names a stored label, and each stored mode and category bit is known. `undamaged` has tested the sizes and
 // the counts.
 fn sound(entries: &[u8], words: &[u64]) -> bool
-    requires { ⌜ (onlycapFrom + onlycapLimit ≤ length (now entries)) × (setsFrom + mappingLimit ≤ length (now words)) × Counts (now words) ⌝ }
+    requires { ⌜ (onlycapFrom + onlycapLimit ≤ length (now entries)) × (thirdsFrom + mappingLimit ≤ length (now words)) × Counts (now words) ⌝ }
     ensures { λ r. ⌜ r ≡ soundTable (getD (now (words .entry)) 0 0) (tableOf (store [] (now (entries .entry)) (now (words .entry)))) ⌝ }
 {
     let labels = words[store::LABEL_COUNT] as u8;
@@ -103,7 +103,7 @@ fn sound(entries: &[u8], words: &[u64]) -> bool
         mappings,
         labels,
     );
-    let sets = all_even(&words[store::SETS_FROM..SETS_TO], mappings);
+    let sets = all_known(&words[store::THIRDS_FROM..THIRDS_TO], mappings);
     let listed = search::all_below(&entries[store::ONLYCAP_FROM..ONLYCAP_TO], onlycap, labels);
     rules & (mapped & sets) & listed
 }

@@ -10,6 +10,7 @@ use Rattle.search.specs.declared.Found.the-variants.{At, Nothing}
 use Rattle.refusals.specs.Refusals.{badLabelAt}
 use Rattle.alphabet.specs.Alphabet.{wellFormed, badByte}
 use Rattle.numbers.specs.Categories.{categories}
+use Rattle.numbers.specs.declared.CategorySet.{CategorySet}
 use Rattle.store.specs.Table.{Table, labelIn, mappingIn, mappingNumbered}
 use Rattle.lookups.specs.declared.Lookup.the-variants.{Mapped, Unmapped, Refused}
 use Rattle.lookups.specs.Lookups.{mappedAs, lookedUp, lookupBy, labelLookup}
@@ -22,7 +23,7 @@ module _ (t : Table) (l : List ℕ) where
   has-mapping k h = ap (lookupBy t) (h .1) ∙ ap (lookedUp (t .mappings)) (h .2)
 
   found-mapped :
-      (level s count : ℕ) →
+      (level : ℕ) (s : CategorySet) (count : ℕ) →
       lookupBy t (labelIn t l) ≡ Mapped level s count →
       (k : ℕ) × HasMapping t l k × (mappingNumbered t k .level ≡ level) × (mappingNumbered t k .set ≡ s) × (count ≡ length (categories s))
   found-mapped level s count e = by-label (labelIn t l) refl e
@@ -38,7 +39,7 @@ module _ (t : Table) (l : List ℕ) where
           let x : mappingNumbered t k .level ≡ level = cc in
           let y : mappingNumbered t k .set ≡ s = cc in
           let z : length (categories (mappingNumbered t k .set)) ≡ count = cc in
-          (k, (n, a, b), x, y, sym z ∙ ap (λ (v : ℕ). length (categories v)) y)
+          (k, (n, a, b), x, y, sym z ∙ ap (λ (v : CategorySet). length (categories v)) y)
       by-mapping n a Nothing b e = let z : _≡_ {A = ℕ} 0 1 = cc in absurd (omega arith)
 
       by-label :
@@ -64,7 +65,7 @@ module _ (t : Table) (l : List ℕ) where
       by-label Nothing a = refl
 
   -- a look-up that is not refused is of a well formed label
-  formed-mapped : (level s count : ℕ) → labelLookup t l ≡ Mapped level s count → (wellFormed l ≡ true) × (lookupBy t (labelIn t l) ≡ Mapped level s count)
+  formed-mapped : (level : ℕ) (s : CategorySet) (count : ℕ) → labelLookup t l ≡ Mapped level s count → (wellFormed l ≡ true) × (lookupBy t (labelIn t l) ≡ Mapped level s count)
   unfolding labelLookup
   formed-mapped level s count e = by-test (wellFormed l) refl e
     where

@@ -13,7 +13,9 @@ use Rattle.search.specs.declared.Found.{Found}
 use Rattle.search.specs.declared.Found.the-variants.{At, Nothing}
 use Rattle.search.proofs.Laws.{no, and-both, not-so, all-at, first-is, first-before, entries-length, entries-at, found-at, found-none}
 use Rattle.alphabet.specs.Alphabet.{wellFormed}
-use Rattle.numbers.specs.Categories.{categories}
+use Rattle.numbers.specs.Categories.{categories, noCategories, sameSet}
+use Rattle.numbers.proofs.Sets.{category-sets}
+use Rattle.numbers.specs.declared.CategorySet.{CategorySet}
 use Rattle.store.specs.declared.Mapping.{Mapping}
 use Rattle.store.specs.Table.{Table, labelNumbered, mappingIn}
 use Rattle.lookups.specs.declared.Lookup.the-variants.{Mapped}
@@ -25,24 +27,24 @@ use Rattle.effects.specs.OverrideAndLookUp.{HasBoth, LowestLabel}
 use Rattle.effects.proofs.Entering.{found-some}
 
 -- a mapping has both exactly where its look-up says so
-mapping-has : (level s : ℕ) (m : Mapping) → (bothEqual level s m ≡ true) ↔ (mappedAs m ≡ Mapped level s (length (categories s)))
+mapping-has : (level : ℕ) (s : CategorySet) (m : Mapping) → (bothEqual level s m ≡ true) ↔ (mappedAs m ≡ Mapped level s (length (categories s)))
 mapping-has level s m = (
   λ e.
-      let h = and-both (eqb (m .level) level) (eqb (m .set) s) e in
+      let h = and-both (eqb (m .level) level) (sameSet (m .set) s) e in
       let a : m .level ≡ level = eqb-true _ _ (h .0) in
-      let b : m .set ≡ s = eqb-true _ _ (h .1) in
+      let b : m .set ≡ s = category-sets .equal (m .set) s .0 (h .1) in
       rw (a, b),
   λ e.
       let a : m .level ≡ level = cc in
       let b : m .set ≡ s = cc in
-      rw (eq-eqb _ _ a, eq-eqb _ _ b),
+      rw (eq-eqb _ _ a, category-sets .equal (m .set) s .1 b),
 )
 
-found-has : (level s : ℕ) (ms : List Mapping) (f : Found) → (mappedTo level s ms f ≡ true) ↔ (lookedUp ms f ≡ Mapped level s (length (categories s)))
-found-has level s ms (At k) = mapping-has level s (getD ms k (record { label = 0; level = 0; set = 0 }))
+found-has : (level : ℕ) (s : CategorySet) (ms : List Mapping) (f : Found) → (mappedTo level s ms f ≡ true) ↔ (lookedUp ms f ≡ Mapped level s (length (categories s)))
+found-has level s ms (At k) = mapping-has level s (getD ms k (record { label = 0; level = 0; set = noCategories }))
 found-has level s ms Nothing = (λ e. absurd (no e), λ e. let z : _≡_ {A = ℕ} 0 1 = cc in absurd (omega arith))
 
-module _ (t : Table) (level s : ℕ) (h : Sane t) where
+module _ (t : Table) (level : ℕ) (s : CategorySet) (h : Sane t) where
   -- a label's own look-up goes by its number
   own-look-up : (n : ℕ) → n < length (t .labels) → labelLookup t (labelNumbered t n) ≡ lookedUp (t .mappings) (mappingIn t n)
   unfolding labelLookup
@@ -111,7 +113,7 @@ number-none (At k) e = let z : _≡_ {A = ℕ} 0 1 = cc in absurd (omega arith)
 number-none Nothing e = refl
 
 -- THE LOWEST LABEL
-pub lowest : (t : Table) (level s : ℕ) → Sane t → sought level s ≡ true → LowestLabel t level s
+pub lowest : (t : Table) (level : ℕ) (s : CategorySet) → Sane t → sought level s ≡ true → LowestLabel t level s
 unfolding levelLookup
 lowest t level s h e =
     record {

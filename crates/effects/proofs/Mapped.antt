@@ -18,7 +18,8 @@ use Rattle.search.proofs.Laws.{and-both, not-so, same-equal, all-at, first-is, 
 use Rattle.search.proofs.Laws.{first-put, first-put-other, found-put-other, put-at, put-other, length-put}
 use Rattle.refusals.specs.Refusals.{labelsFull, mappingsFull, badLabelAt}
 use Rattle.alphabet.specs.Alphabet.{wellFormed, badByte}
-use Rattle.numbers.specs.Categories.{categories}
+use Rattle.numbers.specs.Categories.{categories, noCategories}
+use Rattle.numbers.specs.declared.CategorySet.{CategorySet}
 use Rattle.store.specs.declared.Mapping.{Mapping}
 use Rattle.store.specs.Table.{Table, labelIn, enter, names, mappingIn, soundMapping, noPlace}
 use Rattle.store.specs.Judged.{is-refused, is-accepted}
@@ -35,11 +36,11 @@ use Rattle.effects.specs.Effects.{HasMapping, Maps}
 use Rattle.effects.proofs.Entering.{entering}
 
 abbrev none : Mapping
-none = record { label = 0; level = 0; set = 0 }
+none = record { label = 0; level = 0; set = noCategories }
 
 -- ---- mappings of a number, and of the others
 
-module _ (ms : List Mapping) (n level s : ℕ) where
+module _ (ms : List Mapping) (n level : ℕ) (s : CategorySet) where
   abbrev new : Mapping
   new = record { label = n; level = level; set = s }
 
@@ -113,7 +114,7 @@ lookups-kept t t′ sound front same x =
         ap (λ (ms : List Mapping). lookedUp ms (first (names i) ms)) same ∙ ap (lookedUp (t .mappings)) (unmapped-beyond t sound i (k i refl refl))
     by-found Nothing Nothing h k = refl
 
-module _ (t : Table) (sound : SoundTable t) (l : List ℕ) (level s : ℕ) (formed : wellFormed l ≡ true) where
+module _ (t : Table) (sound : SoundTable t) (l : List ℕ) (level : ℕ) (s : CategorySet) (formed : wellFormed l ≡ true) where
   abbrev t′ : Table
   t′ =
       record {
@@ -191,7 +192,7 @@ module _ (t : Table) (sound : SoundTable t) (l : List ℕ) (level s : ℕ) (form
 
 -- AN ACCEPTED MAPPING
 pub mapping-maps :
-    (t t′ : Table) (text l : List ℕ) (level s : ℕ) →
+    (t t′ : Table) (text l : List ℕ) (level : ℕ) (s : CategorySet) →
     SoundTable t →
     mappingOf text ≡ mapping l level s →
     mappingWrite text t ≡ is-accepted t′ →

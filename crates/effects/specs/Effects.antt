@@ -12,6 +12,7 @@ use Rattle.search.specs.Bytes.{sameBytes}
 use Rattle.search.specs.declared.Found.the-variants.{At, Nothing}
 use Rattle.alphabet.specs.Alphabet.{dash}
 use Rattle.numbers.specs.Categories.{categories}
+use Rattle.numbers.specs.declared.CategorySet.{CategorySet}
 use Rattle.store.specs.declared.Rule.{Rule}
 use Rattle.store.specs.Table.{Table, labelIn, labelNumbered, ruleNumbered, mappingIn, mappingNumbered}
 use Rattle.store.specs.Pairs.{PairModes, has-modes, no-rule, ruleBetween, modesBetween}
@@ -81,7 +82,7 @@ abbrev pub HasMapping : Table → List ℕ → ℕ → Type 0
 HasMapping t l k = (n : ℕ) × (labelIn t l ≡ At n) × (mappingIn t n ≡ At k)
 
 -- 01: the label is mapped to the level and the set, in its former mapping's place; a new mapping goes last
-pub record Maps (t t′ : Table) (l : List ℕ) (level set : ℕ) : Type 0 where
+pub record Maps (t t′ : Table) (l : List ℕ) (level : ℕ) (set : CategorySet) : Type 0 where
   -- looked up by its label it gives the level, the set and how many categories are in the set; no other label's look-up changes
   pub found : labelLookup t′ l ≡ Mapped level set (length (categories set))
   pub others : (x : List ℕ) → x ≢ l → labelLookup t′ x ≡ labelLookup t x

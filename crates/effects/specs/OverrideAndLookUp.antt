@@ -8,6 +8,7 @@ use lib.ListN.{length}
 use Rattle.search.specs.declared.Found.the-variants.{At, Nothing}
 use Rattle.alphabet.specs.Alphabet.{wellFormed}
 use Rattle.numbers.specs.Categories.{categories}
+use Rattle.numbers.specs.declared.CategorySet.{CategorySet}
 use Rattle.store.specs.Table.{Table, labelIn, labelNumbered, mappingNumbered}
 use Rattle.lookups.specs.declared.Lookup.the-variants.{Mapped, Unmapped}
 use Rattle.lookups.specs.declared.Label.the-variants as label
@@ -44,7 +45,7 @@ pub record OverrideCounts (t : Table) : Type 0 where
 -- 01: level, set and how many categories are in the set; an unmapped label gives none
 pub record LabelsMapping (t : Table) (l : List ℕ) : Type 0 where
   pub mapped :
-      (level set count : ℕ) →
+      (level : ℕ) (set : CategorySet) (count : ℕ) →
       (labelLookup t l ≡ Mapped level set count)
       ↔ ((wellFormed l ≡ true)
       × (k : ℕ)
@@ -57,11 +58,11 @@ pub record LabelsMapping (t : Table) (l : List ℕ) : Type 0 where
 -- ---- looked up by level and set
 
 -- label number n, looked up, has this level and this set
-abbrev pub HasBoth : Table → ℕ → ℕ → ℕ → Type 0
+abbrev pub HasBoth : Table → ℕ → CategorySet → ℕ → Type 0
 HasBoth t level set n = labelLookup t (labelNumbered t n) ≡ Mapped level set (length (categories set))
 
 -- 01: the lowest-numbered label whose both are equal, or none
-pub record LowestLabel (t : Table) (level set : ℕ) : Type 0 where
+pub record LowestLabel (t : Table) (level : ℕ) (set : CategorySet) : Type 0 where
   pub lowest :
       (n : ℕ) →
       (levelLookup t level set ≡ label.Number n)

@@ -7,6 +7,7 @@ ghost use mathlib.Core.Logic.{_↔_};
 ghost use mathlib.Core.List.{List};
 ghost use Prim.Native.Nat.{ℕ};
 ghost use lib.ListN.{length};
+ghost use Rattle.numbers.specs.declared.CategorySet.{CategorySet};
 ghost use Rattle.store.specs.Table.{Table};
 ghost use Rattle.store.specs.Layout.{Store, tableOf};
 ghost use Rattle.store.specs.Judged.{is-accepted};
@@ -43,13 +44,13 @@ pub fn accepted_list_is_who_overrides()
 
 // An accepted mapping is what its label's look-up finds from then on; no other mapping changes, and no answer.
 pub fn accepted_mapping_is_found()
-    ensures { λ _. ⌜ ((t t′ : Table) (text l : List ℕ) (level set : ℕ) → SoundTable t → mappingOf text ≡ mapping l level set →
+    ensures { λ _. ⌜ ((t t′ : Table) (text l : List ℕ) (level : ℕ) (set : CategorySet) → SoundTable t → mappingOf text ≡ mapping l level set →
         mappingWrite text t ≡ is-accepted t′ → Maps t t′ l level set) ⌝ }
 {}
 
 // What a mapping write says, by its fields: label, level, then no or more categories.
 pub fn what_a_mapping_write_says()
-    ensures { λ _. ⌜ ((text l : List ℕ) (level set : ℕ) → (mappingOf text ≡ mapping l level set) ↔ MappingText text l level set) ⌝ }
+    ensures { λ _. ⌜ ((text l : List ℕ) (level : ℕ) (set : CategorySet) → (mappingOf text ≡ mapping l level set) ↔ MappingText text l level set) ⌝ }
 {}
 
 // A line of rule text and a change let every label and every rule keep its place, and change no rule but the pair's; what is new goes last.
@@ -70,5 +71,5 @@ pub fn what_a_label_is_mapped_to()
 
 // The look-up by level and set finds the lowest-numbered label that has both, or none.
 pub fn lowest_label_of_a_level_and_set()
-    ensures { λ _. ⌜ ((t : Table) (level set : ℕ) → Sane t → sought level set ≡ true → LowestLabel t level set) ⌝ }
+    ensures { λ _. ⌜ ((t : Table) (level : ℕ) (set : CategorySet) → Sane t → sought level set ≡ true → LowestLabel t level set) ⌝ }
 {}

@@ -18,7 +18,8 @@ use Rattle.refusals.specs.declared.Refusal.{Refusal}
 use Rattle.alphabet.specs.Alphabet.{wellFormed, badByte, badByteOfTwo, fields, badByteIn}
 use Rattle.modes.specs.Modes.{allowedByte, modesOf, readModes, ruleLetters, changeLetters, requestLetters}
 use Rattle.modes.specs.declared.Access.the-variants.{Modes, Bad}
-use Rattle.numbers.specs.Categories.{isLevel, isCategory, knownSet, withCategory}
+use Rattle.numbers.specs.Categories.{isLevel, isCategory, knownSet, noCategories, withCategory}
+use Rattle.numbers.specs.declared.CategorySet.{CategorySet}
 use Rattle.numbers.specs.Numbers.{numberOf}
 use Rattle.numbers.specs.declared.Number.{Number}
 use Rattle.numbers.specs.declared.Number.the-variants as number
@@ -222,6 +223,9 @@ stateFaults st more = damaged when not (undamagedOf st) ∷ more
 
 abbrev writeFaults : List ℕ → List (Fault Refusal) → List (Fault Refusal)
 writeFaults text more = tooLong when ltb 600 (length text) ∷ more
+
+abbrev longFaults : List ℕ → List (Fault Refusal) → List (Fault Refusal)
+longFaults text more = tooLong when ltb 1000 (length text) ∷ more
 
 abbrev judged-by : Judged → First Refusal
 judged-by is-skipped = none
@@ -594,7 +598,7 @@ module _ (t : Table) (few-labels : length (t .labels) ≤ 64) (few-mappings : le
       ne-eqb (m .label) (length (t .labels)) (λ q. omega (arith, ltb-true (m .label) (length (t .labels)) (c .0))))
     where
       nowhere : Mapping
-      nowhere = record { label = 0; level = 0; set = 0 }
+      nowhere = record { label = 0; level = 0; set = noCategories }
 
   no-mapping-place :
       (x : List ℕ) →
@@ -615,7 +619,7 @@ module _ (t : Table) (few-labels : length (t .labels) ≤ 64) (few-mappings : le
   roomFaults x =
       labelsFull when ltb (freePlaces t) (newLabels (labelIn t x)) ∷ mappingsFull when (not (hasMapping t (labelIn t x)) && eqb (length (t .mappings)) 32) ∷ []
 
-  room-first : (x : List ℕ) (level s : ℕ) → judged-by (cipso.mappingJudged t x level s) ≡ firstFault (roomFaults x)
+  room-first : (x : List ℕ) (level : ℕ) (s : CategorySet) → judged-by (cipso.mappingJudged t x level s) ≡ firstFault (roomFaults x)
   room-first x level s =
       by-tests (noPlace (labelIn t x) (length (t .labels)) 64) (noPlace (cipso.mappingFor t x) (length (t .mappings)) 32)
       ∙ rw (no-label-place (labelIn t x), no-mapping-place x)
@@ -630,12 +634,12 @@ module _ (t : Table) (few-labels : length (t .labels) ≤ 64) (few-mappings : le
   -- fields make a set exactly when each is a category: one that is none makes the fault, which stays
   with-fault :
       (x : List ℕ) (level : ℕ) (fs : List (List ℕ)) →
-      judged-by (cipso.saidJudged t (cipso.withSet x level (foldl cipso.withField (cipso.withNumber 0 number.Bad) fs))) ≡ by badLevelOrCategory
+      judged-by (cipso.saidJudged t (cipso.withSet x level (foldl cipso.withField (cipso.withNumber noCategories number.Bad) fs))) ≡ by badLevelOrCategory
   with-fault x level [] = refl
   with-fault x level (g ∷ fs) = with-fault x level fs
 
   with-categories :
-      (x : List ℕ) (level s : ℕ) (fs : List (List ℕ)) →
+      (x : List ℕ) (level : ℕ) (s : CategorySet) (fs : List (List ℕ)) →
       judged-by (cipso.saidJudged t (cipso.withSet x level (categoriesFrom s fs))) ≡ cond (not (all categoryField fs)) (by badLevelOrCategory) (firstFault (roomFaults x))
   unfolding all
   with-categories x level s [] = room-first x level s
@@ -668,7 +672,7 @@ module _ (t : Table) (few-labels : length (t .labels) ≤ 64) (few-mappings : le
           (n : ℕ) (b : Bool) →
           judged-by (cipso.saidJudged t (cond b (cipso.withSet x n (cipso.categoriesOf fs)) (cipso.refused badLevelOrCategory)))
           ≡ cond (not b || not (all categoryField fs)) (by badLevelOrCategory) (firstFault (roomFaults x))
-      by-test n true = rw (categories-start fs) (with-categories x n 0 fs)
+      by-test n true = rw (categories-start fs) (with-categories x n noCategories fs)
       by-test n false = refl
 
       by-level :
@@ -690,9 +694,9 @@ module _ (t : Table) (few-labels : length (t .labels) ≤ 64) (few-mappings : le
   mapping-fields place (x ∷ []) = refl
   mapping-fields place (x ∷ level ∷ fs) = rw (le-ltb (length (x ∷ level ∷ fs)) 2 (omega arith)) (mapping-by place x level fs)
 
-  mapping-judged : (text : List ℕ) → judged-by (cipso.mappingWrite text t) ≡ firstFault (writeFaults text (mappingFieldFaults t (badByteIn text) (fields text)))
+  mapping-judged : (text : List ℕ) → judged-by (cipso.mappingWrite text t) ≡ firstFault (longFaults text (mappingFieldFaults t (badByteIn text) (fields text)))
   unfolding cipso.mappingWrite cipso.mappingOf
-  mapping-judged text = by-length (ltb 600 (length text))
+  mapping-judged text = by-length (ltb 1000 (length text))
     where
       by-length :
           (b : Bool) →
@@ -704,7 +708,7 @@ module _ (t : Table) (few-labels : length (t .labels) ≤ 64) (few-mappings : le
 mapping-refused : (st : Store) (text : List ℕ) → Refuses (cipso.mapAnswer st text) d.Refused (mappingFaults st text)
 unfolding cipso.mapAnswer
 mapping-refused st text =
-    write-first st (cipso.mappingWrite text) (writeFaults text (mappingFieldFaults (tableOf st) (badByteIn text) (fields text)))
+    write-first st (cipso.mappingWrite text) (longFaults text (mappingFieldFaults (tableOf st) (badByteIn text) (fields text)))
     (λ u. mapping-judged (tableOf st) (labels-few st u) (mappings-few st u) (undamaged-sound st u) text)
 
 -- ---- the lookups
@@ -726,7 +730,7 @@ by-label-refused st x = of-lookup _ (byLabelFaults st x) (state-first lookup-by 
     by-test false = refl
 
 -- a level and a set that can be looked up
-by-sought : (x : Label) (level set : ℕ) → label-by x ≡ none → label-by (cond (sought level set) x (label.Refused 9)) ≡ firstFault (inRunFaults level set)
+by-sought : (x : Label) (level : ℕ) (set : CategorySet) → label-by x ≡ none → label-by (cond (sought level set) x (label.Refused 9)) ≡ firstFault (inRunFaults level set)
 unfolding sought
 by-sought x level set e = by-tests (isLevel level) (knownSet set)
   where
@@ -739,14 +743,14 @@ numbered-label : (at : Found) → label-by (numbered at) ≡ none
 numbered-label (At k) = refl
 numbered-label Nothing = refl
 
-by-level-refused : (st : Store) (level set : ℕ) → Refuses (byLevelOf st level set) label.Refused (byLevelFaults st level set)
+by-level-refused : (st : Store) (level : ℕ) (set : CategorySet) → Refuses (byLevelOf st level set) label.Refused (byLevelFaults st level set)
 unfolding byLevelOf levelLookup
 by-level-refused st level set =
     of-label _ (byLevelFaults st level set)
     (state-first label-by (undamagedOf st) _ (label.Refused 0) _ refl
     (λ u. by-sought _ level set (numbered-label (first (hasBoth (tableOf st) level set) (entries (λ (k : ℕ). k) (length (tableOf st .labels)))))))
 
-run-refused : (records : List Record) (level set : ℕ) → Refuses (run.runOf records level set) label.Refused (inRunFaults level set)
+run-refused : (records : List Record) (level : ℕ) (set : CategorySet) → Refuses (run.runOf records level set) label.Refused (inRunFaults level set)
 unfolding run.runOf run.settledOf
 run-refused records level set =
     of-label _ (inRunFaults level set)

@@ -19,6 +19,7 @@ use Rattle.alphabet.specs.Alphabet.{wellFormed, badByte, badByteOfTwo, fields, 
 use Rattle.modes.specs.Modes.{allowedByte, ruleLetters, changeLetters, requestLetters, modesOf, modesText, any, oneOf}
 use Rattle.numbers.specs.Numbers.{numberOf}
 use Rattle.numbers.specs.Categories.{isLevel, isCategory, knownSet}
+use Rattle.numbers.specs.declared.CategorySet.{CategorySet}
 use Rattle.numbers.specs.declared.Number.{Number}
 use Rattle.numbers.specs.declared.Number.the-variants as number
 use Rattle.store.specs.declared.Done.the-variants as d
@@ -34,7 +35,7 @@ use Rattle.writes.specs.declared.Outcome.the-variants as v
 use Rattle.revoke.specs.Revoke.{revokeAnswer}
 use Rattle.revoke.specs.declared.Revoked.the-variants as r
 use Rattle.onlycap.specs.Onlycap.{onlycapAnswer}
-use Rattle.cipso.specs.Cipso.{mapAnswer}
+use Rattle.cipso.specs.Cipso.{mappingLongest, mapAnswer}
 use Rattle.lookups.specs.Lookups.{byLabelOf, byLevelOf}
 use Rattle.lookups.specs.declared.Lookup.the-variants as lookup
 use Rattle.lookups.specs.declared.Label.the-variants as label
@@ -78,9 +79,12 @@ Refuses {A} {R} answer refused faults = (r : R) → (answer ≡ refused r) ↔ (
 
 -- ---- the tests that several calls share
 
--- a line or write has over 600 bytes
+-- a line or write has over 600 bytes, a mapping write over 1,000
 abbrev pub isTooLong : List ℕ → Bool
 isTooLong text = ltb lineLimit (length text)
+
+abbrev pub isTooLongMapping : List ℕ → Bool
+isTooLongMapping text = ltb mappingLongest (length text)
 
 -- of the fields of a text, field k, from 0
 abbrev pub field : List (List ℕ) → ℕ → List ℕ
@@ -194,7 +198,7 @@ abbrev pub numberPasses : (ℕ → Bool) → Number → Bool
 numberPasses test (number.Value n) = test n
 numberPasses test number.Bad = false
 
--- a level, and a category, as 01 has them
+-- a level, as 01 has it, and a category, as 02, Four, has it
 abbrev pub levelField : List ℕ → Bool
 levelField x = numberPasses isLevel (numberOf x)
 
@@ -220,7 +224,7 @@ mappingFieldFaults t place fs =
 abbrev pub mappingFaults : Store → List ℕ → List (Fault Refusal)
 mappingFaults st text =
     refusal.damaged when not (undamagedOf st)
-    ∷ refusal.tooLong when isTooLong text
+    ∷ refusal.tooLong when isTooLongMapping text
     ∷ mappingFieldFaults (tableOf st) (badByteIn text) (fields text)
 
 -- ---- look-ups: by label 3; by level and set, in the table or a run, 9
@@ -230,11 +234,11 @@ abbrev pub byLabelFaults : Store → List ℕ → List (Fault Refusal)
 byLabelFaults st x = refusal.damaged when not (undamagedOf st) ∷ refusal.badLabelAt (badByte x) when not (wellFormed x) ∷ []
 
 -- in a run: the level is over 255, or the set has a bit that is no category. A run is no part of the state, and never gets 0
-abbrev pub inRunFaults : ℕ → ℕ → List (Fault ℕ)
+abbrev pub inRunFaults : ℕ → CategorySet → List (Fault ℕ)
 inRunFaults level set = refusal.badLevelOrCategory .number when (not (isLevel level) || not (knownSet set)) ∷ []
 
 -- in the table
-abbrev pub byLevelFaults : Store → ℕ → ℕ → List (Fault ℕ)
+abbrev pub byLevelFaults : Store → ℕ → CategorySet → List (Fault ℕ)
 byLevelFaults st level set = refusal.damaged .number when not (undamagedOf st) ∷ inRunFaults level set
 
 -- ---- question: 3 8
@@ -372,8 +376,8 @@ pub record FirstInOrder : Type 0 where
   pub onlycap : (st : Store) (text : List ℕ) → Refuses (onlycapAnswer st text) d.Refused (onlycapFaults st text)
   pub mapping : (st : Store) (text : List ℕ) → Refuses (mapAnswer st text) d.Refused (mappingFaults st text)
   pub mapping-by-label : (st : Store) (x : List ℕ) → Refuses (byLabelOf st x) lookup.Refused (byLabelFaults st x)
-  pub by-level-and-set : (st : Store) (level set : ℕ) → Refuses (byLevelOf st level set) label.Refused (byLevelFaults st level set)
-  pub in-a-run : (run : List Record) (level set : ℕ) → Refuses (runOf run level set) label.Refused (inRunFaults level set)
+  pub by-level-and-set : (st : Store) (level : ℕ) (set : CategorySet) → Refuses (byLevelOf st level set) label.Refused (byLevelFaults st level set)
+  pub in-a-run : (run : List Record) (level : ℕ) (set : CategorySet) → Refuses (runOf run level set) label.Refused (inRunFaults level set)
   pub question :
       (st : Store) (s o request : List ℕ) (capable : Bool) →
       Refuses (questionOf st s o request capable) a.Refused (questionFaults st s o request)

@@ -1,20 +1,23 @@
 -- Every other kind of write leaves a sane table sane, one law for each; and so every grown table is sane. Assumes nothing.
-use mathlib.Core.Path.{_≡_, refl, sym, subst}
+use mathlib.Core.Path.{_≡_, refl, sym, ap, _∙_, subst}
 use mathlib.Core.Bool.{Bool, true, false, cond, _&&_}
 use mathlib.Core.List.{List, [], map}
 use mathlib.Core.Logic.{_⊎_, inl, inr}
-use Prim.Native.Nat.{ℕ, zero, suc, _%_, _<_, _≤_}
+use Prim.Native.Nat.{ℕ, zero, suc, _<_, _≤_}
 use native.Mathlib.Omega.{arith}
-use lib.Dec.{ltb}
-use borrow.Author.Tests.{eqb-true, eq-eqb, lt-ltb}
+use lib.Dec.{eqb, ltb}
+use borrow.Author.Tests.{eqb-true, eqb-false, eq-eqb, lt-ltb, ltb-true, ltb-false}
 use lib.ListN.{length, getD, length-map}
 use Rattle.search.specs.Search.{first, all, put, placeOf}
+use Rattle.search.specs.Within.{countAfter}
 use Rattle.search.specs.Bytes.{sameBytes}
 use Rattle.search.specs.declared.Found.{Found}
 use Rattle.search.specs.declared.Found.the-variants.{At, Nothing}
-use Rattle.search.proofs.Laws.{and-both, all-at, all-put, first-is, length-put, Same, Distinct, distinct-put, Front, front-same, front-more, front-length, all-map, all-made, distinct-map}
+use Rattle.search.proofs.Laws.{and-both, all-at, all-put, first-is, first-place, put-at, put-other, length-put, Same, Distinct, distinct-put, Front, front-same, front-more, front-length, all-map, all-made, distinct-map}
 use Rattle.refusals.specs.Refusals.{tooLong, badLabelAt}
 use Rattle.alphabet.specs.Alphabet.{wellFormed, fields, badByte}
+use Rattle.numbers.specs.Categories.{noCategories, knownSet, InWords}
+use Rattle.numbers.specs.declared.CategorySet.{CategorySet}
 use Rattle.store.specs.declared.Rule.{Rule}
 use Rattle.store.specs.declared.Mapping.{Mapping}
 use Rattle.store.proofs.Pairs.{enter-front, enter-length, enter-number, enter-once, enter-all}
@@ -82,6 +85,7 @@ module _ (n : ℕ) where
             (a .1)
             (a .2);
         mapping-once = h .mapping-once;
+        in-words = h .in-words;
         labels = h .labels;
         rules = rw length-map (h .rules);
         mappings = h .mappings;
@@ -124,6 +128,9 @@ number-below ls l h = by-case (first (sameBytes l) ls) (first-is (sameBytes l) [
     by-case (At i) q = q i refl .0
     by-case Nothing q = omega arith
 
+abbrev none : Mapping
+none = record { label = 0; level = 0; set = noCategories }
+
 -- labels that enter, and what then is in the mappings and the onlycap list, with the rules as they were
 entered-sane :
     (t : Table) (ls : List (List ℕ)) (ms : List Mapping) (os : List ℕ) →
@@ -133,12 +140,13 @@ entered-sane :
     Distinct sameBytes [] ls →
     length ls ≤ 64 →
     all (soundMapping (length ls)) ms ≡ true →
-    Distinct (λ (m : Mapping). names (m .label)) (record { label = 0; level = 0; set = 0 }) ms →
+    Distinct (λ (m : Mapping). names (m .label)) none ms →
+    ((k : ℕ) → k < length ms → InWords (getD ms k none .set)) →
     length ms ≤ 32 →
     all (λ (k : ℕ). ltb k (length ls)) os ≡ true →
     length os ≤ 8 →
     Sane (record { labels = ls; rules = t .rules; mappings = ms; onlycap = os })
-entered-sane t ls ms os h front formed once few sound-ms once-ms few-ms sound-os few-os =
+entered-sane t ls ms os h front formed once few sound-ms once-ms words-ms few-ms sound-os few-os =
     record {
       five = front-five (front-more (five-front (h .five)) front);
       formed = formed;
@@ -151,6 +159,7 @@ entered-sane t ls ms os h front formed once few sound-ms once-ms few-ms sound-os
           sound-ms
           sound-os;
       mapping-once = once-ms;
+      in-words = words-ms;
       labels = few;
       rules = h .rules;
       mappings = few-ms;
@@ -172,7 +181,7 @@ module _ (t : Table) (h : Sane t) where
   unfolding all
   emptied-sane =
       entered-sane t (t .labels) (t .mappings) [] h (front-same (t .labels)) (h .formed) (h .label-once) (h .labels)
-      (mappings-more t (t .labels) h (front-same (t .labels))) (h .mapping-once) (h .mappings) refl (omega arith)
+      (mappings-more t (t .labels) h (front-same (t .labels))) (h .mapping-once) (h .in-words) (h .mappings) refl (omega arith)
 
   listed-sane :
       (fs : List (List ℕ)) →
@@ -188,6 +197,7 @@ module _ (t : Table) (h : Sane t) where
       room
       (mappings-more t (labelsJoined t fs) h front)
       (h .mapping-once)
+      (h .in-words)
       (h .mappings)
       (all-made (λ (k : ℕ). ltb k (length (labelsJoined t fs))) (numberIn (labelsJoined t fs)) (λ l. lt-ltb _ _ (number-below (labelsJoined t fs) l (at-least-five t (labelsJoined t fs) h front))) (differentJoined fs))
       (rw length-map few)
@@ -209,7 +219,7 @@ same-names =
       alike = λ m q e z. rw (eqb-true (q .label) (m .label) e);
     }
 
-module _ (t : Table) (l : List ℕ) (level s : ℕ) (h : Sane t) (formed : wellFormed l ≡ true) (even : s % 2 ≡ 0) where
+module _ (t : Table) (l : List ℕ) (level : ℕ) (s : CategorySet) (h : Sane t) (formed : wellFormed l ≡ true) (known : knownSet s ≡ true) (words : InWords s) where
   abbrev numbered : ℕ
   numbered = placeOf (labelIn t l) (length (t .labels))
 
@@ -218,7 +228,33 @@ module _ (t : Table) (l : List ℕ) (level s : ℕ) (h : Sane t) (formed : wellF
 
   new-sound : soundMapping (length (enter (t .labels) l)) newMapping ≡ true
   unfolding soundMapping
-  new-sound = rw (lt-ltb _ _ (first-is (sameBytes l) [] (enter (t .labels) l) numbered (enter-number (t .labels) l) .0), eq-eqb _ _ even)
+  new-sound = rw (lt-ltb _ _ (first-is (sameBytes l) [] (enter (t .labels) l) numbered (enter-number (t .labels) l) .0), known)
+
+  put-words :
+      (f : Found) →
+      placeOf f (length (t .mappings)) < countAfter f (length (t .mappings)) →
+      (k : ℕ) →
+      k < length (put f (t .mappings) newMapping) →
+      InWords (getD (put f (t .mappings) newMapping) k none .set)
+  put-words f place k i = by-place (eqb k (placeOf f (length (t .mappings)))) refl
+    where
+      short : (g : Found) → k < countAfter g (length (t .mappings)) → (k ≡ placeOf g (length (t .mappings)) → ⊥) → k < length (t .mappings)
+      short (At j) a apart = a
+      short Nothing a apart = by-order (ltb k (length (t .mappings))) refl
+        where
+          by-order : (b : Bool) → ltb k (length (t .mappings)) ≡ b → k < length (t .mappings)
+          by-order true e = ltb-true _ _ e
+          by-order false e = absurd (apart (omega (arith, a, ltb-false k (length (t .mappings)) e)))
+
+      by-place : (b : Bool) → eqb k (placeOf f (length (t .mappings))) ≡ b → InWords (getD (put f (t .mappings) newMapping) k none .set)
+      by-place true e =
+          subst (λ (m : Mapping). InWords (m .set))
+          (sym (ap (λ (j : ℕ). getD (put f (t .mappings) newMapping) j none) (eqb-true _ _ e) ∙ put-at none f (t .mappings) newMapping place))
+          words
+      by-place false e =
+          let apart = eqb-false k (placeOf f (length (t .mappings))) e in
+          let below = short f (rw (← length-put f (t .mappings) newMapping) i) apart in
+          subst (λ (m : Mapping). InWords (m .set)) (sym (put-other none f (t .mappings) newMapping k below apart)) (h .in-words k below)
 
   put-sane :
       noPlace (labelIn t l) (length (t .labels)) 64 ≡ false →
@@ -231,7 +267,8 @@ module _ (t : Table) (l : List ℕ) (level s : ℕ) (h : Sane t) (formed : wellF
       (enter-once (t .labels) l (h .label-once))
       (rw enter-length (place-count (labelIn t l) (length (t .labels)) 64 (h .labels) room))
       (all-put (soundMapping (length (enter (t .labels) l))) (mappingIn t numbered) (t .mappings) newMapping (mappings-more t (enter (t .labels) l) h front) new-sound)
-      (distinct-put sameNames (record { label = 0; level = 0; set = 0 }) (t .mappings) newMapping same-names (h .mapping-once))
+      (distinct-put sameNames none (t .mappings) newMapping same-names (h .mapping-once))
+      (put-words (mappingIn t numbered) (first-place (names numbered) none (t .mappings)))
       (rw length-put (place-count (mappingIn t numbered) (length (t .mappings)) 32 (h .mappings) place))
       (onlycap-more t (enter (t .labels) l) h front)
       (h .onlycap)
@@ -241,7 +278,7 @@ mapping-sane t text h = by-case (maps t text)
   where
     by-case : (tableAfter t (cipso.mappingWrite text t) ≡ t) ⊎ Maps t (tableAfter t (cipso.mappingWrite text t)) → Sane (tableAfter t (cipso.mappingWrite text t))
     by-case (inl e) = subst Sane (sym e) h
-    by-case (inr w) = subst Sane (sym (w .is)) (put-sane t (w .name) (w .level) (w .members) h (w .formed) (w .known) (w .labels) (w .mappings))
+    by-case (inr w) = subst Sane (sym (w .is)) (put-sane t (w .name) (w .level) (w .members) h (w .formed) (w .known) (w .words) (w .labels) (w .mappings))
 
 -- ---- every single write, and every grown table
 

@@ -168,6 +168,7 @@ module _ (t : Table) (s o : List ℕ) (taken : Taken s o) where
         pair-once = distinct-put samePair (record { subject = 0; object = 0; modes = 0 }) (t .rules) new same-pair (h .pair-once);
         sound = pair-sound m (h .sound) small;
         mapping-once = h .mapping-once;
+        in-words = h .in-words;
         labels = rw pair-length (room .labels);
         mappings = h .mappings;
         onlycap = h .onlycap;
@@ -260,6 +261,7 @@ fresh-sane =
       pair-once = λ k h. absurd (omega arith);
       sound = refl;
       mapping-once = λ k h. absurd (omega arith);
+      in-words = λ k h. absurd (omega arith);
       labels = omega arith;
       rules = omega arith;
       mappings = omega arith;

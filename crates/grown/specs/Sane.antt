@@ -8,6 +8,7 @@ use lib.Dec.{eqb}
 use Rattle.search.specs.Search.{all}
 use Rattle.search.specs.declared.Found.the-variants.{At}
 use Rattle.alphabet.specs.Alphabet.{wellFormed}
+use Rattle.numbers.specs.Categories.{InWords}
 use Rattle.store.specs.declared.Rule.{Rule}
 use Rattle.store.specs.Table.{Table, fresh, labelIn, pairIn, labelNumbered, ruleNumbered, mappingNumbered, soundTable, labelLimit, ruleLimit, mappingLimit, onlycapLimit, mappingIn}
 
@@ -28,6 +29,8 @@ pub record Sane (t : Table) : Type 0 where
   pub sound : soundTable (length (t .labels)) t ≡ true
   -- no label has two mappings: each mapping is found at its own place
   pub mapping-once : (k : ℕ) → k < length (t .mappings) → mappingIn t (mappingNumbered t k .label) ≡ At k
+  -- every set is three words of 64 bits
+  pub in-words : (k : ℕ) → k < length (t .mappings) → InWords (mappingNumbered t k .set)
   -- at most 64 labels, 256 rules, 32 mappings and 8 labels in the onlycap list
   pub labels : length (t .labels) ≤ labelLimit
   pub rules : length (t .rules) ≤ ruleLimit

@@ -6,6 +6,7 @@ use mathlib.Core.List.{List}
 use lib.Dec.{ltb}
 use lib.ListN.{length}
 use Rattle.refusals.specs.Refusals.{damaged, noSuchNumber, plain}
+use Rattle.numbers.specs.declared.CategorySet.{CategorySet}
 use Rattle.store.specs.declared.Done.the-variants as d
 use Rattle.store.specs.Table.{Table, labelNumbered}
 use Rattle.store.specs.Layout.{Store, store, tableOf, undamagedOf}
@@ -82,7 +83,7 @@ module _ (st : Store) (u : undamagedOf st ≡ true) where
   unfolding byLabelOf
   by-label-says l = rw u
 
-  pub by-level-says : (level set : ℕ) → r.lowest (searchShown (byLevelOf st level set)) ≡ askSays (tableOf st) (r.by-level level set)
+  pub by-level-says : (level : ℕ) (set : CategorySet) → r.lowest (searchShown (byLevelOf st level set)) ≡ askSays (tableOf st) (r.by-level level set)
   unfolding byLevelOf
   by-level-says level set = rw u
 
@@ -143,7 +144,7 @@ module _ (st : Store) (u : undamagedOf st ≡ false) where
   unfolding byLabelOf
   by-label-refused l = rw u
 
-  pub by-level-refused : (level set : ℕ) → byLevelOf st level set ≡ label.Refused 0
+  pub by-level-refused : (level : ℕ) (set : CategorySet) → byLevelOf st level set ≡ label.Refused 0
   unfolding byLevelOf
   by-level-refused level set = rw u
 

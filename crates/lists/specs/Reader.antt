@@ -11,6 +11,7 @@ use Rattle.refusals.specs.Refusals.{noSuchNumber}
 use Rattle.refusals.specs.declared.Refusal.{Refusal}
 use Rattle.alphabet.specs.Alphabet.{isNewline}
 use Rattle.reports.specs.Report.{countLimit}
+use Rattle.numbers.specs.declared.CategorySet.{CategorySet}
 use Rattle.store.specs.Table.{Table, labelNumbered}
 use Rattle.store.specs.declared.Done.{Done}
 use Rattle.store.specs.declared.Done.the-variants as d
@@ -138,7 +139,7 @@ pub data Write : Type 0 where
 pub data Ask : Type 0 where
   question : List ℕ → List ℕ → List ℕ → Bool → Ask
   by-label : List ℕ → Ask
-  by-level : ℕ → ℕ → Ask
+  by-level : ℕ → CategorySet → Ask
   list-rule : ℕ → List ℕ → Ask
   label : ℕ → Ask
   label-check : ℕ → Ask

@@ -1,4 +1,4 @@
--- 01, Single writes, the paragraph after them: a mapping looked up by label, and by level and set. Refusals 0, 3 and 9. Assumes nothing.
+-- 01, Single writes, the paragraph after them, and 02, Four: a mapping looked up by label, and by level and set. Refusals 0, 3 and 9. Assumes nothing.
 use Prim.Native.Nat.{ℕ}
 use mathlib.Core.Bool.{Bool, false, cond, _&&_}
 use mathlib.Core.List.{List}
@@ -9,11 +9,11 @@ use Rattle.search.specs.declared.Found.{Found}
 use Rattle.search.specs.declared.Found.the-variants.{At, Nothing}
 use Rattle.refusals.specs.Refusals.{damaged, badLabelAt, badLevelOrCategory}
 use Rattle.alphabet.specs.Alphabet.{wellFormed, badByte}
-use Rattle.numbers.specs.Categories.{categories}
+use Rattle.numbers.specs.Categories.{isLevel, categories, noCategories, sameSet, knownSet}
+use Rattle.numbers.specs.declared.CategorySet.{CategorySet}
 use Rattle.store.specs.declared.Mapping.{Mapping}
-use Rattle.store.specs.Table.{Table, labelIn, labelNumbered, knownSet, mappingIn}
+use Rattle.store.specs.Table.{Table, labelIn, labelNumbered, mappingIn}
 use Rattle.store.specs.Layout.{Store, tableOf, undamagedOf}
-use Rattle.cipso.specs.Cipso.{noCategories, sameSet, isLevel}
 use Rattle.lookups.specs.declared.Lookup.{Lookup}
 use Rattle.lookups.specs.declared.Lookup.the-variants as lookup
 use Rattle.lookups.specs.declared.Label.{Label}
@@ -46,15 +46,15 @@ byLabelOf st l = cond (undamagedOf st) (labelLookup (tableOf st) l) (lookup.Refu
 -- ---- looked up by level and set: the lowest-numbered label whose both are equal, or none
 
 -- a level and a set that can be looked up: the level is 0 to 255, and the set has no bit that is no category
-unfoldable pub sought : ℕ → ℕ → Bool
+unfoldable pub sought : ℕ → CategorySet → Bool
 sought level s = isLevel level && knownSet s
 
 -- a mapping has this level and this set
-abbrev pub bothEqual : ℕ → ℕ → Mapping → Bool
+abbrev pub bothEqual : ℕ → CategorySet → Mapping → Bool
 bothEqual level s m = eqb (m .level) level && sameSet (m .set) s
 
 -- the mapping at a place has both
-abbrev pub mappedTo : ℕ → ℕ → List Mapping → Found → Bool
+abbrev pub mappedTo : ℕ → CategorySet → List Mapping → Found → Bool
 mappedTo level s ms (At k) = bothEqual level s (getD ms k (record { label = 0; level = 0; set = noCategories }))
 mappedTo level s ms Nothing = false
 
@@ -64,7 +64,7 @@ foundAt n (At k) = eqb k n
 foundAt n Nothing = false
 
 -- label number n counts by its first mapping, and only if n is the first number of its label
-unfoldable pub hasBoth : Table → ℕ → ℕ → ℕ → Bool
+unfoldable pub hasBoth : Table → ℕ → CategorySet → ℕ → Bool
 hasBoth t level s n = mappedTo level s (t .mappings) (mappingIn t n) && foundAt n (labelIn t (labelNumbered t n))
 
 -- a label's number, or none
@@ -73,12 +73,12 @@ numbered (At n) = label.Number n
 numbered Nothing = label.Nothing
 
 -- the first of the numbers 0, 1, .. of the labels that has both; 9 a level or a set that cannot be looked up
-unfoldable pub levelLookup : Table → ℕ → ℕ → Label
+unfoldable pub levelLookup : Table → ℕ → CategorySet → Label
 levelLookup t level s =
     cond (sought level s)
     (numbered (first (hasBoth t level s) (entries (λ (n : ℕ). n) (length (t .labels)))))
     (label.Refused (badLevelOrCategory .number))
 
 -- of a lent state: 0 before every other where it is damaged
-unfoldable pub byLevelOf : Store → ℕ → ℕ → Label
+unfoldable pub byLevelOf : Store → ℕ → CategorySet → Label
 byLevelOf st level s = cond (undamagedOf st) (levelLookup (tableOf st) level s) (label.Refused (damaged .number))

@@ -1,4 +1,5 @@
-// Mappings looked up, by label and by level and set (01, Single writes, the paragraph after them). Nothing is changed.
+// Mappings looked up, by label and by level and set (01, Single writes, the paragraph after them; 02, Four). Nothing is changed.
+use numbers::CategorySet;
 use refusals::Refusal;
 use search::Found;
 ghost use mathlib.Core.Path.{_≡_};
@@ -11,7 +12,11 @@ ghost use Rattle.lookups.specs.Lookups.{sought, byLabelOf, byLevelOf, ha
 // What a look-up by label answers: the mapping's level, its set and how many categories are in it; that the label is unmapped; or a
 // refusal.
 pub enum Lookup {
-    Mapped { level: u8, set: u64, count: u32 },
+    Mapped {
+        level: u8,
+        set: CategorySet,
+        count: u32,
+    },
     Unmapped,
     Refused(Refusal),
 }
@@ -42,14 +47,21 @@ pub fn by_label(labels: &[u8], entries: &[u8], words: &[u64], label: &[u8]) -> L
         return Lookup::Unmapped;
     };
     let level = entries[store::LEVELS_FROM + k];
-    let set = words[store::SETS_FROM + k];
+    let set = store::set_at(words, k);
     let count = numbers::category_count(set);
     Lookup::Mapped { level, set, count }
 }
 
 // Whether label n has this level and this set: by the first mapping that names it, and only if n is the first number of its label. Who
 // calls it has tested the store.
-fn has_both(labels: &[u8], entries: &[u8], words: &[u64], n: usize, level: u64, set: u64) -> bool
+fn has_both(
+    labels: &[u8],
+    entries: &[u8],
+    words: &[u64],
+    n: usize,
+    level: u64,
+    set: CategorySet,
+) -> bool
     requires { ⌜ Sizes (now labels) (now entries) (now words) × Counts (now words) × (n < getD (now words) 0 0) ⌝ }
     ensures { λ r. ⌜ r ≡ hasBoth (tableOf (lent labels entries words)) level set n ⌝ }
 {
@@ -61,28 +73,29 @@ fn has_both(labels: &[u8], entries: &[u8], words: &[u64], n: usize, level: u64, 
     if entries[store::LEVELS_FROM + k] as u64 != level {
         return false;
     }
-    if words[store::SETS_FROM + k] != set {
+    let held = store::set_at(words, k);
+    if !numbers::same_set(held, set) {
         return false;
     }
-    let held = places::label_at(labels, n);
-    let Found::At(i) = places::find_label(labels, stored, held) else {
+    let own = places::label_at(labels, n);
+    let Found::At(i) = places::find_label(labels, stored, own) else {
         return false;
     };
     i == n
 }
 
 // Whether a level and a set can be looked up: the level is 0 to 255, and the set has no bit that is no category.
-pub fn known(level: u64, set: u64) -> bool
+pub fn known(level: u64, set: CategorySet) -> bool
     ensures { λ r. ⌜ r ≡ sought level set ⌝ }
 {
-    if 255 < level {
+    if numbers::LEVEL_LIMIT < level {
         return false;
     }
-    set % 2 == 0
+    numbers::known_set(set)
 }
 
 // The lowest-numbered label whose level and set are these.
-pub fn by_level(labels: &[u8], entries: &[u8], words: &[u64], level: u64, set: u64) -> Label
+pub fn by_level(labels: &[u8], entries: &[u8], words: &[u64], level: u64, set: CategorySet) -> Label
     ensures { λ r. ⌜ r ≡ byLevelOf (lent labels entries words) level set ⌝ }
 {
     if !damage::undamaged(labels, entries, words) {

@@ -11,7 +11,7 @@ plain n = record { number = n; place = 0 }
 abbrev pub damaged : Refusal
 damaged = plain 0
 
--- a line or write has over 600 bytes
+-- a line or write has over 600 bytes, a mapping write over 1,000
 abbrev pub tooLong : Refusal
 tooLong = plain 1
 
@@ -47,7 +47,7 @@ rulesFull = plain 7
 abbrev pub badRequest : Refusal
 badRequest = plain 8
 
--- a level or category is not as 01 says
+-- a level is not as 01 says, or a category not as 02, Four
 abbrev pub badLevelOrCategory : Refusal
 badLevelOrCategory = plain 9
 

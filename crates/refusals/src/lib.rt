@@ -60,7 +60,7 @@ pub const BAD_REQUEST: Refusal = Refusal {
     place: 0,
 };
 
-// A level or a category is not as 01 says.
+// A level is not as 01 says, or a category not as 02, Four.
 pub const BAD_LEVEL_OR_CATEGORY: Refusal = Refusal {
     number: 9,
     place: 0,

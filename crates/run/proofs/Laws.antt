@@ -3,27 +3,30 @@
 use mathlib.Core.Path.{_≡_, refl, sym, _∙_, ap}
 use mathlib.Core.Bool.{Bool, true, false, cond}
 use mathlib.Core.List.{List, [], _∷_, foldl, List·Memᴰ, List·Memᴰ·head, List·Memᴰ·tail, List·Memᴰ·not-nil, List·Memᴰ·cases-cons}
-use mathlib.Core.Logic.{_⊎_, inl, inr, ⊎-elim}
-use Prim.Native.Nat.{ℕ, zero, suc, _+_, _≤_, _<_}
+use mathlib.Core.Logic.{_↔_, _⊎_, inl, inr, ⊎-elim}
+use Prim.Native.Nat.{ℕ, zero, suc, _+_, _*_, _/_, _≤_, _<_}
 use native.Mathlib.Omega.{arith}
 use native.Mathlib.Numerals.{add-one}
-use lib.Dec.{ltb}
+use lib.Dec.{eqb, ltb}
 use lib.ListN.{length, drop, getD, drop-of-length-le}
 use lib.Seq.{drop-cons}
 use borrow.Author.Tests.{ltb-true, ltb-false}
-use Rattle.search.proofs.Laws.{no}
+use Rattle.search.proofs.Laws.{no, and-both, not-so}
+use Rattle.numbers.specs.Categories.{isLevel, noCategories, sameSet, knownSet}
+use Rattle.numbers.specs.declared.CategorySet.{CategorySet}
+use Rattle.numbers.proofs.Sets.{category-sets}
 use Rattle.lookups.specs.Lookups.{sought}
 use Rattle.lookups.specs.declared.Label.the-variants as label
 use Rattle.run.specs.declared.Record.{Record}
 use Rattle.run.specs.declared.Best.{Best}
 use Rattle.run.specs.declared.Best.the-variants as best
-use Rattle.run.specs.Run.{matches, lowerLabel, lowerOf, lowestOf, said, settledOf, runOf, recordsOf, Shortest}
+use Rattle.run.specs.Run.{matches, lowerLabel, lowerOf, lowestOf, said, settledOf, runOf, recordsOf}
 use Rattle.run.specs.Lowest.{LowestInRun, Unmatched}
-use Rattle.run.specs.Within.{searched}
+use Rattle.run.specs.Within.{searched, Shortest}
 
 -- ---- the lowest label of a run
 
-module _ (level s : ℕ) where
+module _ (level : ℕ) (s : CategorySet) where
   abbrev from : Best → List Record → Best
   from b run = foldl (lowerOf level s) b run
 
@@ -138,9 +141,18 @@ module _ (level s : ℕ) where
       by-test true q more out e = λ r m. absurd (out e)
       by-test false q more out e = λ r m. ⊎-elim (λ z. ap (matches level s) z ∙ q) (λ t. more e r t) (List·Memᴰ·cases-cons m)
 
+-- a set with a bit that is no category is none that can be searched for
+pub unknown-unmatched : (r : Record) (level : ℕ) (s : CategorySet) → sought level s ≡ true → knownSet (r .set) ≡ false → matches level s r ≡ false
+unfolding sought
+unknown-unmatched r level s h u =
+    not-so (matches level s r)
+    (λ e.
+    let z = category-sets .equal (r .set) s .0 (and-both (eqb (r .level) level) (sameSet (r .set) s) e .1) in
+    no (sym u ∙ ap knownSet z ∙ and-both (isLevel level) (knownSet s) h .1))
+
 -- ---- by whether the level and the set can be searched for
 
-module _ (level s : ℕ) where
+module _ (level : ℕ) (s : CategorySet) where
   pub searched-none : (count : ℕ) → sought level s ≡ false → searched count level s ≡ 0
   unfolding searched
   searched-none count h = ap (λ (t : Bool). cond t count 0) h
@@ -168,7 +180,7 @@ module _ (level s : ℕ) where
 
 -- ---- the best so far
 
-module _ (run : List Record) (level s : ℕ) where
+module _ (run : List Record) (level : ℕ) (s : CategorySet) where
   -- b is the best of the first i records: with those that are left it makes the best of the run
   abbrev pub Left : Best → ℕ → Type 0
   Left b i = foldl (lowerOf level s) b (drop i run) ≡ lowestOf run level s
@@ -191,7 +203,7 @@ module _ (run : List Record) (level s : ℕ) where
 
 -- ---- what a search says
 
-module _ (run : List Record) (level s : ℕ) where
+module _ (run : List Record) (level : ℕ) (s : CategorySet) where
   -- 9 is answered wherever the level or the set cannot be searched for
   pub run-refused : sought level s ≡ false → runOf run level s ≡ label.Refused 9
   unfolding runOf
@@ -233,13 +245,33 @@ module _ (run : List Record) (level s : ℕ) where
 
 -- ---- the records of three lists
 
--- there are as many as the shortest has elements
-pub records-length : (a b c : List ℕ) → Shortest (length a) (length b) (length c) (length (recordsOf a b c))
+-- there are as many as the shortest has room for
+pub records-length : (a b c : List ℕ) → Shortest (length a) (length b) (length c / 3) (length (recordsOf a b c))
 unfolding recordsOf
 records-length [] b c = record { first = omega arith; second = omega arith; third = omega arith; one = λ p q r. omega arith }
-records-length (x ∷ a) [] c = record { first = omega arith; second = omega arith; third = omega arith; one = λ p q r. omega arith }
-records-length (x ∷ a) (y ∷ b) [] = record { first = omega arith; second = omega arith; third = omega arith; one = λ p q r. omega arith }
-records-length (x ∷ a) (y ∷ b) (z ∷ c) = let h = records-length a b c in record { first = omega arith; second = omega arith; third = omega arith; one = λ p q r. h .one (omega arith) (omega arith) (omega arith) }
+records-length (u ∷ a) [] c = record { first = omega arith; second = omega arith; third = omega arith; one = λ p q r. omega arith }
+records-length (u ∷ a) (v ∷ b) [] = record { first = omega arith; second = omega arith; third = omega arith; one = λ p q r. omega arith }
+records-length (u ∷ a) (v ∷ b) (x ∷ []) = record { first = omega arith; second = omega arith; third = omega arith; one = λ p q r. omega arith }
+records-length (u ∷ a) (v ∷ b) (x ∷ y ∷ []) = record { first = omega arith; second = omega arith; third = omega arith; one = λ p q r. omega arith }
+records-length (u ∷ a) (v ∷ b) (x ∷ y ∷ z ∷ c) = let h = records-length a b c in record { first = omega arith; second = omega arith; third = omega arith; one = λ p q r. h .one (omega arith) (omega arith) (omega arith) }
+
+pub records-many : (a b c : List ℕ) (i : ℕ) → (i < length (recordsOf a b c)) ↔ ((i < length a) × (i < length b) × (i * 3 + 2 < length c))
+records-many a b c i =
+    let h = records-length a b c in (
+      λ l. (omega (arith, h .first), omega (arith, h .second), omega (arith, h .third)),
+      λ w. by-order (ltb i (length (recordsOf a b c))) refl w h,
+    )
+  where
+    by-order :
+        (t : Bool) →
+        ltb i (length (recordsOf a b c)) ≡ t →
+        (i < length a) × (i < length b) × (i * 3 + 2 < length c) →
+        Shortest (length a) (length b) (length c / 3) (length (recordsOf a b c)) →
+        i < length (recordsOf a b c)
+    by-order true e w h = ltb-true _ _ e
+    by-order false e w h =
+        let l = ltb-false i (length (recordsOf a b c)) e in
+        absurd (h .one (omega (arith, w .0)) (omega (arith, w .1)) (omega (arith, w .2)))
 
 -- two shortest lengths are equal
 pub shortest-same : (a b c m n : ℕ) → Shortest a b c m → Shortest a b c n → m ≡ n
@@ -250,22 +282,31 @@ shortest-same a b c m n p q = by-test (ltb m n) (ltb n m) refl refl
     by-test false true e f = let h = ltb-true n m f in absurd (q .one (omega arith) (omega arith) (omega arith))
     by-test false false e f = omega (arith, ltb-false m n e, ltb-false n m f)
 
--- record i has element i of each
-pub records-at : (a b c : List ℕ) (i : ℕ) (d : Record) → i < length (recordsOf a b c) → getD (recordsOf a b c) i d ≡ record { label = getD a i 0; level = getD b i 0; set = getD c i 0 }
+-- record i has element i of each, and the three words from 3 i on
+abbrev recordAt : List ℕ → List ℕ → List ℕ → ℕ → Record
+recordAt a b c i = record { label = getD a i 0; level = getD b i 0; set = record { first = getD c (i * 3) 0; second = getD c (i * 3 + 1) 0; third = getD c (i * 3 + 2) 0 } }
+
+pub records-at : (a b c : List ℕ) (i : ℕ) (d : Record) → i < length (recordsOf a b c) → getD (recordsOf a b c) i d ≡ recordAt a b c i
 unfolding recordsOf
 records-at [] b c i d h = absurd (omega arith)
-records-at (x ∷ a) [] c i d h = absurd (omega arith)
-records-at (x ∷ a) (y ∷ b) [] i d h = absurd (omega arith)
-records-at (x ∷ a) (y ∷ b) (z ∷ c) zero d h = refl
-records-at (x ∷ a) (y ∷ b) (z ∷ c) (suc i) d h = records-at a b c i d (omega arith)
+records-at (u ∷ a) [] c i d h = absurd (omega arith)
+records-at (u ∷ a) (v ∷ b) [] i d h = absurd (omega arith)
+records-at (u ∷ a) (v ∷ b) (x ∷ []) i d h = absurd (omega arith)
+records-at (u ∷ a) (v ∷ b) (x ∷ y ∷ []) i d h = absurd (omega arith)
+records-at (u ∷ a) (v ∷ b) (x ∷ y ∷ z ∷ c) zero d h = refl
+records-at (u ∷ a) (v ∷ b) (x ∷ y ∷ z ∷ c) (suc i) d h =
+    let e₀ : suc i * 3 ≡ suc (suc (suc (i * 3))) = omega arith in
+    let e₁ : suc i * 3 + 1 ≡ suc (suc (suc (i * 3 + 1))) = omega arith in
+    let e₂ : suc i * 3 + 2 ≡ suc (suc (suc (i * 3 + 2))) = omega arith in
+    rw (e₁, e₂, e₀) (records-at a b c i d (omega arith))
 
 -- one record more is looked at
 pub records-next :
-    (a b c : List ℕ) (level s : ℕ) (m r : Best) (i : ℕ) →
+    (a b c : List ℕ) (level : ℕ) (s : CategorySet) (m r : Best) (i : ℕ) →
     i < length (recordsOf a b c) →
-    r ≡ lowerOf level s m (record { label = getD a i 0; level = getD b i 0; set = getD c i 0 }) →
+    r ≡ lowerOf level s m (recordAt a b c i) →
     Left (recordsOf a b c) level s m i →
     Left (recordsOf a b c) level s r (i + 1)
 records-next a b c level s m r i h e l =
-    let z : Record = record { label = 0; level = 0; set = 0 } in
+    let z : Record = record { label = 0; level = 0; set = noCategories } in
     left-next (recordsOf a b c) level s z m r i h (e ∙ ap (lowerOf level s m) (sym (records-at a b c i z h))) l

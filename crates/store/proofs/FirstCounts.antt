@@ -11,6 +11,7 @@ use Rattle.search.specs.Search.{first}
 use Rattle.search.specs.Bytes.{sameBytes}
 use Rattle.search.specs.declared.Found.the-variants.{At}
 use Rattle.search.proofs.Laws.{no, and-both, eqb-is, same-refl, same-equal, not-so, first-at, first-is, first-before}
+use Rattle.numbers.specs.Categories.{noCategories}
 use Rattle.store.specs.declared.Rule.{Rule}
 use Rattle.store.specs.declared.Mapping.{Mapping}
 use Rattle.store.specs.Table.{Table, isPair, names, FirstCounts}
@@ -52,5 +53,5 @@ first-counts t =
           let none : Rule = record { subject = 0; object = 0; modes = 0 } in
           let f = the-first (isPair s o) (λ (r : Rule). (r .subject ≡ s) × (r .object ≡ o)) (pair-is s o) none (t .rules) k in
           (λ e. let q = f .0 e in (q .0, q .1 .0, q .1 .1, λ j h x y. q .2 j h (x, y)), λ q. f .1 (q .0, (q .1, q .2), λ j h z. q .3 j h (z .0) (z .1)));
-      mapping = λ n k. the-first (names n) (λ (m : Mapping). m .label ≡ n) (names-is n) (record { label = 0; level = 0; set = 0 }) (t .mappings) k;
+      mapping = λ n k. the-first (names n) (λ (m : Mapping). m .label ≡ n) (names-is n) (record { label = 0; level = 0; set = noCategories }) (t .mappings) k;
     }

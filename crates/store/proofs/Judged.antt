@@ -66,8 +66,8 @@ fresh-full st q = by-test (fullSizes st) refl q
   where
     by-test : (b : Bool) → fullSizes st ≡ b → doneOf (cond b (is-accepted fresh) (is-refused damaged)) ≡ d.Done → Sizes (st .labels) (st .entries) (st .words)
     by-test true e q =
-        let a = and-both (eqb (length (st .labels)) 16384) (eqb (length (st .entries)) 840 && eqb (length (st .words)) 36) e in
-        let b = and-both (eqb (length (st .entries)) 840) (eqb (length (st .words)) 36) (a .1) in
+        let a = and-both (eqb (length (st .labels)) 16384) (eqb (length (st .entries)) 840 && eqb (length (st .words)) 100) e in
+        let b = and-both (eqb (length (st .entries)) 840) (eqb (length (st .words)) 100) (a .1) in
         record { labels = eqb-true _ _ (a .0); entries = eqb-true _ _ (b .0); words = eqb-true _ _ (b .1) }
     by-test false e q = let z : _≡_ {A = ℕ} 0 1 = cc in absurd (omega arith)
 

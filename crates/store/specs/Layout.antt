@@ -2,7 +2,8 @@
 --   labels   64 places of 256 bytes: a label's length, its bytes, and bytes that mean nothing
 --   entries  the rules' subjects from 0, their objects from 256, their modes from 512; the mappings' labels from 768, their levels from 800;
 --            the onlycap list from 832 to 840
---   words    the counts of labels, rules, mappings and onlycap labels; from 4 to 36 the mappings' category sets
+--   words    the counts of labels, rules, mappings and onlycap labels; the mappings' category sets: their first words from 4, their second from 36,
+--            their third from 68 to 100
 -- What stands at or past a count means nothing, and no answer depends on it. (A search or a test may read it, in a block of places.)
 use Prim.Native.Nat.{ℕ, _+_, _*_}
 use mathlib.Core.Bool.{Bool, _&&_}
@@ -13,6 +14,7 @@ use lib.Dec.{eqb, leb}
 use denote.Ref.{RefT, now}
 use denote.Triple.Both.{Both}
 use Rattle.search.specs.Search.{entries}
+use Rattle.numbers.specs.declared.CategorySet.{CategorySet}
 use Rattle.store.specs.declared.Rule.{Rule}
 use Rattle.store.specs.declared.Mapping.{Mapping}
 use Rattle.store.specs.Table.{Table, soundTable, labelLimit, ruleLimit, mappingLimit, onlycapLimit}
@@ -33,7 +35,7 @@ lent l e w = store (now (l .entry)) (now (e .entry)) (now (w .entry))
 abbrev pub left : {A B C : Type 0} → Both A (RefT (List ℕ)) → Both B (RefT (List ℕ)) → Both C (RefT (List ℕ)) → Store
 left l e w = store (now (l .exit)) (now (e .exit)) (now (w .exit))
 
--- the full size of each slice and of a label's place, and where each run of entries, and the sets, begin
+-- the full size of each slice and of a label's place, and where each run of entries, and of the sets' words, begins
 abbrev pub labelsSize : ℕ
 labelsSize = 16384
 
@@ -41,7 +43,7 @@ abbrev pub entriesSize : ℕ
 entriesSize = 840
 
 abbrev pub wordsSize : ℕ
-wordsSize = 36
+wordsSize = 100
 
 abbrev pub placeSize : ℕ
 placeSize = 256
@@ -61,8 +63,14 @@ levelsFrom = 800
 abbrev pub onlycapFrom : ℕ
 onlycapFrom = 832
 
-abbrev pub setsFrom : ℕ
-setsFrom = 4
+abbrev pub firstsFrom : ℕ
+firstsFrom = 4
+
+abbrev pub secondsFrom : ℕ
+secondsFrom = 36
+
+abbrev pub thirdsFrom : ℕ
+thirdsFrom = 68
 
 -- the label that a place holds: its length, and then its bytes
 abbrev pub held : List ℕ → List ℕ
@@ -75,8 +83,11 @@ labelAt labels k = held (take placeSize (drop (k * placeSize) labels))
 unfoldable pub ruleAt : List ℕ → ℕ → Rule
 ruleAt e k = record { subject = getD e k 0; object = getD e (objectsFrom + k) 0; modes = getD e (modesFrom + k) 0 }
 
+abbrev pub setAt : List ℕ → ℕ → CategorySet
+setAt w k = record { first = getD w (firstsFrom + k) 0; second = getD w (secondsFrom + k) 0; third = getD w (thirdsFrom + k) 0 }
+
 unfoldable pub mappingAt : List ℕ → List ℕ → ℕ → Mapping
-mappingAt e w k = record { label = getD e (mappedFrom + k) 0; level = getD e (levelsFrom + k) 0; set = getD w (setsFrom + k) 0 }
+mappingAt e w k = record { label = getD e (mappedFrom + k) 0; level = getD e (levelsFrom + k) 0; set = setAt w k }
 
 unfoldable pub onlycapAt : List ℕ → ℕ → ℕ
 onlycapAt e k = getD e (onlycapFrom + k) 0

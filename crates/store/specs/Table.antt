@@ -7,7 +7,7 @@ use mathlib.Core.Logic.{_↔_}
 use mathlib.Core.Path.{_≡_}
 use lib.ListN.{length, getD}
 use lib.Dec.{eqb, ltb, leb}
-pub use Rattle.numbers.specs.Categories.{knownSet}
+use Rattle.numbers.specs.Categories.{noCategories, knownSet}
 use Rattle.search.specs.Search.{first, all, placeOf}
 use Rattle.search.specs.Bytes.{ascii, sameBytes}
 use Rattle.search.specs.declared.Found.{Found}
@@ -118,7 +118,7 @@ abbrev pub ruleNumbered : Table → ℕ → Rule
 ruleNumbered t k = getD (t .rules) k (record { subject = 0; object = 0; modes = 0 })
 
 abbrev pub mappingNumbered : Table → ℕ → Mapping
-mappingNumbered t k = getD (t .mappings) k (record { label = 0; level = 0; set = 0 })
+mappingNumbered t k = getD (t .mappings) k (record { label = 0; level = 0; set = noCategories })
 
 -- 01: 'the first counts, and a label means its first number'. A search finds number k exactly where k is stored and is what was sought, and no
 -- earlier number is

@@ -9,7 +9,7 @@ use Rattle.search.specs.declared.Found.the-variants.{At, Nothing}
 use Rattle.store.specs.declared.Rule.{Rule}
 use Rattle.store.specs.declared.Mapping.{Mapping}
 use Rattle.store.specs.Table.{floor, hat, star, huh, web, labelLimit, ruleLimit, mappingLimit, onlycapLimit}
-use Rattle.store.specs.Layout.{objectsFrom, modesFrom, mappedFrom, levelsFrom, setsFrom, placeSize}
+use Rattle.store.specs.Layout.{objectsFrom, modesFrom, mappedFrom, levelsFrom, firstsFrom, secondsFrom, thirdsFrom, placeSize}
 
 -- a label written into place k, and a rule: nothing else changes
 unfoldable pub withLabel : List ℕ → ℕ → List ℕ → List ℕ
@@ -27,9 +27,9 @@ entered Nothing labels n l = withLabel labels n l
 unfoldable pub withNumbers : List ℕ → ℕ → Mapping → List ℕ
 withNumbers e k m = set (set e (mappedFrom + k) (m .label)) (levelsFrom + k) (m .level)
 
--- its set written into place k
-unfoldable pub withWord : List ℕ → ℕ → Mapping → List ℕ
-withWord w k m = set w (setsFrom + k) (m .set)
+-- its set written into place k: each word into its own run
+unfoldable pub withWords : List ℕ → ℕ → Mapping → List ℕ
+withWords w k m = set (set (set w (firstsFrom + k) (m .set .first)) (secondsFrom + k) (m .set .second)) (thirdsFrom + k) (m .set .third)
 
 -- a fresh table: the five labels are written and the counts set, and nothing else changes
 unfoldable pub freshLabels : List ℕ → List ℕ

@@ -1,12 +1,13 @@
 // The tables in lent memory: the label store, the rules, the CIPSO mappings and the onlycap list (01: the override list). Three lent
 // slices hold them: `labels`, `entries` and `words`, laid out as specs/Layout.antt says.
+use numbers::CategorySet;
 use refusals::Refusal;
 ghost use mathlib.Core.Path.{_≡_};
 ghost use Prim.Native.Nat.{_+_, _<_, _≤_};
 ghost use lib.ListN.{length};
 ghost use Rattle.store.specs.Table.{Table, FirstCounts, labelLimit, ruleLimit, mappingLimit};
-ghost use Rattle.store.specs.Layout.{store, lent, labelsSize, modesFrom, levelsFrom, setsFrom};
-ghost use Rattle.store.specs.Within.{withLabel, withRule, withNumbers, withWord};
+ghost use Rattle.store.specs.Layout.{store, lent, labelsSize, modesFrom, levelsFrom, thirdsFrom, setAt};
+ghost use Rattle.store.specs.Within.{withLabel, withRule, withNumbers, withWords};
 ghost use Rattle.store.specs.Judged.{freshAnswer, freshStore};
 
 // The full size of each lent slice, as specs/Layout.antt has them.
@@ -14,7 +15,7 @@ pub const LABELS_SIZE: usize = 16384;
 
 pub const ENTRIES_SIZE: usize = 840;
 
-pub const WORDS_SIZE: usize = 36;
+pub const WORDS_SIZE: usize = 100;
 
 // The most labels, rules, mappings and onlycap labels.
 pub const LABEL_LIMIT: usize = 64;
@@ -39,7 +40,7 @@ pub const LEVELS_FROM: usize = 800;
 
 pub const ONLYCAP_FROM: usize = 832;
 
-// Where each count stands among the words, and where the mappings' category sets begin.
+// Where each count stands among the words, and where the first, second and third words of the mappings' category sets begin.
 pub const LABEL_COUNT: usize = 0;
 
 pub const RULE_COUNT: usize = 1;
@@ -48,7 +49,11 @@ pub const MAPPING_COUNT: usize = 2;
 
 pub const ONLYCAP_COUNT: usize = 3;
 
-pub const SETS_FROM: usize = 4;
+pub const FIRSTS_FROM: usize = 4;
+
+pub const SECONDS_FROM: usize = 36;
+
+pub const THIRDS_FROM: usize = 68;
 
 // A rule: the numbers of its subject and its object, and its modes.
 pub struct Rule {
@@ -67,7 +72,7 @@ pub enum Done {
 pub struct Mapping {
     pub label: u8,
     pub level: u8,
-    pub set: u64,
+    pub set: CategorySet,
 }
 
 // The first counts, and a label means its first number: of every table. This function does nothing, and what it ensures is the theorem.
@@ -97,13 +102,28 @@ pub fn write_rule(entries: &mut [u8], k: usize, rule: Rule)
 
 // Writes a mapping into place k. Who calls it has tested the store.
 pub fn write_mapping(entries: &mut [u8], words: &mut [u64], k: usize, mapping: Mapping)
-    requires { ⌜ (levelsFrom + mappingLimit ≤ length (now entries)) × (setsFrom + mappingLimit ≤ length (now words)) × (k < mappingLimit) ⌝ }
+    requires { ⌜ (levelsFrom + mappingLimit ≤ length (now entries)) × (thirdsFrom + mappingLimit ≤ length (now words)) × (k < mappingLimit) ⌝ }
     ensures { λ _. ⌜ now (entries .exit) ≡ withNumbers (now (entries .entry)) k mapping ⌝ }
-    ensures { λ _. ⌜ now (words .exit) ≡ withWord (now (words .entry)) k mapping ⌝ }
+    ensures { λ _. ⌜ now (words .exit) ≡ withWords (now (words .entry)) k mapping ⌝ }
 {
     entries[MAPPED_FROM + k] = mapping.label;
     entries[LEVELS_FROM + k] = mapping.level;
-    words[SETS_FROM + k] = mapping.set;
+    let set = mapping.set;
+    words[FIRSTS_FROM + k] = set.first;
+    words[SECONDS_FROM + k] = set.second;
+    words[THIRDS_FROM + k] = set.third;
+}
+
+// The category set of the mapping at place k. Who calls it has tested the store.
+pub fn set_at(words: &[u64], k: usize) -> CategorySet
+    requires { ⌜ (thirdsFrom + mappingLimit ≤ length (now words)) × (k < mappingLimit) ⌝ }
+    ensures { λ r. ⌜ r ≡ setAt (now (words .entry)) k ⌝ }
+{
+    CategorySet {
+        first: words[FIRSTS_FROM + k],
+        second: words[SECONDS_FROM + k],
+        third: words[THIRDS_FROM + k],
+    }
 }
 
 // Makes a fresh table of lent memory, whatever it holds: the five labels alone. Refused with 0 where a part has not its full size. What no

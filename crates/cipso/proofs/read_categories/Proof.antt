@@ -1,5 +1,5 @@
 -- `cipso::read_categories` meets its contract: the fields that are left are read with the set of those before. Assumes nothing.
-use Prim.Native.Nat.{ℕ, _-_}
+use Prim.Native.Nat.{_-_}
 use mathlib.Core.Path.{_≡_, sym, ap, _∙_}
 use native.Mathlib.Omega.{arith}
 use borrow.Author.Needs.{needs}
@@ -8,6 +8,7 @@ use Rattle.alphabet.specs.Alphabet.{fields}
 use Rattle.alphabet.specs.Within.{part}
 use Rattle.alphabet.proofs.Laws.{FieldFrom, field-some, field-none}
 use Rattle.numbers.specs.Numbers.{numberOf}
+use Rattle.numbers.specs.declared.CategorySet.{CategorySet}
 use Rattle.numbers.specs.declared.Number.the-variants.{Value}
 use Rattle.cipso.specs.Cipso.{categoriesOf}
 use Rattle.cipso.proofs.Laws.{categoriesFrom, categories-start, categories-none, categories-unread, categories-low, categories-high, categories-more}
@@ -87,7 +88,7 @@ loop-again c =
     let a = l .before .before .args in
     l .loop .inv
     ∙ categories-more (l .loop .set) _ _ (field (c .before .before .before .before .before .before .before .before .before) .first-of) _ (value (c .before .before .before .before)) (omega arith)
-    ∙ ap (λ (s : ℕ). categoriesFrom s (fields (drop (c .before .before .before .before .before .before .before .before .before .start .given .0 .1 .0) (a .text .now)))) (sym (c .with-category .ensures .0))
+    ∙ ap (λ (s : CategorySet). categoriesFrom s (fields (drop (c .before .before .before .before .before .before .before .before .before .start .given .0 .1 .0) (a .text .now)))) (sym (c .with-category .ensures))
 
 pub read-categories-spec : {M : Type 1} → statement M
 read-categories-spec =

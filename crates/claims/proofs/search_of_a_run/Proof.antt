@@ -1,5 +1,5 @@
 -- Each is a law of the crate run. Assumes nothing.
-use Rattle.run.proofs.Laws.{run-found, none-run, run-none, run-refused, run-refused-9, records-length, records-at}
+use Rattle.run.proofs.Laws.{run-found, none-run, run-none, run-refused, run-refused-9, unknown-unmatched, records-many, records-at}
 use Rattle.claims.proofs.search_of_a_run.Statement.{statement}
 use Rattle.claims.proofs.search_of_a_run.Tie as tie
 
@@ -11,8 +11,9 @@ returns c =
       unmatched = λ run level set h u. run-none run level set h u;
       refused = λ run level set h. run-refused run level set h;
       only-9 = λ run level set k e. run-refused-9 run level set k e;
-      as-many = λ labels levels sets. records-length labels levels sets;
-      each = λ labels levels sets i d h. records-at labels levels sets i d h;
+      no-set = unknown-unmatched;
+      as-many = records-many;
+      each = records-at;
     }
 
 pub search-of-a-run-spec : {M : Type 1} → statement M

@@ -46,17 +46,17 @@ part-all-below-end c = search needs
 all-below-requires : tie.Need-all-below-requires
 all-below-requires c κs = search needs
 
-sub-all-even : tie.Need-sub-all-even
-sub-all-even c = search needs
+sub-all-known : tie.Need-sub-all-known
+sub-all-known c = search needs
 
-part-all-even-start : tie.Need-part-all-even-start
-part-all-even-start c = search needs
+part-all-known-start : tie.Need-part-all-known-start
+part-all-known-start c = search needs
 
-part-all-even-end : tie.Need-part-all-even-end
-part-all-even-end c = search needs
+part-all-known-end : tie.Need-part-all-known-end
+part-all-known-end c = search needs
 
-all-even-requires : tie.Need-all-even-requires
-all-even-requires c κs = search needs
+all-known-requires : tie.Need-all-known-requires
+all-known-requires c κs = search needs
 
 sub-all-below-2 : tie.Need-sub-all-below-2
 sub-all-below-2 c = search needs
@@ -77,7 +77,7 @@ returns c =
     same-tests
     (c .before .before .before .before .before .before .rules-sound .ensures)
     (c .before .before .before .before .all-below .ensures)
-    (c .before .before .all-even .ensures)
+    (c .before .before .all-known .ensures)
     (c .all-below2 .ensures)
     ∙ sym (sound-runs (getD (s .args .words .now) 0 0) (s .args .entries .now) (s .args .words .now) (p .0) (p .1) (p .2))
 
@@ -95,10 +95,10 @@ sound-spec =
     part-all-below-start
     part-all-below-end
     all-below-requires
-    sub-all-even
-    part-all-even-start
-    part-all-even-end
-    all-even-requires
+    sub-all-known
+    part-all-known-start
+    part-all-known-end
+    all-known-requires
     sub-all-below-2
     part-all-below-start-2
     part-all-below-end-2

@@ -37,6 +37,9 @@ use denote.Triple.Table.{entered, cited}
 use denote.Triple.Walked.{says, Stays, stay-none-slice, stay-none, walkOf, Walks, ends-at, walked, goes-none-slice, goes-none, walk-meets}
 use denote.Triple.Clauses.{ensured, lasts}
 use denote.Exit.{yes}
+use Rattle.numbers.specs.declared.CategorySet.{CategorySet}
+use Rattle.numbers.proofs.CategorySet as S
+use Rattle.numbers.proofs.CategorySet.Laws as S′
 use Rattle.run.specs.declared.Record.{Record}
 use Rattle.lookups.specs.declared.Label.{Label}
 use Rattle.run.proofs.Record as T
@@ -61,10 +64,14 @@ use Rattle.host.proofs.bq_lowest_in_run.Statement as stated
 use Rattle.host.proofs.bq_lowest_in_run.Code as code
 
 abbrev Arg : Type 0
-Arg = RefT (List Record) × (ℕ × (ℕ × Unit {0}))
+Arg = RefT (List Record) × (ℕ × (CategorySet × Unit {0}))
+
+-- the machine value of a set
+abbrev mach-set : CategorySet → Val
+mach-set s = LL.tuple-val S.the-type S′.the-laws (S.the-type .to s)
 
 abbrev stayed : Stays (fn.ended .signature .params) (fn.ended .kept)
-stayed = (stay-none-slice (0 ∷ []) tt (plain (λ _. T.the-row)) yes, (stay-none (λ _. u64) yes, (stay-none (λ _. u64) yes, tt)))
+stayed = (stay-none-slice (0 ∷ []) tt (plain (λ _. T.the-row)) yes, (stay-none (λ _. u64) yes, (stay-none (λ _. S.the-row) yes, tt)))
 
 -- the contracts that the proof cites, and of each callee's `ensured` the clause alone
 module _ {M : Type 1} (𝓤 : URA M) (H : Heap 𝓤) (A : Atoms 𝓤) (mem : Memory → SProp 𝓤) (run : Routine → Fun 𝓤) where
@@ -74,13 +81,13 @@ module _ {M : Type 1} (𝓤 : URA M) (H : Heap 𝓤) (A : Atoms 𝓤) (mem : Mem
   abbrev Show : Contract 𝓤
   Show = tripleOf 𝓤 H A shown.signature (shown.spec 𝓤 H A mem run)
 
-  found-of : (κ : Lft) (s : RefT (List Record)) (l t : ℕ) (r : Label) → ent 𝓤 (ensured 𝓤 H A lowest.ended (lowest.clauses 𝓤 H A mem run) (κ, tt) (s, (l, (t, tt))) tt r) (fact 𝓤 (r ≡ runOf (now s) l t))
+  found-of : (κ : Lft) (s : RefT (List Record)) (l : ℕ) (t : CategorySet) (r : Label) → ent 𝓤 (ensured 𝓤 H A lowest.ended (lowest.clauses 𝓤 H A mem run) (κ, tt) (s, (l, (t, tt))) tt r) (fact 𝓤 (r ≡ runOf (now s) l t))
   found-of κ s l t r = exE 𝓤 _ (λ ws. snd∗ 𝓤 (sem 𝓤 H A (lasts lowest.ended (κ, tt) (s, (l, (t, tt))) ws)) (fact 𝓤 (r ≡ runOf (now s) l t)))
 
   shown-of : (n : Label) (r : Lowest) → ent 𝓤 (ensured 𝓤 H A shown.ended (shown.clauses 𝓤 H A mem run) tt (n, tt) tt r) (fact 𝓤 (r ≡ searchShown n))
   shown-of n r = exE 𝓤 _ (λ ws. snd∗ 𝓤 (sem 𝓤 H A (lasts shown.ended tt (n, tt) ws)) (fact 𝓤 (r ≡ searchShown n)))
 
-module _ {M : Type 1} (𝓤 : URA M) (H : Heap 𝓤) (A : Atoms 𝓤) (W : Given 𝓤 H A) (mem : Memory → SProp 𝓤) (run : Routine → Fun 𝓤) (κ : Lft) (q : Share) (s : RefT (List Record)) (lv st : ℕ) (gl : lv < 2 ^ 64) (gs : st < 2 ^ 64) where
+module _ {M : Type 1} (𝓤 : URA M) (H : Heap 𝓤) (A : Atoms 𝓤) (W : Given 𝓤 H A) (mem : Memory → SProp 𝓤) (run : Routine → Fun 𝓤) (κ : Lft) (q : Share) (s : RefT (List Record)) (lv : ℕ) (st : CategorySet) (gl : lv < 2 ^ 64) (gs : Is S.the-row st (mach-set st ∷ [])) where
   abbrev x : Arg
   x = (s, (lv, (st, tt)))
 
@@ -89,7 +96,7 @@ module _ {M : Type 1} (𝓤 : URA M) (H : Heap 𝓤) (A : Atoms 𝓤) (W : Given
   lent = sliceVal (s .ptr) (length (s .now))
 
   abbrev at : Vals fn.signature (κ, tt)
-  at = (lent ∷ [], (vint w64 lv ∷ [], (vint w64 st ∷ [], tt)))
+  at = (lent ∷ [], (vint w64 lv ∷ [], (mach-set st ∷ [], tt)))
 
   abbrev Post : Val → SProp 𝓤
   Post = walkOf 𝓤 H A fn.ended stayed (fn.clauses 𝓤 H A mem run) .post (((κ, tt), (q, tt), tt, x, at), tt)
@@ -101,13 +108,13 @@ module _ {M : Type 1} (𝓤 : URA M) (H : Heap 𝓤) (A : Atoms 𝓤) (W : Given
   Token = ‵ (flft κ q) ⊛ ‵ ftrue
 
   abbrev Passed : Item 𝓤
-  Passed = ‵ (owns (ShrSlice (named 0) κ T.the-row ∷ u64 ∷ u64 ∷ []) x at)
+  Passed = ‵ (owns (ShrSlice (named 0) κ T.the-row ∷ u64 ∷ S.the-row ∷ []) x at)
 
   exits : (r : Lowest) (u : Val) → r ≡ searchShown (runOf (now s) lv st) → ent 𝓤 (⋆ 𝓤 H A (‵ (L.the-row .own r (u ∷ [])) ∷ Token ∷ ‵ Own ∷ [])) (Post u)
   exits r u e =
       qed W (‵ (L.the-row .own r (u ∷ [])) ∷ Token ∷ ‵ Own ∷ []) ∵
       suffices ! _ (ends-at 𝓤 H A fn.ended stayed (fn.clauses 𝓤 H A mem run) W (((κ, tt), (q, tt), tt, x, at), tt) u r (tt, (tt, (tt, tt))) (tt, (tt, (tt, tt)))) $ says ! e $
-      move ! (1 ∷ []) $ frame ! $ nothing ! $ owned ! u64 (Is u64) (uint-makes 𝓤 H A W w64) st _ (refl, gs) $ fjoin ! $ owned ! u64 (Is u64) (uint-makes 𝓤 H A W w64) lv _ (refl, gl) $ fjoin ! $
+      move ! (1 ∷ []) $ frame ! $ nothing ! $ owned ! S.the-row (Is S.the-row) (LL.makes S.the-type S′.the-plain 𝓤 H A) st _ gs $ fjoin ! $ owned ! u64 (Is u64) (uint-makes 𝓤 H A W w64) lv _ (refl, gl) $ fjoin ! $
       move ! (2 ∷ 0 ∷ []) $ fjoin ! $ frame ! $ done !
 
   -- what each callee is passed, and how it is had: of the run, a copy
@@ -126,11 +133,11 @@ module _ {M : Type 1} (𝓤 : URA M) (H : Heap 𝓤) (A : Atoms 𝓤) (W : Given
   goes-show n u = qed W (‵ (R.the-row .own n (u ∷ [])) ∷ []) ∵ nothing ! $ move ! (1 ∷ 0 ∷ []) $ fjoin ! $ nothing ! $ join ! $ frame ! $ done !
 
   module _ (𝓣 : Tables 𝓤 H) (fm : FmC 𝓤 H (W .laws) (𝓣 .C)) (known-lowest : Triple 𝓤 (𝓣 .C #run·lowest) (Search 𝓤 H A mem run)) (known-shown : Triple 𝓤 (𝓣 .C #answers·search-shown) (Show 𝓤 H A mem run)) where
-    walk : Is (ShrSlice (named 0) κ T.the-row) s (lent ∷ []) → ent 𝓤 (onEntry 𝓤 H A fn.signature (κ, tt) (q, tt) x at) (WpFn 𝓤 H (𝓣 .C) (𝓣 .Λ) code.function (lent ∷ vint w64 lv ∷ vint w64 st ∷ []) Post)
+    walk : Is (ShrSlice (named 0) κ T.the-row) s (lent ∷ []) → ent 𝓤 (onEntry 𝓤 H A fn.signature (κ, tt) (q, tt) x at) (WpFn 𝓤 H (𝓣 .C) (𝓣 .Λ) code.function (lent ∷ vint w64 lv ∷ mach-set st ∷ []) Post)
     walk p =
-        qed W (raw (onEntry 𝓤 H A fn.signature (κ, tt) (q, tt) x at) ∷ []) ∵ enter ! (𝓣 .C) (𝓣 .Λ) code.function (lent ∷ vint w64 lv ∷ vint w64 st ∷ []) _ $
+        qed W (raw (onEntry 𝓤 H A fn.signature (κ, tt) (q, tt) x at) ∷ []) ∵ enter ! (𝓣 .C) (𝓣 .Λ) code.function (lent ∷ vint w64 lv ∷ mach-set st ∷ []) _ $
         alloc1 ! (λ l₀. alloc1 ! (λ l₁. alloc1 ! (λ l₂. alloc1 ! (λ l₃. alloc1 ! (λ l₄. alloc0 ! $ params1 ! $
-        pass1 ! (init ! 6 refl (shr-slice-lawful 𝓤 H A W (named 0) κ T.the-row .typed s (lent ∷ []) p .0)) $ pass1 ! (init ! 4 refl (tt, record { fits = gl })) $ pass1 ! (init ! 2 refl (tt, record { fits = gs })) $ pass0 ! $
+        pass1 ! (init ! 6 refl (shr-slice-lawful 𝓤 H A W (named 0) κ T.the-row .typed s (lent ∷ []) p .0)) $ pass1 ! (init ! 4 refl (tt, record { fits = gl })) $ pass1 ! (init ! 2 refl (LL.lawful S.the-type S′.the-laws 𝓤 H A W .typed st (mach-set st ∷ []) gs .0)) $ pass0 ! $
         -- [room for _4; …; set; …; level; …; run; …; room for _0; …; what is had on entry]
         move ! (10 ∷ []) $ use1 W (raw (Search 𝓤 H A mem run .pre to-search) ⊛ ‵ Own) goes-search $ split ! $
         calls-at ! fm (Search 𝓤 H A mem run) known-lowest to-search (and-then ! (load ! (from ! (stop !)) (look ! 8 refl)) (and-then ! (load ! (from ! (stop !)) (look ! 6 refl)) (and-then ! (load ! (from ! (stop !)) (look ! 4 refl)) (no-more !)))) (λ u.
@@ -152,12 +159,12 @@ module _ {M : Type 1} (𝓤 : URA M) (H : Heap 𝓤) (A : Atoms 𝓤) (W : Given
 
 module _ {M : Type 1} (𝓤 : URA M) (H : Heap 𝓤) (A : Atoms 𝓤) (W : Given 𝓤 H A) (mem : Memory → SProp 𝓤) (run : Routine → Fun 𝓤) (𝓣 : Tables 𝓤 H) (known-lowest : Triple 𝓤 (𝓣 .C #run·lowest) (Search 𝓤 H A mem run)) (known-shown : Triple 𝓤 (𝓣 .C #answers·search-shown) (Show 𝓤 H A mem run)) where
   walks : Walks 𝓤 H A fn.ended stayed (WpFn 𝓤 H (𝓣 .C) (𝓣 .Λ) code.function) (fn.clauses 𝓤 H A mem run)
-  walks = walked 𝓤 H A fn.ended stayed (fn.clauses 𝓤 H A mem run) (WpFn 𝓤 H (𝓣 .C) (𝓣 .Λ) code.function) (λ κs. (slice-vals, (uint-vals w64, (uint-vals w64, tt)))) (λ κs. (shr-slice-tells (named 0) (κs .0) T.the-row, (uint-tells w64, (uint-tells w64, tt))))
+  walks = walked 𝓤 H A fn.ended stayed (fn.clauses 𝓤 H A mem run) (WpFn 𝓤 H (𝓣 .C) (𝓣 .Λ) code.function) (λ κs. (slice-vals, (uint-vals w64, (LL.vals S.the-type S′.the-laws, tt)))) (λ κs. (shr-slice-tells (named 0) (κs .0) T.the-row, (uint-tells w64, (LL.tells S.the-type S′.the-laws, tt))))
       (λ κs qs bounds a g are. via 𝓤 _ (fst∗ 𝓤 _ (emp 𝓤))
-      (walk 𝓤 H A W mem run (κs .0) (qs .0) (a .0) (a .1 .0) (a .1 .1 .0) (are .1 .0 .1) (are .1 .1 .0 .1) 𝓣 (fmOf 𝓤 H (W .laws) 𝓣) known-lowest known-shown (are .0)))
+      (walk 𝓤 H A W mem run (κs .0) (qs .0) (a .0) (a .1 .0) (a .1 .1 .0) (are .1 .0 .1) (are .1 .1 .0) 𝓣 (fmOf 𝓤 H (W .laws) 𝓣) known-lowest known-shown (are .0)))
 
   meets : Meets 𝓤 H A fn.signature (WpFn 𝓤 H (𝓣 .C) (𝓣 .Λ) code.function) (fn.spec 𝓤 H A mem run)
-  meets = walk-meets 𝓤 H A fn.ended stayed W (goes-none-slice 𝓤 H A W 1 (0 ∷ []) tt (plain (λ _. T.the-row)) yes, (goes-none 𝓤 H A W 1 (λ _. u64) yes (λ κs x f. refl), (goes-none 𝓤 H A W 1 (λ _. u64) yes (λ κs x f. refl), tt))) (fn.clauses 𝓤 H A mem run) (WpFn 𝓤 H (𝓣 .C) (𝓣 .Λ) code.function) (WpFn-mono 𝓤 H (W .laws) 𝓣 code.function) walks
+  meets = walk-meets 𝓤 H A fn.ended stayed W (goes-none-slice 𝓤 H A W 1 (0 ∷ []) tt (plain (λ _. T.the-row)) yes, (goes-none 𝓤 H A W 1 (λ _. u64) yes (λ κs x f. refl), (goes-none 𝓤 H A W 1 (λ _. S.the-row) yes (λ κs x f. refl), tt))) (fn.clauses 𝓤 H A mem run) (WpFn 𝓤 H (𝓣 .C) (𝓣 .Λ) code.function) (WpFn-mono 𝓤 H (W .laws) 𝓣 code.function) walks
 
 pub bq-lowest-in-run-spec : {M : Type 1} → stated.statement M
 unfolding code.routine tablesOf

@@ -1,21 +1,22 @@
--- `lookups::by_label` meets its contract: each answer is that of the definition, by the tests that led to it, and no set of an undamaged store has
--- a bit that is no category. Assumes nothing.
+-- `lookups::by_label` meets its contract: each answer is that of the definition, by the tests that led to it. Assumes nothing.
 use Prim.Native.Nat.{ℕ, _+_, _<_}
 use mathlib.Core.Path.{_≡_, sym, _∙_, ap}
 use mathlib.Core.Bool.{true}
 use native.Mathlib.Omega.{arith}
 use borrow.Author.Tests.{not-true, not-false}
-use lib.ListN.{getD}
+use lib.ListN.{length, getD}
 use Rattle.search.specs.Search.{first, entries}
 use Rattle.search.specs.Bytes.{sameBytes}
 use Rattle.search.specs.declared.Found.the-variants.{At, Nothing}
 use Rattle.alphabet.specs.Alphabet.{faultOf}
+use Rattle.numbers.specs.Categories.{categories}
+use Rattle.numbers.specs.declared.CategorySet.{CategorySet}
 use Rattle.store.specs.Layout.{store, labelAt, mappingAt, undamagedOf}
 use Rattle.store.proofs.Laws.{Undamaged, undamaged-is}
 use Rattle.store.specs.Table.{names}
 use Rattle.lookups.specs.declared.Lookup.the-variants.{Mapped, Refused}
 use borrow.Author.Needs.{needs}
-use Rattle.lookups.proofs.Laws.{mapping-below, stored-known, label-damaged, label-unformed, label-unknown, label-unmapped, label-mapped}
+use Rattle.lookups.proofs.Laws.{mapping-below, label-damaged, label-unformed, label-unknown, label-unmapped, label-mapped}
 use Rattle.lookups.proofs.by_label.Statement.{statement}
 use Rattle.lookups.proofs.by_label.Tie as tie
 
@@ -103,14 +104,10 @@ add-level c = omega (arith, below (c .before), whole (c .before .before .before 
 shared-slice-read-level : tie.Need-shared-slice-read-level
 shared-slice-read-level c = omega (arith, below (c .before .before), whole (c .before .before .before .before .before .before .before .before .before .before .before .before .before .before) .counts .mappings, whole (c .before .before .before .before .before .before .before .before .before .before .before .before .before .before) .sizes .entries)
 
-add-set : tie.Need-add-set
-add-set c = omega (arith, below (c .before .before), whole (c .before .before .before .before .before .before .before .before .before .before .before .before .before .before) .counts .mappings)
-
-mul-set : tie.Need-mul-set
-mul-set c = omega (arith, below (c .before .before), whole (c .before .before .before .before .before .before .before .before .before .before .before .before .before .before) .counts .mappings)
-
-shared-slice-read-set : tie.Need-shared-slice-read-set
-shared-slice-read-set c = omega (arith, below (c .before .before .before), whole (c .before .before .before .before .before .before .before .before .before .before .before .before .before .before .before) .counts .mappings, whole (c .before .before .before .before .before .before .before .before .before .before .before .before .before .before .before) .sizes .words)
+set-at-requires : tie.Need-set-at-requires
+set-at-requires c κs =
+    let u = whole (c .before .before .before .before .before .before .before .before .before .before .before .before .before .before) in
+    (omega (arith, u .sizes .words), omega (arith, below (c .before .before), u .counts .mappings))
 
 category-count-requires : tie.Need-category-count-requires
 category-count-requires c κs = search needs
@@ -119,10 +116,10 @@ returns-5 : tie.Need-returns-5
 returns-5 c =
     let a = c .before .before .before .before .before .before .before .before .before .before .before .before .before .before .before .before .before .before .before .before .before .before .args in
     let k = c .before .before .before .before .k .given .0 .0 in
-    let even = stored-known (a .labels .now) (a .entries .now) (a .words .now) (tested (c .before .before .before .before .before .before .before .before .before .before .before .before .before .before .before .before)) k (below (c .before .before .before .before)) in
-    sym
-    (label-mapped (a .labels .now) (a .entries .now) (a .words .now) (a .label .now) (tested (c .before .before .before .before .before .before .before .before .before .before .before .before .before .before .before .before)) (formed (c .before .before .before .before .before .before .before .before .before .before .before .before .before)) (known (c .before .before .before .before .before .before .before .before)) (mapped (c .before .before .before .before))
-    ∙ ap (λ (x : ℕ). Mapped (getD (a .entries .now) (800 + k) 0) (getD (a .words .now) (4 + k) 0) x) (sym (c .category-count .ensures .1 even)))
+    let level = getD (a .entries .now) (800 + k) 0 in
+    ap (λ (x : ℕ). Mapped level (c .before .set-at .result) x) (c .category-count .ensures)
+    ∙ ap (λ (x : CategorySet). Mapped level x (length (categories x))) (c .before .set-at .ensures)
+    ∙ sym (label-mapped (a .labels .now) (a .entries .now) (a .words .now) (a .label .now) (tested (c .before .before .before .before .before .before .before .before .before .before .before .before .before .before .before .before)) (formed (c .before .before .before .before .before .before .before .before .before .before .before .before .before)) (known (c .before .before .before .before .before .before .before .before)) (mapped (c .before .before .before .before)))
 
 pub by-label-spec : {M : Type 1} → statement M
 by-label-spec =
@@ -147,8 +144,6 @@ by-label-spec =
     returns-4
     add-level
     shared-slice-read-level
-    add-set
-    mul-set
-    shared-slice-read-set
+    set-at-requires
     category-count-requires
     returns-5)

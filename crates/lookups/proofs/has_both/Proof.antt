@@ -8,9 +8,12 @@ use Rattle.search.specs.Search.{first, entries}
 use Rattle.search.specs.Bytes.{sameBytes}
 use Rattle.search.specs.declared.Found.{Found}
 use Rattle.search.specs.declared.Found.the-variants.{At}
-use Rattle.store.specs.Layout.{labelAt, mappingAt}
+use Rattle.numbers.specs.Categories.{sameSet}
+use Rattle.numbers.specs.declared.CategorySet.{CategorySet}
+use Rattle.store.specs.Layout.{labelAt, mappingAt, setAt}
 use Rattle.store.specs.Table.{names}
 use borrow.Author.Needs.{needs}
+use borrow.Author.Tests.{not-true, not-false}
 use Rattle.lookups.proofs.Laws.{mapping-below, both-none, both-level, both-set, both-label}
 use Rattle.lookups.proofs.has_both.Statement.{statement}
 use Rattle.lookups.proofs.has_both.Tie as tie
@@ -22,10 +25,14 @@ found c = sym (c .before .before .find-mapping .ensures (c .before .before .befo
 below : (c : tie.After-k) → c .k .given .0 .0 < getD (c .before .before .before .before .before .before .before .before .args .words .now) 2 0
 below c = mapping-below _ _ _ _ _ (found c)
 
+-- whether the set that it has is the one that is sought
+differ : (c : tie.After-same-set) → sameSet (setAt (c .before .before .before .before .before .before .before .before .before .before .before .before .before .args .words .now) (c .before .before .before .before .before .k .given .0 .0)) (c .before .before .before .before .before .before .before .before .before .before .before .before .before .args .set) ≡ c .same-set .result
+differ c = ap (λ (x : CategorySet). sameSet x (c .before .before .before .before .before .before .before .before .before .before .before .before .before .args .set)) (sym (c .before .set-at .ensures)) ∙ sym (c .same-set .ensures)
+
 -- the search for the label's own bytes
-sought : (c : tie.After-find-label) {r : Found} → c .find-label .result ≡ r → first (sameBytes (labelAt (c .before .before .before .before .before .before .before .before .before .before .before .before .before .before .before .args .labels .now) (c .before .before .before .before .before .before .before .before .before .before .before .before .before .before .before .args .n))) (entries (labelAt (c .before .before .before .before .before .before .before .before .before .before .before .before .before .before .before .args .labels .now)) (getD (c .before .before .before .before .before .before .before .before .before .before .before .before .before .before .before .args .words .now) 0 0)) ≡ r
+sought : (c : tie.After-find-label) {r : Found} → c .find-label .result ≡ r → first (sameBytes (labelAt (c .before .before .before .before .before .before .before .before .before .before .before .before .before .before .before .before .args .labels .now) (c .before .before .before .before .before .before .before .before .before .before .before .before .before .before .before .before .args .n))) (entries (labelAt (c .before .before .before .before .before .before .before .before .before .before .before .before .before .before .before .before .args .labels .now)) (getD (c .before .before .before .before .before .before .before .before .before .before .before .before .before .before .before .before .args .words .now) 0 0)) ≡ r
 sought c e =
-    ap (λ (b : List ℕ). first (sameBytes b) (entries (labelAt (c .before .before .before .before .before .before .before .before .before .before .before .before .before .before .before .args .labels .now)) (getD (c .before .before .before .before .before .before .before .before .before .before .before .before .before .before .before .args .words .now) 0 0))) (sym (c .before .label-at .ensures .0))
+    ap (λ (b : List ℕ). first (sameBytes b) (entries (labelAt (c .before .before .before .before .before .before .before .before .before .before .before .before .before .before .before .before .args .labels .now)) (getD (c .before .before .before .before .before .before .before .before .before .before .before .before .before .before .before .before .args .words .now) 0 0))) (sym (c .before .label-at .ensures .0))
     ∙ sym (c .find-label .ensures)
     ∙ e
 
@@ -63,19 +70,18 @@ returns-2 c =
     let a = c .before .before .before .before .before .before .before .before .before .before .before .args in
     sym (both-level (a .labels .now) (a .entries .now) (a .words .now) (a .level) (a .set) (a .n) (found (c .before .before .before)) (c .if1 .taken))
 
-add-if2 : tie.Need-add-if2
-add-if2 c = omega (arith, below (c .before .before .before), c .before .before .before .before .before .before .before .before .before .before .before .pre .1 .mappings)
+set-at-requires : tie.Need-set-at-requires
+set-at-requires c κs =
+    let p = c .before .before .before .before .before .before .before .before .before .before .before .pre in
+    (omega (arith, p .0 .words), omega (arith, below (c .before .before .before), p .1 .mappings))
 
-mul-if2 : tie.Need-mul-if2
-mul-if2 c = omega (arith, below (c .before .before .before), c .before .before .before .before .before .before .before .before .before .before .before .pre .1 .mappings)
-
-shared-slice-read-if2 : tie.Need-shared-slice-read-if2
-shared-slice-read-if2 c = omega (arith, below (c .before .before .before .before), c .before .before .before .before .before .before .before .before .before .before .before .before .pre .1 .mappings, c .before .before .before .before .before .before .before .before .before .before .before .before .pre .0 .words)
+same-set-requires : tie.Need-same-set-requires
+same-set-requires c κs = search needs
 
 returns-3 : tie.Need-returns-3
 returns-3 c =
-    let a = c .before .before .before .before .before .before .before .before .before .before .before .before .before .args in
-    sym (both-set (a .labels .now) (a .entries .now) (a .words .now) (a .level) (a .set) (a .n) (found (c .before .before .before .before .before)) (c .before .before .if1 .left) (c .if2 .taken))
+    let a = c .before .before .before .before .before .before .before .before .before .before .before .before .before .before .args in
+    sym (both-set (a .labels .now) (a .entries .now) (a .words .now) (a .level) (a .set) (a .n) (found (c .before .before .before .before .before .before)) (c .before .before .before .if1 .left) (differ (c .before) ∙ not-true _ (c .if2 .taken)))
 
 label-at-requires : tie.Need-label-at-requires
 label-at-requires c κs = search needs
@@ -91,13 +97,13 @@ enum-told-2 c = search needs
 
 returns-4 : tie.Need-returns-4
 returns-4 c =
-    let a = c .before .before .before .before .before .before .before .before .before .before .before .before .before .before .before .before .before .args in
-    sym (both-label (a .labels .now) (a .entries .now) (a .words .now) (a .level) (a .set) (a .n) (found (c .before .before .before .before .before .before .before .before .before)) (c .before .before .before .before .before .before .if1 .left) (c .before .before .before .before .if2 .left) (c .before .before .before .before .before .before .before .before .before .before .before .before .before .before .before .before .before .pre .2) (sought (c .before .before) (c .enum-told2 .given .1)))
+    let a = c .before .before .before .before .before .before .before .before .before .before .before .before .before .before .before .before .before .before .args in
+    sym (both-label (a .labels .now) (a .entries .now) (a .words .now) (a .level) (a .set) (a .n) (found (c .before .before .before .before .before .before .before .before .before .before)) (c .before .before .before .before .before .before .before .if1 .left) (differ (c .before .before .before .before .before) ∙ not-false _ (c .before .before .before .before .if2 .left)) (c .before .before .before .before .before .before .before .before .before .before .before .before .before .before .before .before .before .before .pre .2) (sought (c .before .before) (c .enum-told2 .given .1)))
 
 returns-5 : tie.Need-returns-5
 returns-5 c =
-    let a = c .before .before .before .before .before .before .before .before .before .before .before .before .before .before .before .before .before .before .args in
-    sym (both-label (a .labels .now) (a .entries .now) (a .words .now) (a .level) (a .set) (a .n) (found (c .before .before .before .before .before .before .before .before .before .before)) (c .before .before .before .before .before .before .before .if1 .left) (c .before .before .before .before .before .if2 .left) (c .before .before .before .before .before .before .before .before .before .before .before .before .before .before .before .before .before .before .pre .2) (sought (c .before .before .before) (c .before .i .given .1)))
+    let a = c .before .before .before .before .before .before .before .before .before .before .before .before .before .before .before .before .before .before .before .args in
+    sym (both-label (a .labels .now) (a .entries .now) (a .words .now) (a .level) (a .set) (a .n) (found (c .before .before .before .before .before .before .before .before .before .before .before)) (c .before .before .before .before .before .before .before .before .if1 .left) (differ (c .before .before .before .before .before .before) ∙ not-false _ (c .before .before .before .before .before .if2 .left)) (c .before .before .before .before .before .before .before .before .before .before .before .before .before .before .before .before .before .before .before .pre .2) (sought (c .before .before .before) (c .before .i .given .1)))
 
 pub has-both-spec : {M : Type 1} → statement M
 has-both-spec =
@@ -113,9 +119,8 @@ has-both-spec =
     shared-slice-read-if1
     cast-if1
     returns-2
-    add-if2
-    mul-if2
-    shared-slice-read-if2
+    set-at-requires
+    same-set-requires
     returns-3
     label-at-requires
     find-label-requires

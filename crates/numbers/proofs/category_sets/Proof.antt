@@ -1,5 +1,5 @@
--- `numbers::category_sets`: a set is told by its categories. Assumes nothing.
-use Rattle.numbers.proofs.Laws.{category-sets}
+-- `numbers::category_sets`: a set is told by its categories, and made of them. Assumes nothing.
+use Rattle.numbers.proofs.Sets.{category-sets}
 use Rattle.numbers.proofs.category_sets.Statement.{statement}
 use Rattle.numbers.proofs.category_sets.Tie as tie
 

@@ -52,6 +52,9 @@ use borrow.Author.Needs.{scaled-fits}
 use Rattle.run.specs.declared.Record.{Record}
 use Rattle.run.specs.declared.Best.{Best}
 use Rattle.run.specs.declared.Best.the-variants.{Nothing}
+use Rattle.numbers.specs.declared.CategorySet.{CategorySet}
+use Rattle.numbers.proofs.CategorySet as S
+use Rattle.numbers.proofs.CategorySet.Laws as S′
 use Rattle.run.proofs.Record as T
 use Rattle.run.proofs.Record.Laws as T′
 use Rattle.run.proofs.Best as B
@@ -81,7 +84,7 @@ use Rattle.run.proofs.lowest.Code as code
 use Rattle.run.proofs.lowest.Code.Mir as body
 
 abbrev Arg : Type 0
-Arg = RefT (List Record) × (ℕ × (ℕ × Unit {0}))
+Arg = RefT (List Record) × (ℕ × (CategorySet × Unit {0}))
 
 abbrev word : Ty
 word = tyInt w64
@@ -91,11 +94,14 @@ slice = sliceTy (tyRef (named 0) imm (pointee (T.the-row .written)))
 
 -- what stands past a run's end, as `getD` has it: no step of the walk reads it
 abbrev zero : Record
-zero = record { label = 0; level = 0; set = 0 }
+zero = record { label = 0; level = 0; set = record { first = 0; second = 0; third = 0 } }
 
--- the machine values of a record and of the best so far
+-- the machine values of a record, of a set and of the best so far
 abbrev mach : Record → Val
 mach m = LL.tuple-val T.the-type T′.the-laws (T.the-type .to m)
+
+abbrev mach-set : CategorySet → Val
+mach-set s = LL.tuple-val S.the-type S′.the-laws (S.the-type .to s)
 
 abbrev mach-best : Best → Val
 mach-best n = EL.val B.the-type B′.the-laws n
@@ -126,7 +132,7 @@ abbrev more : Body
 more = rest (rest body.turn-1)
 
 abbrev stayed : Stays (fn.ended .signature .params) (fn.ended .kept)
-stayed = (stay-none-slice (0 ∷ []) tt (plain (λ _. T.the-row)) yes, (stay-none (λ _. u64) yes, (stay-none (λ _. u64) yes, tt)))
+stayed = (stay-none-slice (0 ∷ []) tt (plain (λ _. T.the-row)) yes, (stay-none (λ _. u64) yes, (stay-none (λ _. S.the-row) yes, tt)))
 
 -- a local of type τ at l, with what frees it, before other items: with nothing in it, and with v
 abbrev empty : {M : Type 1} {𝓤 : URA M} → Ty → ℕ → List (Item 𝓤) → List (Item 𝓤)
@@ -146,21 +152,21 @@ module _ {M : Type 1} (𝓤 : URA M) (H : Heap 𝓤) (A : Atoms 𝓤) (mem : Mem
   abbrev Settled : Contract 𝓤
   Settled = tripleOf 𝓤 H A settled.signature (settled.spec 𝓤 H A mem run)
 
-  lower-of : (b : Best) (m : Record) (l s : ℕ) (r : Best) → ent 𝓤 (ensured 𝓤 H A lower.ended (lower.clauses 𝓤 H A mem run) tt (b, (m, (l, (s, tt)))) tt r) (fact 𝓤 (r ≡ lowerOf l s b m))
+  lower-of : (b : Best) (m : Record) (l : ℕ) (s : CategorySet) (r : Best) → ent 𝓤 (ensured 𝓤 H A lower.ended (lower.clauses 𝓤 H A mem run) tt (b, (m, (l, (s, tt)))) tt r) (fact 𝓤 (r ≡ lowerOf l s b m))
   lower-of b m l s r = exE 𝓤 _ (λ ws. snd∗ 𝓤 (sem 𝓤 H A (lasts lower.ended tt (b, (m, (l, (s, tt)))) ws)) (fact 𝓤 (r ≡ lowerOf l s b m)))
 
-  reach-of : (n l s r : ℕ) → ent 𝓤 (ensured 𝓤 H A reach.ended (reach.clauses 𝓤 H A mem run) tt (n, (l, (s, tt))) tt r) (fact 𝓤 (r ≡ searched n l s))
+  reach-of : (n l : ℕ) (s : CategorySet) (r : ℕ) → ent 𝓤 (ensured 𝓤 H A reach.ended (reach.clauses 𝓤 H A mem run) tt (n, (l, (s, tt))) tt r) (fact 𝓤 (r ≡ searched n l s))
   reach-of n l s r = exE 𝓤 _ (λ ws. snd∗ 𝓤 (sem 𝓤 H A (lasts reach.ended tt (n, (l, (s, tt))) ws)) (fact 𝓤 (r ≡ searched n l s)))
 
-  settled-of : (b : Best) (l s : ℕ) (r : Label) → ent 𝓤 (ensured 𝓤 H A settled.ended (settled.clauses 𝓤 H A mem run) tt (b, (l, (s, tt))) tt r) (fact 𝓤 (r ≡ settledOf b l s))
+  settled-of : (b : Best) (l : ℕ) (s : CategorySet) (r : Label) → ent 𝓤 (ensured 𝓤 H A settled.ended (settled.clauses 𝓤 H A mem run) tt (b, (l, (s, tt))) tt r) (fact 𝓤 (r ≡ settledOf b l s))
   settled-of b l s r = exE 𝓤 _ (λ ws. snd∗ 𝓤 (sem 𝓤 H A (lasts settled.ended tt (b, (l, (s, tt))) ws)) (fact 𝓤 (r ≡ settledOf b l s)))
 
-module _ {M : Type 1} (𝓤 : URA M) (H : Heap 𝓤) (A : Atoms 𝓤) (W : Given 𝓤 H A) (mem : Memory → SProp 𝓤) (run : Routine → Fun 𝓤) (κ : Lft) (q : Share) (b o : ℕ) (γ : GName) (ys : List Record) (lv st : ℕ) (gl : lv < 2 ^ 64) (gs : st < 2 ^ 64) where
+module _ {M : Type 1} (𝓤 : URA M) (H : Heap 𝓤) (A : Atoms 𝓤) (W : Given 𝓤 H A) (mem : Memory → SProp 𝓤) (run : Routine → Fun 𝓤) (κ : Lft) (q : Share) (b o : ℕ) (γ : GName) (ys : List Record) (lv : ℕ) (st : CategorySet) (gl : lv < 2 ^ 64) (gs : Is S.the-row st (mach-set st ∷ [])) where
   abbrev x : Arg
   x = (record { ptr = (b, o); name = γ; now = ys }, (lv, (st, tt)))
 
   abbrev at : Vals fn.signature (κ, tt)
-  at = (sliceVal (b, o) (length ys) ∷ [], (vint w64 lv ∷ [], (vint w64 st ∷ [], tt)))
+  at = (sliceVal (b, o) (length ys) ∷ [], (vint w64 lv ∷ [], (mach-set st ∷ [], tt)))
 
   abbrev Post : Val → SProp 𝓤
   Post = walkOf 𝓤 H A fn.ended stayed (fn.clauses 𝓤 H A mem run) .post (((κ, tt), (q, tt), tt, x, at), tt)
@@ -172,32 +178,32 @@ module _ {M : Type 1} (𝓤 : URA M) (H : Heap 𝓤) (A : Atoms 𝓤) (W : Given
   exits r u e =
       qed W (‵ (flft κ q) ∷ SO ∷ ‵ (R.the-row .own r (u ∷ [])) ∷ []) ∵
       suffices ! _ (ends-at 𝓤 H A fn.ended stayed (fn.clauses 𝓤 H A mem run) W (((κ, tt), (q, tt), tt, x, at), tt) u r (tt, (tt, (tt, tt))) (tt, (tt, (tt, tt)))) $ says ! e $
-      nothing ! $ move ! (1 ∷ 0 ∷ []) $ join ! $ nothing ! $ owned ! u64 (Is u64) (uint-makes 𝓤 H A W w64) st _ (refl, gs) $ fjoin ! $ owned ! u64 (Is u64) (uint-makes 𝓤 H A W w64) lv _ (refl, gl) $ fjoin ! $
+      nothing ! $ move ! (1 ∷ 0 ∷ []) $ join ! $ nothing ! $ owned ! S.the-row (Is S.the-row) (LL.makes S.the-type S′.the-plain 𝓤 H A) st _ gs $ fjoin ! $ owned ! u64 (Is u64) (uint-makes 𝓤 H A W w64) lv _ (refl, gl) $ fjoin ! $
       move ! (2 ∷ 0 ∷ []) $ fjoin ! $ move ! (1 ∷ 0 ∷ []) $ frame ! $ frame ! $ done !
 
   -- what each callee is passed, and that it is had for nothing
   abbrev to-lower : Best → Record → Lower 𝓤 H A mem run .Ghost
-  to-lower n m = ((tt, tt, tt, (n, (m, (lv, (st, tt)))), (mach-best n ∷ [], (mach m ∷ [], (vint w64 lv ∷ [], (vint w64 st ∷ [], tt))))), tt)
+  to-lower n m = ((tt, tt, tt, (n, (m, (lv, (st, tt)))), (mach-best n ∷ [], (mach m ∷ [], (vint w64 lv ∷ [], (mach-set st ∷ [], tt))))), tt)
 
   goes-lower : (n : Best) (m : Record) → Is B.the-row n (mach-best n ∷ []) → Is T.the-row m (mach m ∷ []) → ent 𝓤 (sem 𝓤 H A ftrue) (Lower 𝓤 H A mem run .pre (to-lower n m))
   goes-lower n m isn is =
-      qed W (‵ ftrue ∷ []) ∵ owned ! u64 (Is u64) (uint-makes 𝓤 H A W w64) st _ (refl, gs) $ fjoin ! $ owned ! u64 (Is u64) (uint-makes 𝓤 H A W w64) lv _ (refl, gl) $ fjoin ! $
+      qed W (‵ ftrue ∷ []) ∵ owned ! S.the-row (Is S.the-row) (LL.makes S.the-type S′.the-plain 𝓤 H A) st _ gs $ fjoin ! $ owned ! u64 (Is u64) (uint-makes 𝓤 H A W w64) lv _ (refl, gl) $ fjoin ! $
       owned ! T.the-row (Is T.the-row) (LL.makes T.the-type T′.the-plain 𝓤 H A) m _ is $ fjoin ! $ owned ! B.the-row (Is B.the-row) (EL.makes B.the-type B′.the-plain 𝓤 H A) n _ isn $ fjoin ! $ nothing ! $ join ! $ frame ! $ done !
 
   abbrev to-reach : Reach 𝓤 H A mem run .Ghost
-  to-reach = ((tt, tt, tt, (length ys, (lv, (st, tt))), (vint w64 (length ys) ∷ [], (vint w64 lv ∷ [], (vint w64 st ∷ [], tt)))), tt)
+  to-reach = ((tt, tt, tt, (length ys, (lv, (st, tt))), (vint w64 (length ys) ∷ [], (vint w64 lv ∷ [], (mach-set st ∷ [], tt)))), tt)
 
   goes-reach : length ys < 2 ^ 64 → ent 𝓤 (sem 𝓤 H A ftrue) (Reach 𝓤 H A mem run .pre to-reach)
   goes-reach gn =
-      qed W (‵ ftrue ∷ []) ∵ owned ! u64 (Is u64) (uint-makes 𝓤 H A W w64) st _ (refl, gs) $ fjoin ! $ owned ! u64 (Is u64) (uint-makes 𝓤 H A W w64) lv _ (refl, gl) $ fjoin ! $
+      qed W (‵ ftrue ∷ []) ∵ owned ! S.the-row (Is S.the-row) (LL.makes S.the-type S′.the-plain 𝓤 H A) st _ gs $ fjoin ! $ owned ! u64 (Is u64) (uint-makes 𝓤 H A W w64) lv _ (refl, gl) $ fjoin ! $
       owned ! usize (Is usize) (uint-makes 𝓤 H A W w64) (length ys) _ (refl, gn) $ fjoin ! $ nothing ! $ join ! $ frame ! $ done !
 
   abbrev to-settled : Best → Settled 𝓤 H A mem run .Ghost
-  to-settled n = ((tt, tt, tt, (n, (lv, (st, tt))), (mach-best n ∷ [], (vint w64 lv ∷ [], (vint w64 st ∷ [], tt)))), tt)
+  to-settled n = ((tt, tt, tt, (n, (lv, (st, tt))), (mach-best n ∷ [], (vint w64 lv ∷ [], (mach-set st ∷ [], tt)))), tt)
 
   goes-settled : (n : Best) → Is B.the-row n (mach-best n ∷ []) → ent 𝓤 (sem 𝓤 H A ftrue) (Settled 𝓤 H A mem run .pre (to-settled n))
   goes-settled n isn =
-      qed W (‵ ftrue ∷ []) ∵ owned ! u64 (Is u64) (uint-makes 𝓤 H A W w64) st _ (refl, gs) $ fjoin ! $ owned ! u64 (Is u64) (uint-makes 𝓤 H A W w64) lv _ (refl, gl) $ fjoin ! $
+      qed W (‵ ftrue ∷ []) ∵ owned ! S.the-row (Is S.the-row) (LL.makes S.the-type S′.the-plain 𝓤 H A) st _ gs $ fjoin ! $ owned ! u64 (Is u64) (uint-makes 𝓤 H A W w64) lv _ (refl, gl) $ fjoin ! $
       owned ! B.the-row (Is B.the-row) (EL.makes B.the-type B′.the-plain 𝓤 H A) n _ isn $ fjoin ! $ nothing ! $ join ! $ frame ! $ done !
 
   -- where the loop is: the index, the best so far, and what is known of them
@@ -238,7 +244,7 @@ module _ {M : Type 1} (𝓤 : URA M) (H : Heap 𝓤) (A : Atoms 𝓤) (W : Given
       Λ = 𝓣 .Λ
 
       abbrev En : Env 𝓤 H
-      En = (R′.mir, l₀) ∷ (slice, l₁) ∷ (word, l₂) ∷ (word, l₃) ∷ (word, l₄) ∷ (B′.mir, l₅) ∷ (word, l₆) ∷ (word, l₇) ∷ (tyBool, l₈) ∷ (word, l₉) ∷ (tyPtr, l₁₀) ∷ (T′.mir, l₁₁) ∷ []
+      En = (R′.mir, l₀) ∷ (slice, l₁) ∷ (word, l₂) ∷ (S′.mir, l₃) ∷ (word, l₄) ∷ (B′.mir, l₅) ∷ (word, l₆) ∷ (word, l₇) ∷ (tyBool, l₈) ∷ (word, l₉) ∷ (tyPtr, l₁₀) ∷ (T′.mir, l₁₁) ∷ []
 
       -- [_11 to _7, with nothing in them], before other items
       abbrev Spare : List (Item 𝓤) → List (Item 𝓤)
@@ -246,7 +252,7 @@ module _ {M : Type 1} (𝓤 : URA M) (H : Heap 𝓤) (A : Atoms 𝓤) (W : Given
 
       -- [set; level; run; room for _0], before other items
       abbrev Given-to : List (Item 𝓤) → List (Item 𝓤)
-      Given-to is = holds word l₃ (vint w64 st) (holds word l₂ (vint w64 lv) (holds slice l₁ (sliceVal (b, o) (length ys)) (empty R′.mir l₀ is)))
+      Given-to is = holds S′.mir l₃ (mach-set st) (holds word l₂ (vint w64 lv) (holds slice l₁ (sliceVal (b, o) (length ys)) (empty R′.mir l₀ is)))
 
       module _ (n : ℕ) (looked : n ≡ searched (length ys) lv st) where
         -- [what run owns; the lifetime's token; _11 to _7; i; best; count; set; level; run; room for _0]
@@ -264,13 +270,13 @@ module _ {M : Type 1} (𝓤 : URA M) (H : Heap 𝓤) (A : Atoms 𝓤) (W : Given
             (λ less. skips ! $ exec ! C Λ En more (anyQ (Turned t)) $
             assigns ! (bin ! (load ! (from ! (stop !)) (look ! 12 refl)) (lit ! tt) (scaled less)) (from ! (stop !)) (init ! 6 refl (tt, scaled less)) $
             assigns ! (bin ! (load ! (from ! (fld ! refl (stop !))) (look-in ! 22 (sub ! 0 refl (whole !)))) (load ! (from ! (stop !)) (look ! 6 refl)) tt) (from ! (stop !)) (init ! 4 refl (tt, tt)) $
-            rewrite ! 4 (λ (p : ℕ). ‵ (fat fullShare tyPtr l₁₀ 0 (vptr b p))) (sym (place-is 24 o (t .i))) refl $
+            rewrite ! 4 (λ (p : ℕ). ‵ (fat fullShare tyPtr l₁₀ 0 (vptr b p))) (sym (place-is 40 o (t .i))) refl $
             fsplit ! $ move ! (1 ∷ []) $ fsplit ! $ move ! (1 ∷ 3 ∷ []) $
             looks-slice ! tt T.the-row (Is T.the-row) (shows 𝓤 H A T.the-row) (LL.vals T.the-type T′.the-laws) (LL.tells T.the-type T′.the-laws) ((LL.copy T.the-type T′.the-copy) 𝓤 H A W) ys b o (λ q′. elem-out ! T.the-row (Is T.the-row) (shows 𝓤 H A T.the-row) (LL.vals T.the-type T′.the-laws) (LL.tells T.the-type T′.the-laws) q′ ys (t .i) zero b o (inside less) (λ g.
             -- [run[i]; what it owns; the others; what shuts; the fractured borrow; res; run's fact; _11; …]: the cell is held at the type as the machine sees it, with no name, and is read at the struct's own
-            use1 W (‵ (fat q′ T′.mir b (place 24 o (t .i)) (mach (elem t)))) (W .laws .raw-at q′ T′.mir b (place 24 o (t .i)) (mach (elem t))) $
+            use1 W (‵ (fat q′ T′.mir b (place 40 o (t .i)) (mach (elem t)))) (W .laws .raw-at q′ T′.mir b (place 40 o (t .i)) (mach (elem t))) $
             assigns ! (of-opd ! (load ! (from ! (hop ! (look ! 9 refl) (stop !))) (look ! 0 refl))) (from ! (stop !)) (init ! 7 refl (LL.lawful T.the-type T′.the-laws 𝓤 H A W .typed (elem t) (mach (elem t) ∷ []) g .0)) $
-            use1 W (‵ (cellAt q′ (T.the-row .mir) (mach (elem t) ∷ []) b (place 24 o (t .i)))) (W .laws .at-raw q′ T′.mir b (place 24 o (t .i)) (mach (elem t))) $
+            use1 W (‵ (cellAt q′ (T.the-row .mir) (mach (elem t) ∷ []) b (place 40 o (t .i)))) (W .laws .at-raw q′ T′.mir b (place 40 o (t .i)) (mach (elem t))) $
             elem-back ! T.the-row q′ ys (t .i) zero (mach (elem t) ∷ []) b o (inside less) $ shuts-slice ! tt T.the-row q′ ys b o $
             move ! (2 ∷ 1 ∷ []) $ fjoin ! $ move ! (2 ∷ 0 ∷ []) $ fjoin ! $
             -- [what run owns; the token; _11; …]: the call
@@ -303,8 +309,8 @@ module _ {M : Type 1} (𝓤 : URA M) (H : Heap 𝓤) (A : Atoms 𝓤) (W : Given
             inside : T (ltb (t .i) n) → t .i < length ys
             inside less = omega (arith, few n looked, below less)
 
-            scaled : T (ltb (t .i) n) → Fits w64 (t .i * 24)
-            scaled less = scaled-fits (t .i) (length ys) 24 (inside less) (gn .1)
+            scaled : T (ltb (t .i) n) → Fits w64 (t .i * 40)
+            scaled less = scaled-fits (t .i) (length ys) 40 (inside less) (gn .1)
 
             up : T (ltb (t .i) n) → t .i + 1 < 2 ^ 64
             up less = lt-of-le-of-lt (add-one-le (inside less)) (gn .0)
@@ -313,7 +319,7 @@ module _ {M : Type 1} (𝓤 : URA M) (H : Heap 𝓤) (A : Atoms 𝓤) (W : Given
             passed over = omega (arith, looked, nltb→le (t .i) n over)
 
       -- the body: how many records are looked at, then the loop, from no record passed and the best so far none
-      body-runs : Sq W (Spare (empty word l₆ (empty B′.mir l₅ (empty word l₄ (Given-to ((‵ (flft κ q) ⊛ ‵ ftrue) ∷ ‵ (owns (ShrSlice (named 0) κ T.the-row ∷ u64 ∷ u64 ∷ []) x at) ∷ [])))))) (runs C Λ En body.t-1 (atRet En Post))
+      body-runs : Sq W (Spare (empty word l₆ (empty B′.mir l₅ (empty word l₄ (Given-to ((‵ (flft κ q) ⊛ ‵ ftrue) ∷ ‵ (owns (ShrSlice (named 0) κ T.the-row ∷ u64 ∷ S.the-row ∷ []) x at) ∷ [])))))) (runs C Λ En body.t-1 (atRet En Post))
       body-runs =
           assigns ! (of-opd ! (load ! (from ! (fld ! refl (stop !))) (look-in ! 20 (sub ! 1 refl (whole !))))) (from ! (stop !)) (init ! 8 refl (tt, record { fits = gn .0 })) $
           nothing ! $ use1 W (raw (Reach 𝓤 H A mem run .pre to-reach)) (goes-reach (gn .0)) $
@@ -330,21 +336,21 @@ module _ {M : Type 1} (𝓤 : URA M) (H : Heap 𝓤) (A : Atoms 𝓤) (W : Given
           first ! $ blocks ! $ loops ! 𝓣 (Nearer r e) (Nearer-wf r e) (Inv r e) (turns r e)
           (record { i = 0; best = Nothing; is = made; left = left-start ys lv st })))))
 
-    walk : ent 𝓤 (onEntry 𝓤 H A fn.signature (κ, tt) (q, tt) x at) (WpFn 𝓤 H (𝓣 .C) (𝓣 .Λ) code.function (sliceVal (b, o) (length ys) ∷ vint w64 lv ∷ vint w64 st ∷ []) Post)
+    walk : ent 𝓤 (onEntry 𝓤 H A fn.signature (κ, tt) (q, tt) x at) (WpFn 𝓤 H (𝓣 .C) (𝓣 .Λ) code.function (sliceVal (b, o) (length ys) ∷ vint w64 lv ∷ mach-set st ∷ []) Post)
     walk =
-        qed W ((‵ (flft κ q) ⊛ ‵ ftrue) ∷ ‵ (owns (ShrSlice (named 0) κ T.the-row ∷ u64 ∷ u64 ∷ []) x at) ∷ []) ∵ enter ! (𝓣 .C) (𝓣 .Λ) code.function (sliceVal (b, o) (length ys) ∷ vint w64 lv ∷ vint w64 st ∷ []) _ $
+        qed W ((‵ (flft κ q) ⊛ ‵ ftrue) ∷ ‵ (owns (ShrSlice (named 0) κ T.the-row ∷ u64 ∷ S.the-row ∷ []) x at) ∷ []) ∵ enter ! (𝓣 .C) (𝓣 .Λ) code.function (sliceVal (b, o) (length ys) ∷ vint w64 lv ∷ mach-set st ∷ []) _ $
         alloc1 ! (λ l₀. alloc1 ! (λ l₁. alloc1 ! (λ l₂. alloc1 ! (λ l₃. alloc1 ! (λ l₄. alloc1 ! (λ l₅. alloc1 ! (λ l₆. alloc1 ! (λ l₇. alloc1 ! (λ l₈. alloc1 ! (λ l₉. alloc1 ! (λ l₁₀. alloc1 ! (λ l₁₁. alloc0 ! $ params1 ! $
-        pass1 ! (init ! 20 refl (tt, (tt, (record { fits = gn .0 }, tt)))) $ pass1 ! (init ! 18 refl (tt, record { fits = gl })) $ pass1 ! (init ! 16 refl (tt, record { fits = gs })) $ pass0 ! $
+        pass1 ! (init ! 20 refl (tt, (tt, (record { fits = gn .0 }, tt)))) $ pass1 ! (init ! 18 refl (tt, record { fits = gl })) $ pass1 ! (init ! 16 refl (LL.lawful S.the-type S′.the-laws 𝓤 H A W .typed st (mach-set st ∷ []) gs .0)) $ pass0 ! $
         body-runs l₀ l₁ l₂ l₃ l₄ l₅ l₆ l₇ l₈ l₉ l₁₀ l₁₁))))))))))))
 
 module _ {M : Type 1} (𝓤 : URA M) (H : Heap 𝓤) (A : Atoms 𝓤) (W : Given 𝓤 H A) (mem : Memory → SProp 𝓤) (run : Routine → Fun 𝓤) (𝓣 : Tables 𝓤 H) (known-lower : Triple 𝓤 (𝓣 .C #run·lower) (Lower 𝓤 H A mem run)) (known-reach : Triple 𝓤 (𝓣 .C #run·reach) (Reach 𝓤 H A mem run)) (known-settled : Triple 𝓤 (𝓣 .C #run·settled) (Settled 𝓤 H A mem run)) where
   walks : Walks 𝓤 H A fn.ended stayed (WpFn 𝓤 H (𝓣 .C) (𝓣 .Λ) code.function) (fn.clauses 𝓤 H A mem run)
-  walks = walked 𝓤 H A fn.ended stayed (fn.clauses 𝓤 H A mem run) (WpFn 𝓤 H (𝓣 .C) (𝓣 .Λ) code.function) (λ κs. (slice-vals, (uint-vals w64, (uint-vals w64, tt)))) (λ κs. (shr-slice-tells (named 0) (κs .0) T.the-row, (uint-tells w64, (uint-tells w64, tt))))
+  walks = walked 𝓤 H A fn.ended stayed (fn.clauses 𝓤 H A mem run) (WpFn 𝓤 H (𝓣 .C) (𝓣 .Λ) code.function) (λ κs. (slice-vals, (uint-vals w64, (LL.vals S.the-type S′.the-laws, tt)))) (λ κs. (shr-slice-tells (named 0) (κs .0) T.the-row, (uint-tells w64, (LL.tells S.the-type S′.the-laws, tt))))
       (λ κs qs bounds a g are. via 𝓤 _ (fst∗ 𝓤 _ (emp 𝓤))
-      (walk 𝓤 H A W mem run (κs .0) (qs .0) (a .0 .ptr .0) (a .0 .ptr .1) (a .0 .name) (a .0 .now) (a .1 .0) (a .1 .1 .0) (are .1 .0 .1) (are .1 .1 .0 .1) 𝓣 (fmOf 𝓤 H (W .laws) 𝓣) known-lower known-reach known-settled (are .0 .0 .1)))
+      (walk 𝓤 H A W mem run (κs .0) (qs .0) (a .0 .ptr .0) (a .0 .ptr .1) (a .0 .name) (a .0 .now) (a .1 .0) (a .1 .1 .0) (are .1 .0 .1) (are .1 .1 .0) 𝓣 (fmOf 𝓤 H (W .laws) 𝓣) known-lower known-reach known-settled (are .0 .0 .1)))
 
   meets : Meets 𝓤 H A fn.signature (WpFn 𝓤 H (𝓣 .C) (𝓣 .Λ) code.function) (fn.spec 𝓤 H A mem run)
-  meets = walk-meets 𝓤 H A fn.ended stayed W (goes-none-slice 𝓤 H A W 1 (0 ∷ []) tt (plain (λ _. T.the-row)) yes, (goes-none 𝓤 H A W 1 (λ _. u64) yes (λ κs x f. refl), (goes-none 𝓤 H A W 1 (λ _. u64) yes (λ κs x f. refl), tt))) (fn.clauses 𝓤 H A mem run) (WpFn 𝓤 H (𝓣 .C) (𝓣 .Λ) code.function) (WpFn-mono 𝓤 H (W .laws) 𝓣 code.function) walks
+  meets = walk-meets 𝓤 H A fn.ended stayed W (goes-none-slice 𝓤 H A W 1 (0 ∷ []) tt (plain (λ _. T.the-row)) yes, (goes-none 𝓤 H A W 1 (λ _. u64) yes (λ κs x f. refl), (goes-none 𝓤 H A W 1 (λ _. S.the-row) yes (λ κs x f. refl), tt))) (fn.clauses 𝓤 H A mem run) (WpFn 𝓤 H (𝓣 .C) (𝓣 .Λ) code.function) (WpFn-mono 𝓤 H (W .laws) 𝓣 code.function) walks
 
 pub lowest-spec : {M : Type 1} → stated.statement M
 unfolding code.routine tablesOf

@@ -1,9 +1,9 @@
--- `store::write_mapping` meets its contract: two numbers and a set are stored, each in its own run. Assumes nothing.
+-- `store::write_mapping` meets its contract: two numbers and three words are stored, each in its own run. Assumes nothing.
 use mathlib.Core.Path.{refl}
 use lib.ListN.{length-set}
 use native.Mathlib.Omega.{arith}
+use Rattle.store.specs.Within.{withNumbers, withWords}
 use borrow.Author.Needs.{needs}
-use Rattle.store.specs.Within.{withNumbers, withWord}
 use Rattle.store.proofs.write_mapping.Statement.{statement}
 use Rattle.store.proofs.write_mapping.Tie as tie
 
@@ -28,6 +28,24 @@ mul-words c = search needs
 slice-write-words : tie.Need-slice-write-words
 slice-write-words c = search needs
 
+add-words-2 : tie.Need-add-words-2
+add-words-2 c = search needs
+
+mul-words-2 : tie.Need-mul-words-2
+mul-words-2 c = search needs
+
+slice-write-words-2 : tie.Need-slice-write-words-2
+slice-write-words-2 c = simp length-set (omega arith)
+
+add-words-3 : tie.Need-add-words-3
+add-words-3 c = search needs
+
+mul-words-3 : tie.Need-mul-words-3
+mul-words-3 c = search needs
+
+slice-write-words-3 : tie.Need-slice-write-words-3
+slice-write-words-3 c = simp length-set (omega arith)
+
 same-length : tie.Need-same-length
 same-length c = search needs
 
@@ -35,7 +53,7 @@ same-length-2 : tie.Need-same-length-2
 same-length-2 c = search needs
 
 returns : tie.Need-returns
-unfolding withNumbers withWord
+unfolding withNumbers withWords
 returns c = (refl, refl)
 
 pub write-mapping-spec : {M : Type 1} → statement M
@@ -49,6 +67,12 @@ write-mapping-spec =
     add-words
     mul-words
     slice-write-words
+    add-words-2
+    mul-words-2
+    slice-write-words-2
+    add-words-3
+    mul-words-3
+    slice-write-words-3
     same-length
     same-length-2
     returns)

@@ -1,4 +1,4 @@
--- `damage::all_even` meets its contract: after i turns `ok` tells of the first i words. Assumes nothing.
+-- `damage::all_known` meets its contract: after i turns `ok` tells of the first i words. Assumes nothing.
 use Prim.Native.Nat.{ℕ, _≤_, _<_, _-_, _%_}
 use mathlib.Core.Path.{_≡_, refl, sym, _∙_}
 use native.Mathlib.Numerals.{add-one}
@@ -8,11 +8,11 @@ use lib.ListN.{length, take, getD}
 use lib.Seq.{take-suc}
 use Rattle.search.specs.Search.{all}
 use Rattle.search.proofs.Laws.{all-snoc}
-use Rattle.damage.proofs.all_even.Statement.{statement}
-use Rattle.damage.proofs.all_even.Tie as tie
+use Rattle.damage.proofs.all_known.Statement.{statement}
+use Rattle.damage.proofs.all_known.Tie as tie
 
 abbrev Inv-loop : tie.InvT-loop
-Inv-loop run count ok₀ i₀ ok i = (i ≤ count) × (ok ≡ all (λ (x : ℕ). eqb (x % 2) 0) (take i run))
+Inv-loop run count ok₀ i₀ ok i = (i ≤ count) × (ok ≡ all (λ (x : ℕ). eqb (x % 256) 0) (take i run))
 
 abbrev μ-loop : tie.MeasureT-loop
 μ-loop run count ok₀ i₀ ok i = count - i
@@ -38,7 +38,7 @@ loop-again c =
     let l = c .before .before in
     let a = l .before .args in
     let h : l .loop .i < length (a .run .now) = omega arith in
-    (omega arith, rw (l .loop .inv .1, add-one, take-suc (a .run .now) (l .loop .i) 0 h) (sym (all-snoc (λ (x : ℕ). eqb (x % 2) 0) (take (l .loop .i) (a .run .now)) (getD (a .run .now) (l .loop .i) 0))))
+    (omega arith, rw (l .loop .inv .1, add-one, take-suc (a .run .now) (l .loop .i) 0 h) (sym (all-snoc (λ (x : ℕ). eqb (x % 256) 0) (take (l .loop .i) (a .run .now)) (getD (a .run .now) (l .loop .i) 0))))
 
 returns : tie.Need-returns Inv-loop μ-loop
 returns c =
@@ -46,8 +46,8 @@ returns c =
     let e : l .loop .i ≡ l .before .args .count = omega arith in
     l .loop .inv .1 ∙ rw e
 
-pub all-even-spec : {M : Type 1} → statement M
-all-even-spec =
+pub all-known-spec : {M : Type 1} → statement M
+all-known-spec =
     tie.close
     (tie.spec
     Inv-loop
