@@ -25,10 +25,18 @@ static void print_place(size_t place, const char *of)
     printf("a label goes wrong at byte %zu of %s, counted from 1: by that byte, by a dash in front or by its length", place + 1, of);
 }
 
+/* A refusal's number, and beside 9 what it can be for. */
+static void print_number(uint8_t number)
+{
+    printf("refused %d", number);
+    if (number == BQ_BAD_LEVEL_OR_CATEGORY)
+        printf(": a level is not 0 to 255, a category not 1 to %d, or a bit of the set is no category", BQ_HIGHEST_CATEGORY);
+}
+
 /* A refusal, and beside 3 the place, which no other number has. `of` is what the place is counted in. */
 static void print_refused(uint8_t number, size_t place, const char *of)
 {
-    printf("refused %d", number);
+    print_number(number);
     if (number == BQ_BAD_LABEL) {
         printf(": ");
         print_place(place, of);
@@ -40,8 +48,11 @@ static void print_refused(uint8_t number, size_t place, const char *of)
  * that have no label to refuse. */
 static bool refused(const char *call, bool was, uint8_t number)
 {
-    if (was)
-        printf("%s: refused %d\n", call, number);
+    if (was) {
+        printf("%s: ", call);
+        print_number(number);
+        printf("\n");
+    }
     return was;
 }
 
@@ -152,6 +163,18 @@ static void revoke(const char *subject)
         printf("%zu rules\n", r.count);
 }
 
+/* The set with one category more, and whether it has a category: n is 1 to 184 wherever they are called here. */
+static bq_set with(bq_set set, int n)
+{
+    set.word[BQ_CATEGORY_WORD(n)] |= BQ_CATEGORY_BIT(n);
+    return set;
+}
+
+static bool is_in(bq_set set, int n)
+{
+    return (set.word[BQ_CATEGORY_WORD(n)] & BQ_CATEGORY_BIT(n)) != 0;
+}
+
 static void show_mapping(const char *label)
 {
     bq_mapped m = bq_by_label(TABLES, TEXT(label));
@@ -160,11 +183,16 @@ static void show_mapping(const char *label)
         print_refused(m.number, m.place, "that label");
     else if (m.kind == BQ_UNMAPPED)
         printf("none\n");
-    else
-        printf("level %d, %u categories\n", m.level, m.count);
+    else {
+        printf("level %d, %u categories:", m.level, m.count);
+        for (int n = 1; n <= BQ_HIGHEST_CATEGORY; n++)
+            if (is_in(m.set, n))
+                printf(" %d", n);
+        printf("\n");
+    }
 }
 
-static void show_label_of(uint64_t level, uint64_t set)
+static void show_label_of(uint64_t level, bq_set set)
 {
     bq_lowest found = bq_by_level(TABLES, level, set);
     if (refused("mapping by level and set", found.kind == BQ_SEARCH_REFUSED, found.number))
@@ -178,7 +206,7 @@ static void show_label_of(uint64_t level, uint64_t set)
         printf("level %u with these: label %zu, %.*s\n", (unsigned)level, found.label, (int)part.length, (const char *)labels + part.start);
 }
 
-static void show_lowest(const bq_record *run, size_t records, uint64_t level, uint64_t set)
+static void show_lowest(const bq_record *run, size_t records, uint64_t level, bq_set set)
 {
     bq_lowest found = bq_lowest_in_run(run, records, level, set);
     if (found.kind == BQ_NO_LABEL)
@@ -320,9 +348,21 @@ int main(int argc, char **argv)
     done("mapping 'Archive 9 1 63'", bq_mapping(TABLES, TEXT("Archive 9 1 63")));
     show_mapping("Archive");
     show_mapping("Archive/2026");
-    show_label_of(9, BQ_CATEGORY(1) | BQ_CATEGORY(63));
-    bq_record run[] = {{7, 9, BQ_CATEGORY(1)}, {5, 9, BQ_CATEGORY(1)}, {3, 8, BQ_CATEGORY(1)}};
-    show_lowest(run, sizeof run / sizeof *run, 9, BQ_CATEGORY(1));
+    bq_set none = {{0, 0, 0}}, one = with(none, 1);
+    show_label_of(9, with(one, 63));
+    bq_record run[] = {{7, 9, one}, {5, 9, one}, {3, 8, one}};
+    show_lowest(run, sizeof run / sizeof *run, 9, one);
+
+    done("mapping 'Desk 9 100 184'", bq_mapping(TABLES, TEXT("Desk 9 100 184")));
+    done("mapping 'Desk 9 100 185'", bq_mapping(TABLES, TEXT("Desk 9 100 185"))); /* BQ_BAD_LEVEL_OR_CATEGORY, as twice more below */
+    show_mapping("Desk");
+    bq_set desk = with(with(none, 100), 184), stray = desk;
+    show_label_of(9, desk);
+    bq_record desk_run[] = {{8, 9, desk}, {6, 9, desk}, {2, 9, with(none, 100)}};
+    show_lowest(desk_run, sizeof desk_run / sizeof *desk_run, 9, desk);
+    stray.word[2] |= 1; /* the lowest bit of the last word is no category */
+    show_label_of(9, stray);
+    show_lowest(desk_run, sizeof desk_run / sizeof *desk_run, 9, stray);
     list();
 
     words[1] = 257; /* a damaged state: every call refuses it with BQ_DAMAGED, and leaves it as it is */

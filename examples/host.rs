@@ -10,7 +10,7 @@
 mod balqirven {
     pub const LABELS: usize = 16384;
     pub const ENTRIES: usize = 840;
-    pub const WORDS: usize = 36;
+    pub const WORDS: usize = 100;
     pub const LINE: usize = 600;
 
     /// The most bytes of a label, and of a listed rule: two labels, two spaces, six letters and a newline.
@@ -23,9 +23,48 @@ mod balqirven {
     pub const FIXED_LABEL: usize = 23;
     pub const LONGEST_FIXED_LINE: usize = 2 * FIXED_LABEL + 2 + 5 + 1;
 
-    /// The category n, 1 to 63, as the bit that it has in a set.
-    pub fn category(n: u32) -> u64 {
-        1 << (64 - n)
+    /// The most bytes of a mapping write; every other write and a line have at most LINE.
+    pub const LONGEST_MAPPING: usize = 1000;
+
+    /// Categories are 1 to this.
+    pub const HIGHEST_CATEGORY: u32 = 184;
+
+    /// A set of categories: category 1 is the top bit of the first word, 65 of the second, 129 of the third. The eight lowest bits of the third are no
+    /// categories; a set that is sought with one of them is refused.
+    #[repr(C)]
+    #[derive(Clone, Copy, Debug, PartialEq, Eq)]
+    pub struct Set {
+        pub word: [u64; 3],
+    }
+
+    impl Set {
+        pub fn empty() -> Set {
+            Set { word: [0; 3] }
+        }
+
+        /// The word and the bit of a category. Another number is an error of the host's, and it panics.
+        fn place(category: u32) -> (usize, u64) {
+            assert!((1..=HIGHEST_CATEGORY).contains(&category), "{category} is no category");
+            let i = category as usize - 1;
+            (i / 64, 1 << (63 - i % 64))
+        }
+
+        /// The set with this category too.
+        pub fn with(mut self, category: u32) -> Set {
+            let (word, bit) = Set::place(category);
+            self.word[word] |= bit;
+            self
+        }
+
+        pub fn has(&self, category: u32) -> bool {
+            let (word, bit) = Set::place(category);
+            self.word[word] & bit != 0
+        }
+
+        /// Its categories, lowest first.
+        pub fn members(self) -> impl Iterator<Item = u32> {
+            (1..=HIGHEST_CATEGORY).filter(move |&category| self.has(category))
+        }
     }
 
     /// `place` belongs to the first refused line, and says something where `reason` is 3.
@@ -53,7 +92,7 @@ mod balqirven {
     pub struct Record {
         pub label: u64,
         pub level: u64,
-        pub set: u64,
+        pub set: Set,
     }
 
     #[repr(C)]
@@ -99,7 +138,7 @@ mod balqirven {
         number: u8,
         level: u8,
         count: u32,
-        set: u64,
+        set: Set,
         place: usize,
     }
 
@@ -149,8 +188,8 @@ mod balqirven {
         fn bq_mapping(l: *mut u8, ln: usize, e: *mut u8, en: usize, w: *mut u64, wn: usize, text: Bytes, text_n: usize) -> Written;
         fn bq_revoke(l: Bytes, ln: usize, e: *mut u8, en: usize, w: *const u64, wn: usize, label: Bytes, label_n: usize) -> Counted;
         fn bq_by_label(l: Bytes, ln: usize, e: Bytes, en: usize, w: *const u64, wn: usize, label: Bytes, label_n: usize) -> Mapped;
-        fn bq_by_level(l: Bytes, ln: usize, e: Bytes, en: usize, w: *const u64, wn: usize, level: u64, set: u64) -> Lowest;
-        fn bq_lowest_in_run(records: *const Record, n: usize, level: u64, set: u64) -> Lowest;
+        fn bq_by_level(l: Bytes, ln: usize, e: Bytes, en: usize, w: *const u64, wn: usize, level: u64, set: Set) -> Lowest;
+        fn bq_lowest_in_run(records: *const Record, n: usize, level: u64, set: Set) -> Lowest;
         fn bq_question(l: Bytes, ln: usize, e: Bytes, en: usize, w: *const u64, wn: usize, subject: Bytes, subject_n: usize, object: Bytes, object_n: usize, request: Bytes, request_n: usize, capable: bool) -> Decision;
         fn bq_list_rule(l: Bytes, ln: usize, e: Bytes, en: usize, w: *const u64, wn: usize, k: usize, out: *mut u8, out_n: usize) -> Length;
         fn bq_label(l: Bytes, ln: usize, e: Bytes, en: usize, w: *const u64, wn: usize, k: usize) -> Part;
@@ -203,7 +242,7 @@ mod balqirven {
     /// The mapping of a label.
     pub struct Mapping {
         pub level: u8,
-        pub set: u64,
+        pub set: Set,
         pub count: u32,
     }
 
@@ -276,7 +315,7 @@ mod balqirven {
             }
         }
 
-        pub fn by_level(&self, level: u64, set: u64) -> Result<Option<usize>, Refused> {
+        pub fn by_level(&self, level: u64, set: Set) -> Result<Option<usize>, Refused> {
             found(call!(bq_by_level, read self, level, set))
         }
 
@@ -303,7 +342,7 @@ mod balqirven {
     }
 
     /// The lowest label number of a run's records that have this level and this set.
-    pub fn lowest_in_run(run: &[Record], level: u64, set: u64) -> Result<Option<usize>, Refused> {
+    pub fn lowest_in_run(run: &[Record], level: u64, set: Set) -> Result<Option<usize>, Refused> {
         found(unsafe { bq_lowest_in_run(run.as_ptr(), run.len(), level, set) })
     }
 
@@ -342,8 +381,8 @@ mod balqirven {
     }
 }
 
-use balqirven::{category, line_to_record, lowest_in_run, record_to_line, Answer, Load, Record, Refused, Tables};
-use balqirven::{FIXED_PLACE, FIXED_RECORD, LONGEST_FIXED_LINE, LONGEST_RULE};
+use balqirven::{line_to_record, lowest_in_run, record_to_line, Answer, Load, Record, Refused, Set, Tables};
+use balqirven::{FIXED_PLACE, FIXED_RECORD, HIGHEST_CATEGORY, LONGEST_FIXED_LINE, LONGEST_RULE};
 use std::fs::File;
 use std::io::Read;
 
@@ -353,11 +392,21 @@ fn place_in_words(place: usize, of: &str) -> String {
     format!("a label goes wrong at byte {} of {of}, counted from 1: by that byte, by a dash in front or by its length", place + 1)
 }
 
+/// A refusal's number, and beside 9 what it can be for.
+fn number_in_words(number: u8) -> String {
+    match number {
+        Refused::BAD_LEVEL_OR_CATEGORY => {
+            format!("refused 9: a level is not 0 to 255, a category not 1 to {HIGHEST_CATEGORY}, or a bit of the set is no category")
+        }
+        number => format!("refused {number}"),
+    }
+}
+
 /// A refusal, and beside 3 the place, which no other number has. `of` is what the place is counted in.
 fn refused(refusal: Refused, of: &str) -> String {
     match refusal.number {
         Refused::BAD_LABEL => format!("refused 3: {}", place_in_words(refusal.place, of)),
-        number => format!("refused {number}"),
+        number => number_in_words(number),
     }
 }
 
@@ -367,7 +416,7 @@ fn accepted<T>(call: &str, answer: Result<T, Refused>) -> Option<T> {
     match answer {
         Ok(value) => Some(value),
         Err(refusal) => {
-            println!("{call}: refused {}", refusal.number);
+            println!("{call}: {}", number_in_words(refusal.number));
             None
         }
     }
@@ -439,14 +488,17 @@ fn revoke(t: &mut Tables, subject: &str) {
 
 fn show_mapping(t: &Tables, label: &str) {
     let answer = match t.by_label(label.as_bytes()) {
-        Ok(Some(m)) => format!("level {}, {} categories", m.level, m.count),
+        Ok(Some(m)) => {
+            let categories: String = m.set.members().map(|category| format!(" {category}")).collect();
+            format!("level {}, {} categories:{categories}", m.level, m.count)
+        }
         Ok(None) => "none".to_string(),
         Err(refusal) => refused(refusal, "that label"),
     };
     println!("mapping of '{label}': {answer}");
 }
 
-fn show_label_of(t: &Tables, level: u64, set: u64) {
+fn show_label_of(t: &Tables, level: u64, set: Set) {
     match accepted("mapping by level and set", t.by_level(level, set)) {
         Some(Some(k)) => {
             if let Some(label) = accepted("label by number", t.label(k)) {
@@ -458,7 +510,7 @@ fn show_label_of(t: &Tables, level: u64, set: u64) {
     }
 }
 
-fn show_lowest(run: &[Record], level: u64, set: u64) {
+fn show_lowest(run: &[Record], level: u64, set: Set) {
     match accepted("search of a run", lowest_in_run(run, level, set)) {
         Some(Some(k)) => println!("lowest of the run: label {k}"),
         Some(None) => println!("lowest of the run: none"),
@@ -607,9 +659,22 @@ fn main() {
     done("mapping 'Archive 9 1 63'", t.mapping(b"Archive 9 1 63"));
     show_mapping(t, "Archive");
     show_mapping(t, "Archive/2026");
-    show_label_of(t, 9, category(1) | category(63));
-    let run = [(7, 9), (5, 9), (3, 8)].map(|(label, level)| Record { label, level, set: category(1) });
-    show_lowest(&run, 9, category(1));
+    let one = Set::empty().with(1);
+    show_label_of(t, 9, one.with(63));
+    let run = [(7, 9), (5, 9), (3, 8)].map(|(label, level)| Record { label, level, set: one });
+    show_lowest(&run, 9, one);
+
+    done("mapping 'Desk 9 100 184'", t.mapping(b"Desk 9 100 184"));
+    done("mapping 'Desk 9 100 185'", t.mapping(b"Desk 9 100 185")); // BAD_LEVEL_OR_CATEGORY, as twice more below
+    show_mapping(t, "Desk");
+    let desk = Set::empty().with(100).with(184);
+    show_label_of(t, 9, desk);
+    let desk_run = [(8, desk), (6, desk), (2, Set::empty().with(100))].map(|(label, set)| Record { label, level: 9, set });
+    show_lowest(&desk_run, 9, desk);
+    let mut stray = desk;
+    stray.word[2] |= 1; // the lowest bit of the last word is no category
+    show_label_of(t, 9, stray);
+    show_lowest(&desk_run, 9, stray);
     list(t);
 
     t.words[1] = 257; // a damaged state: every call refuses it with DAMAGED, and leaves it as it is

@@ -26,7 +26,7 @@
  *
  *    0  BQ_DAMAGED                the lent state has a part not of its full size, a count or length over its limit, a number that names
  *                                 no stored label, or an unknown mode or category bit. It comes before every other number.
- *    1  BQ_TOO_LONG               a line or a write has over 600 bytes
+ *    1  BQ_TOO_LONG               a line or a write has over 600 bytes, a mapping write over 1,000
  *    2  BQ_WRONG_FIELDS           wrong number of fields: not 3 (line), not 4 (change), under 2 (mapping), none (override list)
  *    3  BQ_BAD_LABEL              a label is not well formed
  *    4  BQ_BAD_ACCESS             an access field has a byte that is not allowed there; an access byte of an old record is neither a dash nor
@@ -35,7 +35,8 @@
  *    6  BQ_LABELS_FULL            more new labels than free label places
  *    7  BQ_RULES_FULL             256 rules are stored, and the pair has none
  *    8  BQ_BAD_REQUEST            the request is empty or has another byte than r w x a, either case
- *    9  BQ_BAD_LEVEL_OR_CATEGORY  a level is not 0 to 255 or a category not 1 to 63; in a write each is 1 to 3 digits
+ *    9  BQ_BAD_LEVEL_OR_CATEGORY  a level is not 0 to 255 or a category not 1 to 184; in a write each is 1 to 3 digits; a set that is sought
+ *                                 has a bit that is no category
  *   10  BQ_MAPPINGS_FULL          32 mappings are stored, and the label has none
  *   11  BQ_TOO_MANY_OVERRIDES     over 8 different labels in an override list
  *   12  BQ_OUTPUT_TOO_SHORT       the lent output is too short
@@ -61,13 +62,13 @@ extern "C" {
 /* The version of this interface. MINOR is raised where something is added (a call, a name, a refusal number) and an older host need not
  * change; MAJOR, with MINOR at 0 again, where a struct, a size, a parameter or what a call answers changes, so that each host has to be
  * looked at and compiled again. */
-#define BQ_VERSION_MAJOR 2
+#define BQ_VERSION_MAJOR 3
 #define BQ_VERSION_MINOR 0
 
-/* The sizes of the lent parts, in elements: bytes, bytes, 64-bit words, bytes. */
+/* The sizes of the lent parts, in elements: bytes, bytes, 64-bit words, bytes. (Version 2 had 36 words: such a state gets 0 now.) */
 #define BQ_LABELS 16384
 #define BQ_ENTRIES 840
-#define BQ_WORDS 36
+#define BQ_WORDS 100
 #define BQ_LINE 600
 
 /* The most bytes of a label; and of a rule as bq_list_rule writes it: two labels, two spaces, six letters and a newline, 519. */
@@ -81,8 +82,24 @@ extern "C" {
 #define BQ_FIXED_LABEL 23
 #define BQ_LONGEST_FIXED_LINE (2 * BQ_FIXED_LABEL + 2 + 5 + 1)
 
-/* A category n, 1 to 63, as the bit that it has in a set. */
-#define BQ_CATEGORY(n) ((uint64_t)1 << (64 - (n)))
+/* The most bytes of a mapping write: room for every category, the longest label and more. The other writes and a line have at most BQ_LINE. */
+#define BQ_LONGEST_MAPPING 1000
+
+/* A set of categories, 1 to 184: category n is in the set where bit BQ_CATEGORY_BIT(n) of word[BQ_CATEGORY_WORD(n)] is 1. Category 1 is the
+ * top bit of the first word, 64 its lowest, 65 the top bit of the second, 129 that of the third, 184 its bit 0x100. The eight bits below that,
+ * 0x01 to 0x80, are no categories: a set that is sought with one of them is refused with 9, a stored one is damage, 0, and a record of a run
+ * with one matches no set. So the bytes of the three words, each word's highest first (not as they lie in memory), are 23 that hold category 1
+ * first and highest, and one that is 0. The two macros are for n from 1 to 184 alone, and do not look; for instance
+ *
+ *     bq_set set = {{0, 0, 0}};
+ *     if (n >= 1 && n <= BQ_HIGHEST_CATEGORY) set.word[BQ_CATEGORY_WORD(n)] |= BQ_CATEGORY_BIT(n);
+ */
+#define BQ_HIGHEST_CATEGORY 184
+#define BQ_CATEGORY_WORD(n) (((n) - 1) / 64)
+#define BQ_CATEGORY_BIT(n) ((uint64_t)1 << (63 - ((n) - 1) % 64))
+typedef struct {
+    uint64_t word[3];
+} bq_set;
 
 /* The refusal numbers, as they are told above: `number` of an answer that is refused, and `reason` of a report in which a line was. */
 enum bq_refusal {
@@ -121,7 +138,8 @@ typedef struct {
 
 /* A record of a run: a label number, a level and a set, of any content. */
 typedef struct {
-    uint64_t label, level, set;
+    uint64_t label, level;
+    bq_set set;
 } bq_record;
 
 /* What a write answers. */
@@ -170,7 +188,7 @@ typedef struct {
     uint8_t number;
     uint8_t level;
     uint32_t count; /* how many categories are in the set */
-    uint64_t set;
+    bq_set set;
     size_t place;
 } bq_mapped;
 
@@ -223,7 +241,8 @@ bq_taken bq_piece(uint8_t *labels, size_t labels_len, uint8_t *entries, size_t e
 bq_finished bq_end(uint8_t *labels, size_t labels_len, uint8_t *entries, size_t entries_len, uint64_t *words, size_t words_len,
                    uint8_t *line, size_t line_len, bq_loader loader);
 
-/* ---- single writes: each is a whole buffer of at most 600 bytes; all but revoke's are fields with one or more blanks (space, tab) between */
+/* ---- single writes: each is a whole buffer of at most 600 bytes, a mapping of at most 1,000; all but revoke's are fields with one or more
+ * blanks (space, tab) between */
 
 /* Change: subject, object, modes to allow, modes to deny. The pair's new modes are (old or allow) without deny; a pair with no rule starts
  * from none and goes last. Letters are r w x a t and the dash, either case; b is refused with 4, and a stored b stays.
@@ -240,7 +259,7 @@ bq_counted bq_revoke(const uint8_t *labels, size_t labels_len, uint8_t *entries,
 bq_written bq_onlycap(uint8_t *labels, size_t labels_len, uint8_t *entries, size_t entries_len, uint64_t *words, size_t words_len,
                       const uint8_t *text, size_t text_len);
 
-/* Mapping (CIPSO): label, level, then no or more categories. Refusals: 0 1 2 3 9 6 10. */
+/* Mapping (CIPSO): label, level, then no or more categories, 1 to 184, in any order, repeats allowed. Refusals: 0 1 2 3 9 6 10. */
 bq_written bq_mapping(uint8_t *labels, size_t labels_len, uint8_t *entries, size_t entries_len, uint64_t *words, size_t words_len,
                       const uint8_t *text, size_t text_len);
 
@@ -250,17 +269,19 @@ bq_written bq_mapping(uint8_t *labels, size_t labels_len, uint8_t *entries, size
 bq_mapped bq_by_label(const uint8_t *labels, size_t labels_len, const uint8_t *entries, size_t entries_len, const uint64_t *words,
                       size_t words_len, const uint8_t *label, size_t label_len);
 
-/* The lowest-numbered label whose mapping has this level and this set. Refusals: 0; 9 for a level over 255 or the bit 1 in the set. */
+/* The lowest-numbered label whose mapping has this level and this set, all three words. Refusals: 0; 9 for a level over 255 or a bit in the set
+ * that is no category. */
 bq_lowest bq_by_level(const uint8_t *labels, size_t labels_len, const uint8_t *entries, size_t entries_len, const uint64_t *words,
-                      size_t words_len, uint64_t level, uint64_t set);
+                      size_t words_len, uint64_t level, bq_set set);
 
 /* The lowest label number of a run's records whose level and set are these. A run has any length and content and is no part of the state.
  * Refusals: 9, as bq_by_level. */
-bq_lowest bq_lowest_in_run(const bq_record *records, size_t records_len, uint64_t level, uint64_t set);
+bq_lowest bq_lowest_in_run(const bq_record *records, size_t records_len, uint64_t level, bq_set set);
 
-/* The same with each field of the records in an array of its own; there are as many records as the shortest has elements. */
+/* The same with each field of the records in an array of its own, a set as its three words one after another; there are as many records as the
+ * shortest of the three has room for. */
 bq_lowest bq_lowest_of(const uint64_t *run_labels, size_t run_labels_len, const uint64_t *run_levels, size_t run_levels_len,
-                       const uint64_t *run_sets, size_t run_sets_len, uint64_t level, uint64_t set);
+                       const uint64_t *run_set_words, size_t run_set_words_len, uint64_t level, bq_set set);
 
 /* ---- questions */
 
