@@ -217,18 +217,31 @@ static bool read_number(word w, uint64_t *number) {
     return true;
 }
 
-/* n,l,s */
-static bool read_record(word w, bq_record *record) {
-    uint64_t *fields[3] = {&record->label, &record->level, &record->set};
+/* Cuts a word into three parts with this byte between. */
+static bool read_three(word w, char between, word parts[3]) {
     const char *at = w.text, *end = w.text + w.length;
     for (int i = 0; i < 3; i++) {
-        const char *comma = memchr(at, ',', (size_t)(end - at));
-        if ((comma != NULL) != (i < 2)) return false;
-        const char *stop = comma ? comma : end;
-        if (!read_number((word){at, (size_t)(stop - at)}, fields[i])) return false;
+        const char *next = memchr(at, between, (size_t)(end - at));
+        if ((next != NULL) != (i < 2)) return false;
+        const char *stop = next ? next : end;
+        parts[i] = (word){at, (size_t)(stop - at)};
         at = stop + 1;
     }
     return true;
+}
+
+/* A:B:C */
+static bool read_set(word w, bq_set *set) {
+    word parts[3];
+    return read_three(w, ':', parts) && read_number(parts[0], &set->word[0]) && read_number(parts[1], &set->word[1]) &&
+           read_number(parts[2], &set->word[2]);
+}
+
+/* n,l,A:B:C */
+static bool read_record(word w, bq_record *record) {
+    word parts[3];
+    return read_three(w, ',', parts) && read_number(parts[0], &record->label) && read_number(parts[1], &record->level) &&
+           read_set(parts[2], &record->set);
 }
 
 static int digit_of(char c) {
@@ -333,10 +346,13 @@ static void put_finished(bq_finished f, bq_loader before) {
 }
 
 static void put_mapped(bq_mapped m) {
-    bool empty = m.level == 0 && m.set == 0 && m.count == 0;
+    bool empty = m.level == 0 && (m.set.word[0] | m.set.word[1] | m.set.word[2]) == 0 && m.count == 0;
     if (m.kind == BQ_MAPPED) {
         put_word_number("mapping", m.level);
-        put_word_number("", m.set);
+        for (int i = 0; i < 3; i++) {
+            put(i == 0 ? " " : ":");
+            put_number(m.set.word[i]);
+        }
         put_word_number("", m.count);
         if (m.number != 0) put(" stray");
     } else if (m.kind == BQ_UNMAPPED) {
@@ -389,11 +405,14 @@ static void put_length(bq_length l, text *out) {
 /* ---- calls with a little more to them */
 
 /* The run goes to bq_lowest_in_run as records, and to bq_lowest_of as three arrays. There are as many records as the shortest array has
- * elements: so in turn some of the arrays, never all, get one more element, which would match. */
+ * room for: so in turn some of the arrays, never all, get one more element, which would match. The array of set words has three for each
+ * record: so in turn it gets also the first one or two words of a set that would match, and then both the others may be longer. Another turn
+ * makes it one to three words shorter than the records want, and the last record is then none: that is compared with the run without it. */
 static bool call_run(const char *at, const char *end) {
     static unsigned turn;
-    uint64_t level, set;
-    if (!read_number(next_word(&at, end), &level) || !read_number(next_word(&at, end), &set)) return false;
+    uint64_t level;
+    bq_set set;
+    if (!read_number(next_word(&at, end), &level) || !read_set(next_word(&at, end), &set)) return false;
     size_t count = 0;
     for (const char *p = at; next_word(&p, end).length > 0;) count++;
     bq_record *records = lend(count * sizeof *records);
@@ -403,24 +422,38 @@ static bool call_run(const char *at, const char *end) {
             return false;
         }
     }
+    /* How many elements more than the records have: of labels, of levels, of set words. None of the turns has room for one more record. */
+    static const int8_t turns[][3] = {{0, 0, 0}, {1, 0, 0},  {0, 1, 0},  {1, 1, 0},  {0, 0, 3}, {1, 0, 3}, {0, 1, 3}, {1, 1, 1},
+                                      {1, 1, 2}, {0, 0, 1},  {0, 0, 2},  {5, 5, 2},  {0, 0, -1}, {0, 0, -2}, {0, 0, -3}, {1, 1, -1},
+                                      {1, 1, -2}, {1, 0, -3}};
+    const int8_t *more = turns[turn++ % (sizeof turns / sizeof *turns)];
+    bool fewer = more[2] < 0 && count > 0;
+    size_t kept = fewer ? count - 1 : count, length[3];
     uint64_t *field[3];
-    size_t length[3];
-    unsigned longer = turn++ % 7;
     for (int f = 0; f < 3; f++) {
-        length[f] = count + ((longer >> f) & 1);
+        size_t wide = f == 2 ? 3 : 1;
+        length[f] = more[f] < 0 && count == 0 ? 0 : (size_t)((int64_t)(wide * count) + more[f]);
         field[f] = lend(length[f] * sizeof *field[f]);
-        for (size_t i = 0; i < count; i++) field[f][i] = f == 0 ? records[i].label : f == 1 ? records[i].level : records[i].set;
-        if (length[f] > count) field[f][count] = f == 0 ? 0 : f == 1 ? level : set;
+        for (size_t i = 0; i < length[f]; i++) {
+            size_t k = i / wide;
+            if (k < count) {
+                field[f][i] = f == 0 ? records[k].label : f == 1 ? records[k].level : records[k].set.word[i % 3];
+            } else {
+                field[f][i] = f == 0 ? 0 : f == 1 ? level : set.word[i % 3];
+            }
+        }
     }
     bq_lowest one = bq_lowest_in_run(records, count, level, set);
+    bq_lowest alike = fewer ? bq_lowest_in_run(records, kept, level, set) : one;
     bq_lowest other = bq_lowest_of(field[0], length[0], field[1], length[1], field[2], length[2], level, set);
     put_lowest(one);
-    if (one.kind != other.kind || one.number != other.number || one.label != other.label) {
+    if (alike.kind != other.kind || alike.number != other.number || alike.label != other.label) {
         put(" against ");
         put_lowest(other);
     }
-    for (size_t i = 0; i < count; i++) {
-        if (records[i].label != field[0][i] || records[i].level != field[1][i] || records[i].set != field[2][i]) {
+    for (size_t i = 0; i < kept; i++) {
+        if (records[i].label != field[0][i] || records[i].level != field[1][i] ||
+            memcmp(records[i].set.word, field[2] + 3 * i, sizeof records[i].set.word) != 0) {
             put(" touched");
             break;
         }
@@ -557,7 +590,8 @@ static bool call(const char *at, const char *end) {
     word a = next_word(&at, end), b = next_word(&at, end), c = next_word(&at, end), d = next_word(&at, end);
     size_t given = next_word(&at, end).length ? 5 : d.length ? 4 : c.length ? 3 : b.length ? 2 : a.length ? 1 : 0;
     text t, object, request, out;
-    uint64_t number, set;
+    uint64_t number;
+    bq_set set;
     if (given == 0) {
         if (is(name, "fresh")) {
             put_written(fresh());
@@ -617,7 +651,7 @@ static bool call(const char *at, const char *end) {
         return true;
     }
     if (given == 2 && is(name, "bylevel")) {
-        if (!read_number(a, &number) || !read_number(b, &set)) return false;
+        if (!read_number(a, &number) || !read_set(b, &set)) return false;
         put_lowest(bq_by_level(TABLES, number, set));
         return true;
     }

@@ -4,7 +4,7 @@ the second implementation the outputs that go with them (NAME.out, NAME.answers)
 
   tests/make_corpus.py
 
-The order is that of 01, the scope paper; then come the old fixed records of 02, request One, how labels and pairs are found, request Two, and the places of bad bytes, request Three. What the paper says of a
+The order is that of 01, the scope paper; then come the old fixed records of 02, request One, how labels and pairs are found, request Two, the places of bad bytes, request Three, and the categories up to 184, request Four. What the paper says of a
 call stands before the call as a comment line that tests/corpus_check holds the answers to:
 
   # expect: ANSWER              the next call answers exactly this
@@ -42,7 +42,27 @@ def w(data):
 
 
 def category(n):
-    return 1 << (64 - n)
+    """A set is a number of 192 bits here, its first word the highest: category 1 is the top bit, 184 the bit 256. The eight bits below are no categories."""
+    return 1 << (192 - n)
+
+
+C62, C63 = category(62), category(63)
+ALL = sum(category(n) for n in range(1, 185))
+EVERY_BIT = (1 << 192) - 1
+
+
+def words_of(set_):
+    return [set_ >> 128, set_ >> 64 & HUGE, set_ & HUGE]
+
+
+def said(set_):
+    """A set in a call or an answer: its three words."""
+    return "%d:%d:%d" % tuple(words_of(set_))
+
+
+def mapped(level, set_, count):
+    """The answer to a look-up by label."""
+    return "mapping %d %s %d" % (level, said(set_), count)
 
 
 def place_of(label):
@@ -137,10 +157,10 @@ class Script:
         self.call("bylabel " + w(label), expect)
 
     def bylevel(self, level, set_, expect):
-        self.call("bylevel %d %d" % (level, set_), expect)
+        self.call("bylevel %d %s" % (level, said(set_)), expect)
 
     def run(self, level, set_, records, expect):
-        self.call(" ".join(["run %d %d" % (level, set_)] + ["%d,%d,%d" % r for r in records]), expect)
+        self.call(" ".join(["run %d %s" % (level, said(set_))] + ["%d,%d,%s" % (label, of, said(record)) for label, of, record in records]), expect)
 
     def ask(self, subject, object_, request, expect, capable=0):
         self.call("question %s %s %s %d" % (w(subject), w(object_), w(request), capable), expect)
@@ -166,6 +186,11 @@ class Script:
 
     def poke(self, part, at, value):
         self.call("poke %s %d %s" % (part, at, value if isinstance(value, str) else h(value) if isinstance(value, bytes) else value), "done")
+
+    def poke_set(self, k, set_):
+        """The three words of the set of mapping k."""
+        for row, word in zip((4, 36, 68), words_of(set_)):
+            self.poke("words", row + k, word)
 
     def shortened(self):
         made, here, expect, calls = [], None, None, []
@@ -269,7 +294,7 @@ def limits():
     s.list(0, b"A B ra\n")
     s.say("P12")
     s.mapping(b"Vault7 9 1 63")
-    s.bylabel(b"Vault7", "mapping 9 %d 2" % (category(1) | category(63)))
+    s.bylabel(b"Vault7", mapped(9, category(1) | category(63), 2))
 
     s.say("A 255-byte label is taken, 256 is refused 3, in every call that takes a label.")
     for length, taken in ((254, True), (255, True), (256, False)):
@@ -281,7 +306,7 @@ def limits():
         s.change(b"C " + long + b" r -", "done" if taken else "refused 3")
         s.override(b"C " + long, "done" if taken else "refused 3")
         s.mapping(long + b" 9", "done" if taken else "refused 3")
-        s.bylabel(long, "mapping 9 0 0" if taken else "refused 3")
+        s.bylabel(long, mapped(9, 0, 0) if taken else "refused 3")
         s.ask(long, b"B", b"r", "granted 6" if taken else "refused 3")
         s.ask(b"B", long, b"r", "granted 6" if taken else "refused 3")
         s.revoke(long, "revoked 2" if taken else "refused 3")
@@ -316,8 +341,11 @@ def limits():
         s.line(b" " * n + b"A B r", None if length < 601 else 1)
         s.change((b"A B r -" + b" " * 600)[:length], "done" if length < 601 else "refused 1")
         s.override((b"A" + b" " * 600)[:length], "done" if length < 601 else "refused 1")
-        s.mapping((b"A 9" + b" 1" * 299)[:length], "refused 1" if length == 601 else "done")
+        s.mapping((b"A 9" + b" 1" * 299)[:length])
         s.revoke(b"A" * length, "refused 1" if length == 601 else "refused 3")
+    s.say("A mapping write of 1,000 bytes is taken, of 1,001 refused 1.")
+    for length in (999, 1000, 1001):
+        s.mapping((b"A 9" + b" 1" * 499)[:length], "refused 1" if length == 1001 else "done")
 
     s.say("With 63 labels, a rule naming two new ones is refused 6 and neither enters.")
     s.fresh()
@@ -356,29 +384,31 @@ def limits():
     s.change(b"Other L05 r -", "refused 7")
     s.label(25, 13)
 
-    s.say("Category 0 and 64: refused 9. So is a level of 256.")
+    s.say("Category 0 and 185: refused 9. So is a level of 256.")
     s.fresh()
-    for field, taken in ((b"0", False), (b"1", True), (b"63", True), (b"64", False), (b"000", False), (b"001", True), (b"063", True), (b"064", False),
-                         (b"0001", False), (b"999", False), (b"+1", False), (b"1a", False), (b"-", False), (b"-1", False), (b"\xb2", False)):
+    for field, taken in ((b"0", False), (b"1", True), (b"63", True), (b"64", True), (b"184", True), (b"185", False), (b"000", False), (b"001", True), (b"063", True), (b"064", True),
+                         (b"0001", False), (b"0184", False), (b"999", False), (b"+1", False), (b"1a", False), (b"-", False), (b"-1", False), (b"\xb2", False)):
         s.mapping(b"V 9 " + field, "done" if taken else "refused 9")
         s.mapping(b"V 9 1 " + field, "done" if taken else "refused 9")
         s.mapping(b"V 9 " + field + b" 1", "done" if taken else "refused 9")
-    for n in range(1, 64):
+    for n in range(1, 185):
         s.mapping(b"V 9 %d" % n)
-        s.bylabel(b"V", "mapping 9 %d 1" % category(n))
-    s.say("All 63 take 181 bytes; repeats count once.")
+        s.bylabel(b"V", mapped(9, category(n), 1))
+    s.say("All 184; the first 63, as they were before; repeats count once.")
+    s.mapping(b"V 0 " + b" ".join(b"%d" % n for n in range(1, 185)))
+    s.bylabel(b"V", mapped(0, ALL, 184))
     s.mapping(b"V 0 " + b" ".join(b"%d" % n for n in range(1, 64)))
-    s.bylabel(b"V", "mapping 0 %d 63" % (HUGE - 1))
+    s.bylabel(b"V", "mapping 0 %d:0:0 63" % (HUGE - 1))
     s.mapping(b"V 0 " + b" ".join([b"7"] * 100))
-    s.bylabel(b"V", "mapping 0 %d 1" % category(7))
+    s.bylabel(b"V", mapped(0, category(7), 1))
     for field, level in ((b"0", 0), (b"000", 0), (b"9", 9), (b"009", 9), (b"254", 254), (b"255", 255), (b"256", None), (b"999", None), (b"0000", None),
                          (b"0255", None), (b"1000", None), (b"x", None), (b"-", None), (b"2 5 ", 2)):
         s.mapping(b"V " + field, "refused 9" if level is None else "done")
         if level is not None and b" " not in field:
-            s.bylabel(b"V", "mapping %d 0 0" % level)
+            s.bylabel(b"V", mapped(level, 0, 0))
             s.bylevel(level, 0, "label 5")
-    s.say("A level over 255 and the bit that names no category: refused 9, in the table and in a run.")
-    for level, set_, bad in ((255, 0, False), (256, 0, True), (HUGE, 0, True), (0, 1, True), (0, 2, False), (0, HUGE, True), (0, HUGE - 1, False), (256, 1, True)):
+    s.say("A level over 255 and a bit that names no category: refused 9, in the table and in a run.")
+    for level, set_, bad in ((255, 0, False), (256, 0, True), (HUGE, 0, True), (0, 1, True), (0, C63, False), (0, category(64), False), (0, EVERY_BIT, True), (0, ALL, False), (256, 1, True)):
         s.bylevel(level, set_, "refused 9" if bad else "none")
         s.run(level, set_, [], "refused 9" if bad else "none")
         s.run(level, set_, [(7, level, set_)], "refused 9" if bad else "label 7")
@@ -395,7 +425,7 @@ def limits():
     s.dump("32")
     s.label(40, 13)
     s.mapping(name_of(31) + b" 8 5")
-    s.bylabel(name_of(31), "mapping 8 %d 1" % category(5))
+    s.bylabel(name_of(31), mapped(8, category(5), 1))
     s.bylevel(8, category(5), "label 31")
     s.bylevel(9, 0, "label 0")
     s.say("8 different labels in an override list are taken, 9 are refused 11; repeats count once.")
@@ -683,9 +713,9 @@ def refusals():
     s.ask(b"L07", b"L06", b"w", "override 7", 1)
     s.say("mapping")
     s.dump("mapped")
-    for note, text, number in (("1 and 2", b"A" + b" " * 600, 1), ("1 and 3", b"A/ 9" + b" " * 600, 1), ("1 and 9", b"L05 9" + b" 64" * 200, 1), ("2 and 3", b"A/", 2), ("2 and 3", b"-", 2),
+    for note, text, number in (("1 and 2", b"A" + b" " * 1000, 1), ("1 and 3", b"A/ 9" + b" " * 1000, 1), ("1 and 9", b"L05 9" + b" 185" * 250, 1), ("2 and 3", b"A/", 2), ("2 and 3", b"-", 2),
                                ("2", b"", 2), ("2", b"   ", 2), ("2", b"L05", 2), ("3 and 9", b"A/ 256", 3), ("3 and 9", b"A/ 9 0", 3), ("3", b"A/ 9 1", 3), ("9 and 6", b"New1 256", 9),
-                               ("9 and 6", b"New1 9 64", 9), ("9 and 10", b"L40 256", 9), ("9 and 10", b"L40 9 1 0", 9), ("9 alone", b"L05 9 64", 9), ("9, a newline", b"L05 9\n", 9),
+                               ("9 and 6", b"New1 9 185", 9), ("9 and 10", b"L40 256", 9), ("9 and 10", b"L40 9 1 0", 9), ("9 alone", b"L05 9 185", 9), ("9, a newline", b"L05 9\n", 9),
                                ("9, a newline", b"L05 9 \n", 9), ("3, a newline", b"L05\n 9", 3), ("6 and 10", b"New1 9", 6), ("10 alone", b"L40 9", 10), ("10 alone", b"L32 9 1 63", 10)):
         s.say(note)
         s.mapping(text, "refused %d" % number)
@@ -712,7 +742,7 @@ def refusals():
         s.ask(b"A", label, b"", "refused 3")
     s.bylabel(b"Unseen", "none")
     s.bylabel(b"L20", "none")
-    s.bylabel(b"_", "mapping 9 %d 2" % (category(1) | category(63)))
+    s.bylabel(b"_", mapped(9, category(1) | category(63), 2))
     s.say("listing: 13 and 12 both, then each alone")
     for k in (5, 255, 256, 999, 1 << 32, HUGE):
         s.list(k, 13, b"")
@@ -724,21 +754,21 @@ def refusals():
         s.label(k, 13)
     s.label(29, b"L29")
     s.say("A run has any length and content. The lowest label number whose level and set both match; numbers that name no label count too.")
-    s.run(9, 2, [], "none")
-    s.run(9, 2, [(7, 9, 2), (3, 9, 2), (1, 9, 4), (0, 8, 2)], "label 3")
-    s.run(9, 2, [(HUGE, 9, 2)], "label %d" % HUGE)
-    s.run(9, 2, [(HUGE, 9, 2), (1 << 32, 9, 2), (4294967297, 9, 2)], "label %d" % (1 << 32))
-    s.run(9, 2, [(5, 265, 2), (6, 9, 3), (4, 9 + (1 << 32), 2)], "none")
-    s.run(9, 2, [(5, HUGE, HUGE)], "none")
+    s.run(9, C63, [], "none")
+    s.run(9, C63, [(7, 9, C63), (3, 9, C63), (1, 9, C62), (0, 8, C63)], "label 3")
+    s.run(9, C63, [(HUGE, 9, C63)], "label %d" % HUGE)
+    s.run(9, C63, [(HUGE, 9, C63), (1 << 32, 9, C63), (4294967297, 9, C63)], "label %d" % (1 << 32))
+    s.run(9, C63, [(5, 265, C63), (6, 9, C63 | 1), (4, 9 + (1 << 32), C63)], "none")
+    s.run(9, C63, [(5, HUGE, EVERY_BIT)], "none")
     s.run(0, 0, [(0, 0, 0)], "label 0")
-    s.run(255, HUGE - 1, [(64, 255, HUGE - 1), (63, 255, HUGE - 1)], "label 63")
-    s.run(9, 2, [(1000 - k, 9, 2 if k % 3 else 4) for k in range(600)], "label 401")
-    s.run(256, 2, [(5, 256, 2)], "refused 9")
-    s.run(9, 3, [(5, 9, 3)], "refused 9")
+    s.run(255, ALL, [(64, 255, ALL), (63, 255, ALL)], "label 63")
+    s.run(9, C63, [(1000 - k, 9, C63 if k % 3 else C62) for k in range(600)], "label 401")
+    s.run(256, C63, [(5, 256, C63)], "refused 9")
+    s.run(9, C63 | 1, [(5, 9, C63 | 1)], "refused 9")
     s.say("A run never gets 0.")
     s.poke("words", 0, 65)
-    s.run(9, 2, [(3, 9, 2)], "label 3")
-    s.run(256, 2, [], "refused 9")
+    s.run(9, C63, [(3, 9, C63)], "label 3")
+    s.run(256, C63, [], "refused 9")
     s.poke("words", 0, 30)
     s.dump("state")
     s.say("Lowest is by label number, not by place.")
@@ -759,7 +789,7 @@ def refusals():
 
 # Each call twice: once with nothing else to refuse, once deserving another number.
 TABLE_CALLS = ["piece " + h(b"A B w\n"), "piece -", "end", "change " + h(b"A B w -"), "change " + h(b"A B" + b" " * 600), "revoke " + h(b"A"), "revoke -", "override " + h(b"A"),
-               "override -", "mapping " + h(b"A 9"), "mapping " + h(b"A"), "bylabel " + h(b"A"), "bylabel -", "bylevel 9 0", "bylevel 256 1",
+               "override -", "mapping " + h(b"A 9"), "mapping " + h(b"A"), "bylabel " + h(b"A"), "bylabel -", "bylevel 9 0:0:0", "bylevel 256 0:0:1",
                "question " + " ".join([h(b"A"), h(b"B"), h(b"r"), "0"]), "question - - - 1", "question " + " ".join([h(b"*"), h(b"*"), h(b"r"), "1"])]
 
 
@@ -781,14 +811,14 @@ def refused_by_all(s):
     s.list(999, 0, b"")
     s.label(5, 0)
     s.label(999, 0)
-    s.run(9, 2, [(3, 9, 2)], "label 3")
+    s.run(9, C63, [(3, 9, C63)], "label 3")
 
 
 def damage():
     s = Script("damage_sizes", "01, refusal 0: a part not of its full size. Each call, also where it deserves another number; then nothing has changed.")
     number = 0
-    for part, size in (("labels", 16384), ("entries", 840), ("words", 36), ("line", 600)):
-        for other in sorted({0, 1, size // 2, size - 1, size + 1, 2 * size}):
+    for part, size in (("labels", 16384), ("entries", 840), ("words", 100), ("line", 600)):
+        for other in sorted({0, 1, size // 2, size - 1, size + 1, 2 * size} | ({36, 68} if part == "words" else set())):
             number += 1
             s.say("%s: %d" % (part, other))
             small_state(s)
@@ -800,7 +830,7 @@ def damage():
                 s.end("refused 0")
                 s.ask(b"A", b"B", b"r", "granted 6")
                 s.label(5, b"A")
-                s.bylabel(b"A", "mapping 9 %d 2" % (category(1) | category(63)))
+                s.bylabel(b"A", mapped(9, category(1) | category(63), 2))
                 s.call("freshen", None)
             else:
                 refused_by_all(s)
@@ -833,9 +863,9 @@ def damage():
     for k, old in ((0, 6), (1, 8)):
         for value in (9, 64, 255):
             kinds.append(("override label %d is %d" % (k, value), "entries", 832 + k, value, old))
-    for k, old in ((0, category(1) | category(63)), (1, category(2))):
-        for value in (1, old | 1, HUGE):
-            kinds.append(("set %d is %d" % (k, value), "words", 4 + k, value, old))
+    for k in (0, 1):
+        for value in (1, 128, 257, HUGE):
+            kinds.append(("the third word of set %d is %d" % (k, value), "words", 68 + k, value, 0))
     small_state(s)
     s.dump("sound")
     for number, (note, part, at, value, old) in enumerate(kinds):
@@ -851,7 +881,7 @@ def damage():
     s.end("report 5 4 0 1 4 5")
     s.say("A fresh table is made of memory of any contents: only the sizes count.")
     s.poke("words", 0, 65)
-    s.poke("words", 35, HUGE)
+    s.poke("words", 99, HUGE)
     s.poke("entries", 0, b"\xff" * 840)
     s.call("freshen", "done")
     for k, label in enumerate(FIVE):
@@ -877,9 +907,9 @@ def damage():
             s.poke("entries", at, bytes([old]))
             s.dump("sound")
     s.say("last set")
-    s.poke("words", 35, (category(1) | category(63)) + 1)
+    s.poke("words", 99, 1)
     refused_by_all(s)
-    s.poke("words", 35, category(1) | category(63))
+    s.poke("words", 99, 0)
     s.dump("sound")
     s.say("0 comes before every other number: full tables, one mapping label without a label, and each call in the order of its refusals.")
     s.poke("entries", 799, b"\x40")
@@ -887,7 +917,7 @@ def damage():
     a, b = pairs()[300]
     nine = b" ".join(b"N%d" % k for k in range(9))
     for name, texts in (("change", (b" " * 601, b"A B r", b"A/ B r -", b"A B q -", b"A A r -", b"New1 New2 r -", a + b" " + b + b" r -")), ("revoke", (b"A" * 601, b"/")),
-                        ("override", (b" " * 601, b"", b"A/", nine, b"New1", b"-")), ("mapping", (b" " * 601, b"A", b"A/ 9", b"L05 256", b"New1 9", b"L40 9")),
+                        ("override", (b" " * 601, b"", b"A/", nine, b"New1", b"-")), ("mapping", (b" " * 1001, b"A", b"A/ 9", b"L05 256", b"New1 9", b"L40 9")),
                         ("bylabel", (b"/", b"A" * 256)), ("piece", (b"\n", b" " * 601 + b"\n", b"A A r\n", b"New1 New2 r\n"))):
         for text in texts:
             s.call(name + " " + h(text), "refused 0")
@@ -982,7 +1012,7 @@ def odd():
     s.bylabel(b"A", "none")
     s.bylevel(9, category(1), "none")
     s.mapping(b"A 3")
-    s.bylabel(b"A", "mapping 3 0 0")
+    s.bylabel(b"A", mapped(3, 0, 0))
     s.bylevel(3, 0, "label 5")
     s.say("An override list that holds the second number does not hold the subject.")
     s.override(b"A")
@@ -1013,7 +1043,7 @@ def odd():
     s.mapping(b"A 9 1")
     s.mapping(b"B 7 2")
     s.poke("entries", 769, b"\x05")
-    s.bylabel(b"A", "mapping 9 %d 1" % category(1))
+    s.bylabel(b"A", mapped(9, category(1), 1))
     s.bylabel(b"B", "none")
     s.bylevel(9, category(1), "label 5")
     s.bylevel(7, category(2), "none")
@@ -1097,7 +1127,7 @@ def odd():
     s.poke("entries", 800 + 2, b"\xff" * 30)
     s.poke("entries", 832 + 2, b"\xff" * 6)
     for k in range(2, 32):
-        s.poke("words", 4 + k, HUGE)
+        s.poke_set(k, EVERY_BIT)
     s.poke("labels", 9 * 256, b"\xff" * 600)
     s.poke("labels", 5 * 256 + 2, b"\xaa" * 254)
     s.dump()
@@ -1105,7 +1135,7 @@ def odd():
     s.ask(b"B", b"C", b"w", "granted 6 b")
     s.label(5, b"A")
     s.label(9, 13)
-    s.bylevel(255, HUGE - 1, "none")
+    s.bylevel(255, ALL, "none")
     s.piece(b"B r\nNew Other x\n")
     s.dump()
     s.change(b"New B r -")
@@ -1146,7 +1176,7 @@ def odd_counts():
     for count in range(33):
         s.poke("words", 2, count)
         if count:
-            s.bylabel(name_of(count - 1), "mapping %d %d 2" % (count - 1, both))
+            s.bylabel(name_of(count - 1), mapped(count - 1, both, 2))
             s.bylevel(count - 1, both, "label %d" % (count - 1))
         if count < 32:
             s.bylabel(name_of(count), "none")
@@ -1183,7 +1213,7 @@ def odd_counts():
         for k, label in enumerate(labels):
             s.mapping(label + b" %d" % k)
         for k, label in enumerate(labels):
-            s.bylabel(label, "mapping %d 0 0" % k)
+            s.bylabel(label, mapped(k, 0, 0))
             s.label(5 + k, label)
     s.store()
 
@@ -1416,13 +1446,13 @@ def says_override(text):
 
 def says_mapping(text):
     f = cut(text)
-    if len(text) > 600:
+    if len(text) > 1000:
         return "refused 1"
     if len(f) < 2:
         return "refused 2"
     if not is_label(f[0]):
         return "refused 3"
-    return "done" if is_number(f[1], 0, 255) and all(is_number(c, 1, 63) for c in f[2:]) else "refused 9"
+    return "done" if is_number(f[1], 0, 255) and all(is_number(c, 1, 184) for c in f[2:]) else "refused 9"
 
 
 def says_revoke(text, rules):
@@ -1518,7 +1548,7 @@ def ranges_writes():
         s.mapping(blank + blank.join((b"C", b"9", b"1", b"63")) + blank)
         s.dump("blanks", True)
         s.list(0, b"A B r\n")
-        s.bylabel(b"C", "mapping 9 %d 2" % (category(1) | category(63)))
+        s.bylabel(b"C", mapped(9, category(1) | category(63), 2))
         s.override(blank + b"-" + blank)
         s.ask(b"A", b"B", b"w", "override 7", 1)
         for text in (blank + b"A", b"A" + blank, blank + b"A" + blank, b"A" + blank + b"B"):
@@ -1536,7 +1566,7 @@ def ranges_writes():
         text = b"V %d" % n
         s.mapping(text, says_mapping(text))
         if n < 256:
-            s.bylabel(b"V", "mapping %d 0 0" % n)
+            s.bylabel(b"V", mapped(n, 0, 0))
         if n < 100 and n % 7 < 2:
             s.mapping(b"V %03d" % n)
             s.mapping(b"V %04d" % n, "refused 9")
@@ -1544,25 +1574,25 @@ def ranges_writes():
             s.mapping(b"V 9 %03d" % n, says_mapping(b"V 9 %03d" % n))
         text = b"V 9 %d" % n
         s.mapping(text, says_mapping(text))
-        if 1 <= n <= 63:
-            s.bylabel(b"V", "mapping 9 %d 1" % category(n))
+        if 1 <= n <= 184:
+            s.bylabel(b"V", mapped(9, category(n), 1))
     for n in (1001, 1009, 4096, 10000, 65536, 65537, 65545, 4294967296, 4294967297, 4294967305, 18446744073709551617):
         s.mapping(b"V %d" % n, "refused 9")
         s.mapping(b"V 9 %d" % n, "refused 9")
     s.say("Categories in any order and number; a bad one at each place.")
     for n in range(1, 64):
         s.mapping(b"V %d " % n + b" ".join(b"%d" % c for c in range(1, n + 1)))
-        s.bylabel(b"V", "mapping %d %d %d" % (n, sum(category(c) for c in range(1, n + 1)), n))
+        s.bylabel(b"V", mapped(n, sum(category(c) for c in range(1, n + 1)), n))
         s.mapping(b"V %d " % n + b" ".join(b"%d" % c for c in range(63, n - 1, -1)))
-        s.bylabel(b"V", "mapping %d %d %d" % (n, sum(category(c) for c in range(n, 64)), 64 - n))
+        s.bylabel(b"V", mapped(n, sum(category(c) for c in range(n, 64)), 64 - n))
     s.mapping(b"V 3 5 9 5 1 9 63 1")
-    s.bylabel(b"V", "mapping 3 %d 4" % sum(category(c) for c in (1, 5, 9, 63)))
-    for n in list(range(1, 13)) + [63, 190]:
+    s.bylabel(b"V", mapped(3, sum(category(c) for c in (1, 5, 9, 63)), 4))
+    for n in list(range(1, 13)) + [63, 190, 480]:
         for p in range(n) if n < 60 else (0, n - 1):
-            for bad in (b"0", b"64", b"257", b"x"):
+            for bad in (b"0", b"185", b"257", b"x"):
                 s.mapping(b"V 9 " + b" ".join([b"7"] * p + [bad] + [b"8"] * (n - p - 1)), "refused 9")
             s.mapping(b"V 256 " + b" ".join([b"7"] * n), "refused 9")
-    s.bylabel(b"V", "mapping 3 %d 4" % sum(category(c) for c in (1, 5, 9, 63)))
+    s.bylabel(b"V", mapped(3, sum(category(c) for c in (1, 5, 9, 63)), 4))
     s.store()
 
 
@@ -1621,8 +1651,8 @@ def ranges_labels():
         s.override(base + b" " + other)
         s.mapping(base + b" 9")
         s.mapping(other + b" 8")
-        s.bylabel(base, "mapping 9 0 0")
-        s.bylabel(other, "mapping 8 0 0")
+        s.bylabel(base, mapped(9, 0, 0))
+        s.bylabel(other, mapped(8, 0, 0))
         s.ask(base, other, b"w", "override 7", 1)
         s.ask(other, base, b"r", "override 7", 1)
         s.ask(base[1:], base, b"r", "denied 7", 1)
@@ -1744,7 +1774,7 @@ def ranges_refusals():
              "change": ((b"New1", 2), (b"New1 New2", 2), (b"New1 New2 r", 2), (b"New1 New2 r r r", 2), (b"New1 A/ r -", 3), (b"A/ New1 r -", 3), (b"New1 -A r -", 3), (b"-A New1 r -", 3),
                         (b"New1 A/ q -", 3), (b"New1 A/ - q", 3), (b"New1 New2 q -", 4), (b"New1 New2 - q", 4), (b"New1 New2 b -", 4), (b"New1 New1 r -", 5), (b"New1 New2 r -" + b" " * 600, 1)),
              "override": ((b"New1 A/", 3), (b"A/ New1", 3), (b"New1 -", 3), (b"- New1", 3), (b"New1 New2 -A", 3), (b"-A New1", 3), (nine, 11), (b"_ " + nine, 11), (b"New1" + b" " * 600, 1)),
-             "mapping": ((b"New1", 2), (b"-New1 9", 3), (b"New1/ 9", 3), (b"-New1 9 1", 3), (b"New1 256", 9), (b"New1 9 64", 9), (b"New1 9 1 0", 9), (b"New1 x", 9), (b"New1 9" + b" " * 600, 1))}
+             "mapping": ((b"New1", 2), (b"-New1 9", 3), (b"New1/ 9", 3), (b"-New1 9 1", 3), (b"New1 256", 9), (b"New1 9 185", 9), (b"New1 9 1 0", 9), (b"New1 x", 9), (b"New1 9" + b" " * 1000, 1))}
     for free, note in ((59, "a fresh table"), (30, "34 labels"), (2, "62 labels"), (1, "63 labels")):
         s.say(note)
         s.fresh()
@@ -1808,9 +1838,9 @@ def ranges_refusals():
             if k < 8:
                 s.line(b" ".join((a, b, c)), 3 if k & 3 else 4)
                 s.ask(a, b, c, "refused 3" if k & 3 else "refused 8", k & 1)
-                s.mapping(b" ".join((a, b"256" if k & 2 else b"9", b"64" if k & 4 else b"1")), "refused 3" if k & 1 else "refused 9")
+                s.mapping(b" ".join((a, b"256" if k & 2 else b"9", b"185" if k & 4 else b"1")), "refused 3" if k & 1 else "refused 9")
     s.dump("mixtures", True)
-    s.say("A length counts whole: 65536 bytes and some more are over 600.")
+    s.say("A length counts whole: 65536 bytes and some more are over 600 and over 1,000.")
     for name in ("revoke", "change", "override", "mapping"):
         s.call(name + " =" + "A" * 65541, "refused 1")
     s.dump("mixtures", True)
@@ -1885,9 +1915,9 @@ def ranges_look_ups():
     s.bylevel(0, 0, "label 10")
     s.mapping(b"L10 0 7")
     s.bylevel(0, 0, "none")
-    sets = [0, HUGE - 1, category(1), category(63), sum(category(c) for c in range(1, 64, 2)), sum(category(c) for c in range(2, 64, 3))]
+    sets = [0, ALL - sum(category(c) for c in range(64, 185)), category(1), category(63), sum(category(c) for c in range(1, 64, 2)), sum(category(c) for c in range(2, 64, 3))]
     for n, set_ in enumerate(sets):
-        s.say("stored: level %d, set %d; each other bit of the set" % (9 + n, set_))
+        s.say("stored: level %d, set %s; each other of the first 63 categories" % (9 + n, said(set_)))
         s.call("fresh", "done")
         s.mapping(b"A %d " % (9 + n) + b" ".join(b"%d" % c for c in range(1, 64) if set_ & category(c)))
         s.bylevel(9 + n, set_, "label 5")
@@ -1922,10 +1952,10 @@ def ranges_look_ups():
     s.say("A run: the one record that matches, at each place; and the lowest label number at each place.")
     for n in (1, 2, 3, 4, 5, 8, 9, 16, 17, 33):
         for p in range(n):
-            s.run(9, 2, [(7, 9, 2) if k == p else (k % 3, 9, 4) if k % 2 else (k % 3, 8, 2) for k in range(n)], "label 7")
-            s.run(9, 2, [(3, 9, 2) if k == p else (40 + (k * 7) % 13, 9, 2) for k in range(n)], "label 3")
+            s.run(9, C63, [(7, 9, C63) if k == p else (k % 3, 9, C62) if k % 2 else (k % 3, 8, C63) for k in range(n)], "label 7")
+            s.run(9, C63, [(3, 9, C63) if k == p else (40 + (k * 7) % 13, 9, C63) for k in range(n)], "label 3")
     for p in (64, 128, 255, 256, 257, 299):
-        s.run(9, 2, [(7, 9, 2) if k == p else (1, 8, 2) for k in range(300)], "label 7")
+        s.run(9, C63, [(7, 9, C63) if k == p else (1, 8, C63) for k in range(300)], "label 7")
     s.say("The lowest mapped label of those that match, at each place of 32.")
     s.fresh()
     labels_to(s, 40)
@@ -1974,12 +2004,11 @@ def ranges_damage():
             refused()
         s.call("poke entries %d 20" % (512 + k), "done")
     s.say("An unknown category bit, at each place.")
-    both = category(1) | category(63)
     for k in range(32):
-        for value in (1, both | 1):
-            s.call("poke words %d %d" % (4 + k, value), "done")
+        for value in (1, 257):
+            s.call("poke words %d %d" % (68 + k, value), "done")
             refused()
-        s.call("poke words %d %d" % (4 + k, both), "done")
+        s.call("poke words %d 0" % (68 + k), "done")
     s.dump("sound", True)
     s.say("40 labels: 39 names one, 40 does not.")
     s.poke("words", 0, 40)
@@ -2102,27 +2131,27 @@ def near_runs():
     s = Script("limits_runs", "01: a run of any length and content. Each is searched as records and as three slices. Label numbers, levels and sets count whole.", True)
     s.say("The last record of a long run is the only one that matches, or the lowest of all that match.")
     for n in (1001, 1024, 1025, 2049, 4097):
-        s.run(9, 2, [(1, 8, 2)] * (n - 1) + [(7, 9, 2)], "label 7")
-        s.run(9, 2, [(8, 9, 2)] * (n - 1) + [(7, 9, 2)], "label 7")
-        s.run(9, 2, [(8, 9, 2)] * (n - 1) + [(7, 9, 4)], "label 8")
-        s.run(9, 2, [(1, 8, 2)] * (n - 1) + [(7, 9, 4)], "none")
-    s.run(9, 2, [(8, 9, 2)] + [(9, 9, 2)] * 4095 + [(7, 9, 2)] + [(9, 9, 2)] * 1000, "label 7")
-    s.run(9, 2, [(8, 9, 2)] * 65536 + [(7, 9, 2)], "label 7")
+        s.run(9, C63, [(1, 8, C63)] * (n - 1) + [(7, 9, C63)], "label 7")
+        s.run(9, C63, [(8, 9, C63)] * (n - 1) + [(7, 9, C63)], "label 7")
+        s.run(9, C63, [(8, 9, C63)] * (n - 1) + [(7, 9, C62)], "label 8")
+        s.run(9, C63, [(1, 8, C63)] * (n - 1) + [(7, 9, C62)], "none")
+    s.run(9, C63, [(8, 9, C63)] + [(9, 9, C63)] * 4095 + [(7, 9, C63)] + [(9, 9, C63)] * 1000, "label 7")
+    s.run(9, C63, [(8, 9, C63)] * 65536 + [(7, 9, C63)], "label 7")
     s.say("Label numbers are compared whole, each of the 64 bits; they have no sign.")
     for bit in range(3, 64):
         high = 1 << bit
-        s.run(9, 2, [(5, 9, 2), (high, 9, 2)], "label 5")
-        s.run(9, 2, [(high, 9, 2), (5, 9, 2)], "label 5")
-        s.run(9, 2, [(high, 9, 2)], "label %d" % high)
-        s.run(9, 2, [(high + 1, 9, 2), (high, 9, 2)], "label %d" % high)
-        s.run(9, 2, [(high + 6, 9, 2), (2 * high - 1, 9, 2)], "label %d" % min(high + 6, 2 * high - 1))
-        s.run(9, 2, [(high, 9, 2), (high - 1, 9, 2)], "label %d" % (high - 1))
-        s.run(9, 2, [(high - 1, 9, 2), (high, 9, 2)], "label %d" % (high - 1))
+        s.run(9, C63, [(5, 9, C63), (high, 9, C63)], "label 5")
+        s.run(9, C63, [(high, 9, C63), (5, 9, C63)], "label 5")
+        s.run(9, C63, [(high, 9, C63)], "label %d" % high)
+        s.run(9, C63, [(high + 1, 9, C63), (high, 9, C63)], "label %d" % high)
+        s.run(9, C63, [(high + 6, 9, C63), (2 * high - 1, 9, C63)], "label %d" % min(high + 6, 2 * high - 1))
+        s.run(9, C63, [(high, 9, C63), (high - 1, 9, C63)], "label %d" % (high - 1))
+        s.run(9, C63, [(high - 1, 9, C63), (high, 9, C63)], "label %d" % (high - 1))
     two = 1 << 32
     for some, lowest in (((two, 5), 5), ((two + 1, 2), 2), ((two, 1), 1), ((2 * two, two + 9), two + 9), ((HUGE, two), two), ((two - 1, two), two - 1), ((3 * two, 2 * two + 7), 2 * two + 7),
                          ((1 << 63, (1 << 63) - 1), (1 << 63) - 1), ((HUGE, 1 << 63), 1 << 63), ((HUGE, HUGE - 1), HUGE - 1), ((HUGE, HUGE), HUGE), ((HUGE, 0), 0), ((1 << 63, 0), 0)):
-        s.run(9, 2, [(k, 9, 2) for k in some], "label %d" % lowest)
-        s.run(9, 2, [(k, 9, 2) for k in reversed(some)], "label %d" % lowest)
+        s.run(9, C63, [(k, 9, C63) for k in some], "label %d" % lowest)
+        s.run(9, C63, [(k, 9, C63) for k in reversed(some)], "label %d" % lowest)
     s.say("Levels side by side are told apart: in a run, then in the table.")
     for low in (0, 1, 2, 126, 127, 128, 253, 254):
         high = low + 1
@@ -2139,8 +2168,8 @@ def near_runs():
             s.mapping(b"B %d" % high + cats)
             s.bylevel(low, set_, "label 5")
             s.bylevel(high, set_, "label 6")
-            s.bylabel(b"A", "mapping %d %d %d" % (low, set_, len(cats) > 0))
-            s.bylabel(b"B", "mapping %d %d %d" % (high, set_, len(cats) > 0))
+            s.bylabel(b"A", mapped(low, set_, len(cats) > 0))
+            s.bylabel(b"B", mapped(high, set_, len(cats) > 0))
             s.mapping(b"A %d" % high + cats)
             s.bylevel(low, set_, "none")
             s.bylevel(high, set_, "label 5")
@@ -2231,13 +2260,13 @@ def near_full():
             s.mapping(b"New1 " + text)
             s.label(labels, b"New1")
             s.label(labels + 1, 13)
-            s.bylabel(b"New1", "mapping %d %d %d" % (level, set_, bin(set_).count("1")))
+            s.bylabel(b"New1", mapped(level, set_, bin(set_).count("1")))
             s.bylevel(level, set_, "label %d" % labels)
             s.mapping(b"L32 0", "refused 10")
             s.mapping(b"New2 0", "refused 10" if labels < 63 else "refused 6")
             s.label(labels + 1, 13)
             s.mapping(b"New1 3")
-            s.bylabel(b"New1", "mapping 3 0 0")
+            s.bylabel(b"New1", mapped(3, 0, 0))
             s.bylevel(level, set_, "none")
             s.call("fresh", "done")
             s.mapping(b"New1 " + text)
@@ -2286,8 +2315,8 @@ def near_lengths():
         s.change(blanks[:593] + b"A B r -" + one, "refused 1")
         s.override((b"A" + blanks)[:600] + one, "refused 1")
         s.override(b"-" + blanks[:599] + one, "refused 1")
-        s.mapping((b"A 9" + blanks)[:600] + one, "refused 1")
-        s.mapping(b"A 9" + b" 1" * 298 + b" " + one, "refused 1")
+        s.mapping((b"A 9" + b" " * 1000)[:1000] + one, "refused 1")
+        s.mapping(b"A 9 " + b" 1" * 498 + one, "refused 1")
         s.revoke(b"A" * 600 + one, "refused 1")
         s.revoke(b"A" + b"\x00" * 599 + one, "refused 1")
     s.dump("before", True)
@@ -3430,7 +3459,7 @@ def bad(where):
 
 def spoilt(length, *others):
     """A label of that many bytes, with other bytes at some places."""
-    label = bytearray((b"ClimateProbe_StoreNorth_" * 30)[:length])
+    label = bytearray((b"ClimateProbe_StoreNorth_" * 50)[:length])
     for at, byte in others:
         label[at] = byte[0]
     return bytes(label)
@@ -3506,11 +3535,12 @@ def places_labels():
         s.line(label, 2)
         s.change(label, "refused 2")
         s.mapping(label, "refused 2")
+        s.mapping(label + b" 9", bad(where))
         s.override(label, bad(where))
         s.line(label + b" B r", 1)
         s.line(b"A " + label + b" r", 1)
         s.change(label + b" B r -", "refused 1")
-        s.mapping(label + b" 9", "refused 1")
+        s.mapping(label + b" 9" + b" " * 399, "refused 1")
         s.override(label + b" ", "refused 1")
         s.override(b"A " + label, "refused 1")
     s.say("A newline in a write is a bad byte of its field, or a field of its own.")
@@ -3581,7 +3611,9 @@ def places_calls():
     for text, where in ((wide[:597] + b"/ 9", 597), (wide[:342] + spoilt(256) + b" 9", 597), (b"/" + wide[:598] + b"9", 0), (b"A/ 9" + b" 1" * 298, 1)):
         assert len(text) == 600
         s.mapping(text, bad(where))
-        s.mapping(b" " + text, "refused 1")
+        s.mapping(b" " + text, bad(1 + where))
+        s.mapping(b" " * 400 + text, bad(400 + where))
+        s.mapping(b" " * 401 + text, "refused 1")
     s.dump("fresh", True)
     s.store()
 
@@ -3626,7 +3658,7 @@ def places_bytes():
                   lambda label: write("change", label + b" Air r -", says_change(label + b" Air r -")), lambda label: write("change", b"Air  " + label + b" r -", says_change(b"Air  " + label + b" r -")),
                   lambda label: write("override", b"Air " + label, says_override(b"Air " + label)), lambda label: write("mapping", b" " + label + b" 9", says_mapping(b" " + label + b" 9"))]
         if length == 600:
-            # A line, a change or a mapping has no room for it: see places_labels.
+            # A line or a change has no room for it: see places_labels; for a mapping see categories_places.
             fields = [lambda label: write("override", label, says_override(label))]
         calls = lent + fields
         for at in (0, 1, 254, 255, 256):
@@ -3819,7 +3851,7 @@ def places_beside():
     s = Script("places_beside", "02, Three: a place goes with 3 alone. Each call where 3 meets the other numbers, in each order; and answers behind a 3, which have none.", True)
     s.say("0 comes before 3 and has no place: each kind of damage.")
     for part, at, value, sound in (("words", 0, 65, 9), ("words", 1, 257, 3), ("words", 2, 33, 2), ("words", 3, 9, 2), ("entries", 0, b"\x09", b"\x05"), ("entries", 512, b"\x40", b"\x20"),
-                                   ("words", 4, 1, category(1) | category(63))):
+                                   ("words", 68, 1, 0)):
         small_state(s)
         s.poke(part, at, value)
         s.change(b"A/ B r -", "refused 0")
@@ -3844,7 +3876,7 @@ def places_beside():
         s.say("`A ` is kept, and A A r was refused before: 5 stays the reason, and there is no place")
         s.piece(b"B/ r\n")
         s.end("report 5 3 0 2 4 5")
-    for part, size in (("labels", 16383), ("entries", 841), ("words", 35), ("line", 599)):
+    for part, size in (("labels", 16383), ("entries", 841), ("words", 99), ("line", 599)):
         s.fresh()
         s.call("resize %s %d" % (part, size), "done")
         s.piece(b"A/ B r\n", "refused 0")
@@ -3862,7 +3894,7 @@ def places_beside():
         s.line(text, 1)
         s.change(text, "refused 1")
         s.override(text, "refused 1")
-        s.mapping(text, "refused 1")
+        s.mapping(text + b" " * (1001 - len(text)), "refused 1")
         s.revoke(text, "refused 1")
     for text in (b"A/", b"-", b"A/ B", b"A B/", b"A/ B/ r w", b"- - - -", spoilt(256), b"A " + spoilt(256), b"/ / / / /"):
         s.line(text, 2)
@@ -3881,7 +3913,7 @@ def places_beside():
         s.ask(b"A/", b"B", request, bad(1))
         s.ask(b"A", b"Bc/", request, bad(2))
         s.ask(b"A", b"B", request, "refused 8")
-    for text, answer in ((b"A/ 256", bad(1)), (b"A/ x", bad(1)), (b"A/ 9 64", bad(1)), (b" -A 9 0", bad(1)), (b"A 256", "refused 9"), (b"A 9 0", "refused 9"), (b"A /", "refused 9"), (b"A 9 /", "refused 9")):
+    for text, answer in ((b"A/ 256", bad(1)), (b"A/ x", bad(1)), (b"A/ 9 185", bad(1)), (b" -A 9 0", bad(1)), (b"A 256", "refused 9"), (b"A 9 0", "refused 9"), (b"A /", "refused 9"), (b"A 9 /", "refused 9")):
         s.mapping(text, answer)
     nine = b" ".join(b"N%d" % k for k in range(9))
     for text, answer in ((nine, "refused 11"), (nine + b" A/", bad(28)), (b"A/ " + nine, bad(1)), (nine + b" -", bad(27)), (nine[:14] + b" - " + nine[15:], bad(15))):
@@ -3906,7 +3938,7 @@ def places_beside():
     far = b" " * 300 + b"A B" + b" " * 200 + b"/"
     other = [("change", b"A B w -", "done"), ("change", b"A B q -", "refused 4"), ("change", b"A B", "refused 2"), ("change", b"-A B r -", bad(0)), ("override", b"A B", "done"),
              ("override", b"-", "done"), ("override", b"", "refused 2"), ("override", b"- A", bad(0)), ("mapping", b"A 9 1", "done"), ("mapping", b"A 256", "refused 9"), ("mapping", b"- 9", bad(0)),
-             ("revoke", b"A", "revoked 1"), ("revoke", b"Unseen", "revoked 0"), ("revoke", b"A" * 601, "refused 1"), ("revoke", b"", bad(0)), ("bylabel", b"A", "mapping 9 %d 1" % category(1)),
+             ("revoke", b"A", "revoked 1"), ("revoke", b"Unseen", "revoked 0"), ("revoke", b"A" * 601, "refused 1"), ("revoke", b"", bad(0)), ("bylabel", b"A", mapped(9, category(1), 1)),
              ("bylabel", b"B", "none"), ("bylabel", b"", bad(0)), ("freshen", None, "done")]
     for name, text, answer in other:
         for spoil in (0, 1):
@@ -4040,7 +4072,7 @@ def places_two():
     s.to_line(fixed(b"A", b"B", b"-----"), b"A B -\n")
     s.to_record(b"A B/ r", 3)
     s.to_record(b"A B r", fixed(b"A", b"B", b"r----"))
-    s.bylabel(b"A", "mapping 9 %d 1" % category(1))
+    s.bylabel(b"A", mapped(9, category(1), 1))
     s.ask(b"A", b"B", b"r", "granted 6")
     s.dump("held")
     s.piece(b"", "done")
@@ -4087,6 +4119,902 @@ def places():
     places_beside()
     places_two()
     places_program()
+
+
+# ---------------------------------------------------------------------------------------------------------------------------------------------
+# Categories 1 to 184: request Four of 02
+# ---------------------------------------------------------------------------------------------------------------------------------------------
+
+# The words of some sets, worked out by hand: category n is the bit 63 - (n-1) mod 64 of the word (n-1)/64.
+TOP = 9223372036854775808
+BY_HAND = [((), "0:0:0"), ((1,), "9223372036854775808:0:0"), ((2,), "4611686018427387904:0:0"), ((32,), "4294967296:0:0"), ((33,), "2147483648:0:0"), ((57,), "128:0:0"), ((63,), "2:0:0"),
+           ((64,), "1:0:0"), ((65,), "0:9223372036854775808:0"), ((66,), "0:4611686018427387904:0"), ((79,), "0:562949953421312:0"), ((80,), "0:281474976710656:0"), ((96,), "0:4294967296:0"),
+           ((97,), "0:2147483648:0"), ((100,), "0:268435456:0"), ((127,), "0:2:0"), ((128,), "0:1:0"), ((129,), "0:0:9223372036854775808"), ((130,), "0:0:4611686018427387904"),
+           ((160,), "0:0:4294967296"), ((161,), "0:0:2147483648"), ((176,), "0:0:65536"), ((183,), "0:0:512"), ((184,), "0:0:256"),
+           ((1, 63), "9223372036854775810:0:0"), ((63, 64), "3:0:0"), ((64, 65), "1:9223372036854775808:0"), ((63, 65), "2:9223372036854775808:0"), ((64, 66), "1:4611686018427387904:0"),
+           ((1, 65), "9223372036854775808:9223372036854775808:0"), ((64, 128), "1:1:0"), ((65, 128), "0:9223372036854775809:0"), ((127, 128), "0:3:0"), ((128, 129), "0:1:9223372036854775808"),
+           ((127, 129), "0:2:9223372036854775808"), ((128, 130), "0:1:4611686018427387904"), ((65, 129), "0:9223372036854775808:9223372036854775808"), ((1, 129), "9223372036854775808:0:9223372036854775808"),
+           ((1, 184), "9223372036854775808:0:256"), ((64, 184), "1:0:256"), ((128, 184), "0:1:256"), ((183, 184), "0:0:768"), ((129, 184), "0:0:9223372036854776064"), ((100, 184), "0:268435456:256"),
+           ((1, 65, 129), "9223372036854775808:9223372036854775808:9223372036854775808"), ((64, 128, 184), "1:1:256"), ((1, 64, 65, 128, 129, 184), "9223372036854775809:9223372036854775809:9223372036854776064"),
+           ((63, 64, 65, 127, 128, 129, 183, 184), "3:9223372036854775811:9223372036854776576"), (tuple(range(1, 65)), "18446744073709551615:0:0"), (tuple(range(65, 129)), "0:18446744073709551615:0"),
+           (tuple(range(129, 185)), "0:0:18446744073709551360"), (tuple(range(1, 129)), "18446744073709551615:18446744073709551615:0"), (tuple(range(65, 185)), "0:18446744073709551615:18446744073709551360"),
+           (tuple(range(1, 185)), "18446744073709551615:18446744073709551615:18446744073709551360")]
+STRAYS = [1 << bit for bit in range(8)]
+
+
+def sum_of(categories):
+    return sum(category(n) for n in set(categories))
+
+
+def listed(categories, form=b"%d"):
+    return b" ".join(form % n for n in categories)
+
+
+def to_length(text, length, fill=b" "):
+    """The write with blanks behind it, to that many bytes."""
+    assert len(text) <= length
+    return text + fill * (length - len(text))
+
+
+def categories_each():
+    s = Script("categories_each", "02, Four: every category from 1 to 184 is written, read back by label, found by its set and in a run, and told from the others.", True)
+    for n in range(1, 185):
+        one, before, after = category(n), category(n - 1) if n > 1 else 0, category(n + 1) if n < 184 else 0
+        s.mapping(b"V 9 %d" % n)
+        s.bylabel(b"V", mapped(9, one, 1))
+        s.bylevel(9, one, "label 5")
+        s.run(9, one, [(3, 9, before), (4, 9, after), (7, 9, one)], "label 7")
+    s.say("Some with leading zeros; and all others, without this one.")
+    for n in range(1, 185, 6):
+        s.mapping(b"V 9 %03d" % n)
+        s.bylevel(9, category(n), "label 5")
+    for n in (1, 64, 65, 128, 184):
+        others = [c for c in range(1, 185) if c != n]
+        s.mapping(b"V 9 " + listed(others))
+        s.bylabel(b"V", mapped(9, ALL - category(n), 183))
+        s.bylevel(9, ALL - category(n), "label 5")
+        s.bylevel(9, ALL, "none")
+    s.store()
+
+
+def categories_sets():
+    s = Script("categories_sets", "02, Four: sets over the words' borders, their words by hand; counts over all 184; any order, repeats, and all 184 in one write.", True)
+    s.say("P12 stays")
+    s.mapping(b"Vault7 9 1 63")
+    s.bylabel(b"Vault7", "mapping 9 9223372036854775810:0:0 2")
+    s.call("fresh", "done")
+    for members, words in BY_HAND:
+        for order in (members, members[::-1] + members[:1]) if len(members) < 10 else (members,):
+            s.mapping(b"V 9 " + listed(order))
+            s.bylabel(b"V", "mapping 9 %s %d" % (words, len(members)))
+        s.call("bylevel 9 " + words, "label 5")
+        s.call("run 9 %s 9,9,%s 7,9,%s" % (words, words, words), "label 7")
+    s.say("Each set beside the others, in one run: its own records alone match.")
+    run = " ".join("%d,9,%s" % (10 + k, words) for k, (members, words) in enumerate(BY_HAND))
+    for k, (members, words) in list(enumerate(BY_HAND))[::9]:
+        s.call("run 9 %s %s" % (words, run), "label %d" % (10 + k))
+    s.say("Counts: the first n, and the last.")
+    for n in (63, 64, 65, 128, 129, 183):
+        s.mapping(b"V 7 " + listed(range(1, n + 1)))
+        s.bylabel(b"V", mapped(7, sum_of(range(1, n + 1)), n))
+        s.mapping(b"V 7 " + listed(range(n, 185)))
+        s.bylabel(b"V", mapped(7, sum_of(range(n, 185)), 185 - n))
+    s.say("All 184, with a label of 255 bytes and a level of three digits: 887 bytes, and every other order.")
+    long = spoilt(255)
+    every = list(range(1, 185))
+    text = long + b" 255 " + listed(every)
+    assert len(text) == 887
+    s.mapping(text)
+    s.bylabel(long, mapped(255, ALL, 184))
+    s.bylevel(255, ALL, "label 6")
+    for order in (every[::-1], every[1::2] + every[::2]):
+        s.mapping(long + b" 0")
+        s.bylabel(long, mapped(0, 0, 0))
+        s.mapping(long + b" 255 " + listed(order))
+        s.bylabel(long, mapped(255, ALL, 184))
+    s.say("With leading zeros and the longest label it has 993. Repeats count once.")
+    text = long + b" 9 " + listed(every, b"%03d")
+    assert len(text) == 993
+    s.mapping(text)
+    s.bylabel(long, mapped(9, ALL, 184))
+    s.mapping(b"V 9 " + listed(every + [184] * 60 + [1] * 20))
+    s.bylabel(b"V", mapped(9, ALL, 184))
+    for members in ((184,), (129,), (128,), (65,), (64,), (1, 184), (64, 65), (128, 129)):
+        s.mapping(b"V 9 " + listed(members * (60 // len(members))))
+        s.bylabel(b"V", mapped(9, sum_of(members), len(members)))
+    s.store()
+
+
+def categories_lengths():
+    s = Script("categories_lengths", "02, Four: a mapping write has up to 1,000 bytes, and 1 above. Lines and the other writes stay at 600.", True)
+    s.fresh()
+    for length in (600, 601, 999, 1000, 1001):
+        answer = "done" if length <= 1000 else "refused 1"
+        s.say("%d bytes: blanks before and between, repeats, leading zeros" % length)
+        s.mapping(b"\t" * (length - 7) + b"V 9 184", answer)
+        s.bylabel(b"V", mapped(9, category(184), 1) if length <= 1000 else mapped(7, category(184), 1))
+        s.mapping(b"V 8" + b" " * (length - 5) + b"65", answer)
+        s.bylabel(b"V", mapped(8, category(65), 1) if length <= 1000 else mapped(7, category(184), 1))
+        s.mapping(to_length(b"V 7" + b" 1" * ((length - 3) // 2), length), answer)
+        s.bylabel(b"V", mapped(7, category(1) if length <= 1000 else category(184), 1))
+        if length != 999:
+            s.mapping(to_length(b"V 7" + b" 064" * ((length - 3) // 4), length), answer)
+            s.bylabel(b"V", mapped(7, category(64) if length <= 1000 else category(184), 1))
+        if length <= 1000:
+            s.mapping(b"V 7 184")
+    s.say("The last category of a write of 1,000 bytes counts; cut by one byte it is another.")
+    text = b"V 9" + b" 001" * 249
+    assert len(text) == 999
+    s.mapping(b" " + text[:-3] + b"184")
+    s.bylabel(b"V", mapped(9, category(1) | category(184), 2))
+    s.say("498 fields, the last of them the only one of its kind")
+    s.mapping(b"V 9" + b" 2" * 495 + b" 184")
+    s.bylabel(b"V", mapped(9, category(2) | category(184), 2))
+    s.mapping(b"  " + text[:-4] + b" 18")
+    s.bylabel(b"V", mapped(9, category(1) | category(18), 2))
+    s.mapping(b"  " + text[:-3] + b"184", "refused 1")
+    s.mapping(text[:-3] + b"184 4", "refused 1")
+    s.bylabel(b"V", mapped(9, category(1) | category(18), 2))
+    s.say("A NUL, a newline and a digit as the 1,001st byte, and as the 1,000th.")
+    s.mapping(b"V 3 77")
+    s.dump("before", True)
+    for byte in b"\x00\n1":
+        s.mapping(to_length(b"V 9 1", 1000) + bytes([byte]), "refused 1")
+        text = to_length(b"V 3 77", 998) + b" " + bytes([byte])
+        s.mapping(text, says_mapping(text))
+        s.mapping(b"V 3 77")
+    s.dump("before", True)
+    s.say("Lines and the other writes: 600 and 601 bytes, as before.")
+    for length in (600, 601):
+        taken = length == 600
+        s.fresh()
+        s.line(to_length(b"A B r", length), None if taken else 1)
+        s.change(to_length(b"A B w -", length), "done" if taken else "refused 1")
+        s.override(to_length(b"A", length), "done" if taken else "refused 1")
+        s.revoke(b"A" * length, bad(255) if taken else "refused 1")
+        s.mapping(to_length(b"A 9", length))
+        s.to_record(to_length(b"A B r", length), fixed(b"A", b"B", b"r----") if taken else 1)
+    s.say("1 comes before 2, 3, 9, 6 and 10, at the new limit; each of these alone in a write of 1,000 bytes.")
+    full(s, 64, 0, 32)
+    s.dump("full", True)
+    for text, number in ((b"A/", 2), (b"A/ 9 185", 3), (b"New1 9 185", 9), (b"New1 9 184", 6), (b"L40 9 184", 10)):
+        s.mapping(text, "refused %d" % number)
+        s.mapping(to_length(text, 1000), "refused %d" % number)
+        s.mapping(to_length(text, 1001), "refused 1")
+    s.dump("full", True)
+    s.mapping(to_length(b"L05 9 184", 1001), "refused 1")
+    s.mapping(to_length(b"L05 9 184", 1000))
+    s.bylabel(b"L05", mapped(9, category(184), 1))
+    s.say("Lengths that are short in their low bits.")
+    for length in (1024, 1280):
+        s.call("mapping =" + "A" * length, "refused 1")
+    s.store()
+
+
+def categories_numbers():
+    s = Script("categories_numbers", "02, Four: 9 for category 0 and above 184, of 1 to 3 digits; at each place among others. The level is as before.", True)
+    s.fresh()
+    s.mapping(b"V 9 2 100 184")
+    s.dump("before", True)
+    for field in (b"0", b"00", b"000", b"185", b"186", b"191", b"192", b"193", b"199", b"200", b"248", b"255", b"256", b"257", b"300", b"319", b"320", b"321", b"440", b"512", b"999", b"1000", b"0184", b"0001", b"0000",
+                  b"1840", b"00184", b"18446744073709551800", b"+1", b"-1", b"1-", b"1,2", b"1.", b"0x1", b"1_", b"c1", b"\xb2"):
+        for text in (field, field + b" 1", b"64 65 " + field + b" 128 129", field + b" " + field, b"184 " + field):
+            s.mapping(b"V 9 " + text, "refused 9")
+        s.mapping(b"New 9 " + field, "refused 9")
+        if field in (b"0", b"185", b"999", b"0184"):
+            s.mapping(b"V 9 " + listed(range(1, 185)) + b" " + field, "refused 9")
+            s.mapping(to_length(b"V 9 " + field, 1000), "refused 9")
+    s.dump("before", True)
+    s.label(6, 13)
+    for field, n in ((b"1", 1), (b"01", 1), (b"001", 1), (b"9", 9), (b"10", 10), (b"010", 10), (b"63", 63), (b"063", 63), (b"64", 64), (b"064", 64), (b"65", 65), (b"065", 65), (b"99", 99), (b"100", 100), (b"127", 127),
+                     (b"128", 128), (b"129", 129), (b"179", 179), (b"180", 180), (b"183", 183), (b"184", 184)):
+        s.mapping(b"V 9 " + field)
+        s.bylabel(b"V", mapped(9, category(n), 1))
+    s.say("Numbers of up to three digits: every fifth, and all about the limits.")
+    for n in range(1000):
+        if n % 5 == 0 or n < 12 or 180 <= n <= 260:
+            s.mapping(b"V 9 %d" % n, "done" if 1 <= n <= 184 else "refused 9")
+    s.say("A level is 0 to 255, whatever the categories; 184 is no limit of it.")
+    for field, level in ((b"0", 0), (b"63", 63), (b"64", 64), (b"184", 184), (b"185", 185), (b"250", 250), (b"255", 255), (b"256", None), (b"440", None), (b"999", None)):
+        s.mapping(b"V " + field + b" 184", "refused 9" if level is None else "done")
+        if level is not None:
+            s.bylabel(b"V", mapped(level, category(184), 1))
+            s.bylevel(level, category(184), "label 5")
+    for level in (256, 257, 440, 1 << 32, HUGE):
+        for set_ in (0, category(184), ALL, 1):
+            s.bylevel(level, set_, "refused 9")
+            s.run(level, set_, [(5, level, set_)], "refused 9")
+    s.store()
+
+
+def categories_unknown():
+    s = Script("categories_unknown", "02, Four: the eight bits that are no categories. Stored: 0, under each call, at the first, a middle and the last mapping; past the count they do not matter.")
+    full(s, 40, 20, 32)
+    s.dump("sound")
+    for k in (0, 15, 31):
+        for bit in STRAYS:
+            s.say("bit %d of the third word of mapping %d" % (bit, k))
+            s.poke("words", 68 + k, bit)
+            s.dump("mapping %d bit %d" % (k, bit))
+            s.from_here("refused 0")
+            for call in TABLE_CALLS if bit == 1 else [c for c in TABLE_CALLS if len(c) < 100]:
+                s.call(call)
+            s.from_here("any")
+            s.list(0, 0, b"\xee" * 8)
+            s.label(5, 0)
+            s.run(9, category(184), [(3, 9, category(184) | bit), (4, 9, category(184))], "label 4")
+            s.dump("mapping %d bit %d" % (k, bit))
+        for word in (255, 257, HUGE, HUGE - 254, TOP + 1):
+            s.poke("words", 68 + k, word)
+            s.bylevel(9, category(1), "refused 0")
+            s.mapping(b"_ 9", "refused 0")
+            s.label(0, 0)
+            s.piece(b"", "refused 0")
+        s.poke("words", 68 + k, 0)
+        s.dump("sound")
+    s.say("A write that would replace the mapping with such a bit is refused all the same.")
+    for k in (0, 31):
+        s.poke("words", 68 + k, 64)
+        s.mapping(name_of(k) + b" 9 1 63", "refused 0")
+        s.poke("words", 68 + k, 0)
+    s.dump("sound")
+    s.say("All other bits are categories: of the first word, of the second, and the 56 of the third.")
+    for k in (0, 15, 31):
+        label = name_of(k)
+        for set_, count in ((sum_of(range(57, 65)), 8), (sum_of(range(121, 129)), 8), (sum_of(range(177, 185)), 8), (sum_of(range(1, 65)), 64), (sum_of(range(65, 129)), 64), (sum_of(range(129, 185)), 56), (ALL, 184)):
+            s.poke_set(k, set_)
+            s.bylabel(label, mapped(9, set_, count))
+            s.bylevel(9, set_, "label %d" % k)
+        s.poke_set(k, category(1) | C63)
+    for bit in STRAYS:
+        for row in (4, 36):
+            s.poke("words", row + 3, bit)
+            s.label(5, b"L05")
+            s.poke("words", row + 3, 0)
+    s.poke_set(3, category(1) | C63)
+    s.dump("sound")
+    s.say("Past the count nothing matters: every bit in the places behind it. With one mapping more, it does.")
+    for count in (0, 1, 2, 16, 31):
+        s.poke("words", 2, count)
+        for k in sorted({count, min(count + 1, 31), 31}):
+            s.poke_set(k, EVERY_BIT)
+        s.dump("count %d" % count)
+        s.bylabel(name_of(count), "none")
+        s.bylevel(9, ALL, "none")
+        s.bylevel(9, category(1) | C63, "label 0" if count else "none")
+        s.ask(b"L05", b"L06", b"r", "granted 6")
+        s.label(39, b"L39")
+        s.list(0, b"L05 L06 r\n")
+        s.revoke(b"Unseen", "revoked 0")
+        s.dump("count %d" % count)
+        s.poke("words", 2, count + 1)
+        s.bylabel(name_of(0), "refused 0")
+        s.mapping(name_of(count) + b" 9", "refused 0")
+        s.poke("words", 2, count)
+        s.say("a new mapping sets all three words of its place")
+        s.mapping(name_of(count) + b" 9 100")
+        s.bylabel(name_of(count), mapped(9, category(100), 1))
+        s.bylevel(9, category(100), "label %d" % count)
+        for k in range(32):
+            s.poke_set(k, category(1) | C63)
+    s.poke("words", 2, 32)
+    s.dump("sound")
+    s.store()
+
+    s = Script("categories_sought", "02, Four: the eight bits that are no categories. Sought: 9, and 0 before it; in a record of a run: no match.", True)
+    s.fresh()
+    sets = [0, category(64), category(128), category(184), ALL]
+    labels_to(s, 15)
+    for k, set_ in enumerate(sets):
+        s.mapping(name_of(5 + k) + b" 9 " + listed(n for n in range(1, 185) if set_ & category(n)))
+    for k, set_ in enumerate(sets):
+        s.bylevel(9, set_, "label %d" % (5 + k))
+        s.run(9, set_, [(8, 9, set_)], "label 8")
+        for bit in STRAYS + [255, 3, 129]:
+            s.bylevel(9, set_ | bit, "refused 9")
+            s.bylevel(8, set_ | bit, "refused 9")
+            s.run(9, set_ | bit, [], "refused 9")
+            s.run(9, set_ | bit, [(8, 9, set_ | bit), (7, 9, set_)], "refused 9")
+            s.run(9, set_, [(3, 9, set_ | bit)], "none")
+            s.run(9, set_, [(3, 9, set_ | bit), (8, 9, set_)], "label 8")
+            s.run(9, set_, [(8, 9, set_), (3, 9, set_ | bit)], "label 8")
+    s.bylevel(9, EVERY_BIT, "refused 9")
+    s.run(9, ALL, [(3, 9, EVERY_BIT), (4, 9, EVERY_BIT - 1)], "none")
+    s.say("The same bits of the first and the second word are categories 57 to 64 and 121 to 128.")
+    for bit in STRAYS:
+        for shift in (64, 128):
+            s.bylevel(7, bit << shift, "none")
+            s.run(9, bit << shift, [(3, 9, bit), (6, 9, bit << shift)], "label 6")
+            s.run(9, bit << shift, [(3, 9, bit << 192 - shift)], "none")
+    s.say("0 comes before 9 in a look-up; a run never gets 0.")
+    s.poke("words", 68, 1)
+    for bit in STRAYS:
+        s.bylevel(9, bit, "refused 0")
+        s.bylevel(256, bit, "refused 0")
+        s.run(9, bit, [], "refused 9")
+        s.run(9, category(184), [(3, 9, category(184) | bit), (4, 9, category(184))], "label 4")
+    s.poke("words", 68, 0)
+    for bit in STRAYS:
+        s.bylevel(9, bit, "refused 9")
+        s.bylevel(256, bit, "refused 9")
+    s.store()
+
+
+def categories_near():
+    s = Script("categories_near", "02, Four: equality over all three words: sets that differ in one bit, in the order of their words, or in one word alone.", True)
+    bases = [sum_of((1, 65, 129)), sum_of(range(1, 185, 3))]
+    for k, base in enumerate(bases):
+        s.say("stored and sought: each other bit")
+        s.call("fresh", "done")
+        s.mapping(b"V 9 " + listed(n for n in range(1, 185) if base & category(n)))
+        s.bylevel(9, base, "label 5")
+        for n in range(1, 185):
+            if k == 0 or n % 3 == 2:
+                s.bylevel(9, base ^ category(n), "none")
+            if n % 8 == k or n in (1, 63, 64, 65, 127, 128, 129, 183, 184):
+                s.run(9, base, [(3, 9, base ^ category(n)), (6, 9, base)], "label 6")
+    s.say("Three different words in each order, each a mapping of its own: each is found as itself.")
+    orders = [(x, y, z) for x in (0, 1, 2) for y in (0, 1, 2) for z in (0, 1, 2) if len({x, y, z}) == 3]
+    tops = [(1, 9), (2, 20), (3, 56)]
+    s.call("fresh", "done")
+    sets = []
+    for k, order in enumerate(orders):
+        members = [64 * word + n for word, which in enumerate(order) for n in tops[which]]
+        sets.append(sum_of(members))
+        s.mapping(b"P%d 9 " % k + listed(members))
+    for k, set_ in enumerate(sets):
+        s.bylabel(b"P%d" % k, mapped(9, set_, 6))
+        s.bylevel(9, set_, "label %d" % (5 + k))
+        s.run(9, set_, [(20 + i, 9, other) for i, other in enumerate(sets)], "label %d" % (20 + k))
+        s.run(9, set_, [(20 + i, 9, other) for i, other in enumerate(sets) if i != k], "none")
+    s.say("Two words alike and the third different, for each word; one word alone, at each place.")
+    for word in range(3):
+        s.call("fresh", "done")
+        same = [64 * other + 5 for other in range(3) if other != word]
+        for k, n in enumerate((1, 2, 55, 56)):
+            s.mapping(b"Q%d 9 " % k + listed(same + [64 * word + n]))
+        for k, n in enumerate((1, 2, 55, 56)):
+            set_ = sum_of(same + [64 * word + n])
+            s.bylevel(9, set_, "label %d" % (5 + k))
+            s.bylabel(b"Q%d" % k, mapped(9, set_, 3))
+            s.run(9, set_, [(40 + i, 9, sum_of(same + [64 * word + m])) for i, m in enumerate((56, 55, 2, 1))], "label %d" % (43 - k))
+        s.bylevel(9, sum_of(same), "none")
+        s.bylevel(9, sum_of(same + [64 * word + 3]), "none")
+        s.bylevel(9, sum_of([64 * word + 1]), "none")
+    for n in (1, 5, 55, 56):
+        s.call("fresh", "done")
+        for word in range(3):
+            s.mapping(b"R%d 9 %d" % (word, 64 * word + n))
+        for word in range(3):
+            s.bylevel(9, category(64 * word + n), "label %d" % (5 + word))
+            s.bylabel(b"R%d" % word, mapped(9, category(64 * word + n), 1))
+        s.bylevel(9, sum_of((n, 64 + n)), "none")
+        s.bylevel(9, sum_of((n, 64 + n, 128 + n)), "none")
+        s.bylevel(9, 0, "none")
+    s.say("Two labels alike in all words: the lower number, whichever was mapped first; alike but for one bit: each its own.")
+    for members in ((184,), (65,), (1, 65, 129), (64, 128, 184), tuple(range(1, 185))):
+        for n in (1, 64, 65, 128, 129, 184) if len(members) == 1 else (64, 65, 184):
+            set_ = sum_of(members)
+            other = sorted(set(members) ^ {n})
+            s.call("fresh", "done")
+            s.override(b"A B")
+            s.mapping(b"B 9 " + listed(members))
+            s.bylevel(9, set_, "label 6")
+            s.mapping(b"A 9 " + listed(members))
+            s.bylevel(9, set_, "label 5")
+            s.run(9, set_, [(6, 9, set_), (5, 9, set_)], "label 5")
+            s.mapping(b"A 9 " + listed(other))
+            s.bylevel(9, set_, "label 6")
+            s.bylevel(9, set_ ^ category(n), "label 5")
+            s.run(9, set_, [(6, 9, set_), (5, 9, set_ ^ category(n))], "label 6")
+    s.say("The same count and other members.")
+    s.call("fresh", "done")
+    some = [(1, 64), (1, 65), (64, 65), (2, 63), (65, 128), (66, 127), (128, 129), (129, 184), (130, 183), (1, 184), (64, 129), (63, 184)]
+    for k, members in enumerate(some):
+        s.mapping(b"S%02d 9 " % k + listed(members))
+    for k, members in enumerate(some):
+        s.bylevel(9, sum_of(members), "label %d" % (5 + k))
+        s.bylabel(b"S%02d" % k, mapped(9, sum_of(members), 2))
+        if k % 3 == 0:
+            s.run(9, sum_of(members), [(30 - i, 9, sum_of(m)) for i, m in enumerate(some)], "label %d" % (30 - k))
+    s.store()
+
+
+def categories_words():
+    s = Script("categories_words", "02, Four: where the words stand: the first of mapping k at 4 + k, the second at 36 + k, the third at 68 + k. Replaced mappings, neighbours, and 32 different sets.", True)
+    s.say("A mapping that is replaced by one without the second or third word's bits: the old bits are gone.")
+    s.call("fresh", "done")
+    for first in ((1, 65, 129), (64, 128, 184), tuple(range(1, 185))):
+        for then in ((), (1,), (65,), (129,), (1, 65), (1, 129), (65, 129), (2,), (66,), (184,), (64, 128)):
+            if len(first) > 100 and len(then) > 1:
+                continue
+            s.mapping(b"V 9 " + listed(first))
+            s.mapping(b"V 9 " + listed(then))
+            s.bylabel(b"V", mapped(9, sum_of(then), len(then)))
+            s.bylevel(9, sum_of(then), "label 5")
+            s.bylevel(9, sum_of(first + then), "none")
+            s.dump("then %s" % "_".join("%d" % n for n in then), True)
+    s.say("The same where nothing was before: the words are the same.")
+    for then in ((), (1,), (65,), (129,), (1, 65), (1, 129), (65, 129), (2,), (66,), (184,), (64, 128)):
+        s.call("fresh", "done")
+        s.mapping(b"V 9 " + listed(then))
+        s.dump("then %s" % "_".join("%d" % n for n in then), True)
+    s.say("32 mappings with different sets, written; and the same put there word by word.")
+    members = [(1 + k, 65 + (k * 5) % 64, 129 + (k * 11) % 56) for k in range(32)]
+    s.fresh()
+    labels_to(s, 40)
+    for k in range(32):
+        s.mapping(name_of(k) + b" 9 " + listed(members[k]))
+    s.dump("written", True)
+
+    def each(more):
+        for k in range(32):
+            s.bylabel(name_of(k), mapped(9, sum_of(members[k]), 3))
+            s.bylevel(9, sum_of(members[k]), "label %d" % k)
+            if not more:
+                continue
+            s.bylevel(9, sum_of(members[k][:2] + members[(k + 1) % 32][2:]), "none")
+            s.bylevel(9, sum_of(members[k][:1] + members[(k + 1) % 32][1:]), "none")
+            s.bylevel(9, sum_of(members[(k + 1) % 32][:1] + members[k][1:]), "none")
+    each(True)
+    s.fresh()
+    labels_to(s, 40)
+    s.poke("words", 2, 32)
+    s.poke("entries", 768, bytes(range(32)))
+    s.poke("entries", 800, b"\x09" * 32)
+    for row, word in ((4, 0), (36, 1), (68, 2)):
+        for k in range(32):
+            s.poke("words", row + k, 1 << 63 - (members[k][word] - 1) % 64)
+    s.dump("written", True)
+    each(False)
+    s.say("One mapping is written anew, at each place: no other changes.")
+    for k in range(32):
+        s.mapping(name_of(k) + b" 9")
+        for other in sorted({max(k - 1, 0), min(k + 1, 31)} - {k}):
+            s.bylabel(name_of(other), mapped(9, sum_of(members[other]), 3))
+        s.bylabel(name_of(k), mapped(9, 0, 0))
+        s.bylevel(9, 0, "label %d" % k)
+        s.mapping(name_of(k) + b" 9 " + listed(members[k]))
+        if k % 8 == 7:
+            s.dump("written", True)
+    s.say("One word alone is poked, at each place: that mapping alone has it.")
+    for k in (0, 1, 2, 15, 30, 31):
+        for row, n in ((4, 64), (36, 128), (68, 184)):
+            old = 1 << 63 - (members[k][(row - 4) // 32] - 1) % 64
+            word = 256 if row == 68 else 1
+            s.poke("words", row + k, word)
+            rest = [c for c in members[k] if (c - 1) // 64 != (row - 4) // 32]
+            s.bylabel(name_of(k), mapped(9, sum_of(rest + [n]), 3))
+            s.bylevel(9, sum_of(rest + [n]), "label %d" % k)
+            for other in sorted({0, 31, max(k - 1, 0), min(k + 1, 31)} - {k}):
+                s.bylabel(name_of(other), mapped(9, sum_of(members[other]), 3))
+            s.poke("words", row + k, old)
+    s.dump("written", True)
+    s.say("Mappings come one by one: a count under 32 reads no word of the next.")
+    for count in range(33):
+        s.poke("words", 2, count)
+        if count:
+            s.bylabel(name_of(count - 1), mapped(9, sum_of(members[count - 1]), 3))
+        if count < 32:
+            s.bylevel(9, sum_of(members[count]), "none")
+    s.say("The counts and the sets have nothing to do with each other: every word of the sets at its most.")
+    s.fresh()
+    labels_to(s, 40)
+    for k in range(32):
+        s.mapping(name_of(k) + b" 9 " + listed(range(1, 185)) if k in (0, 31) else name_of(k) + b" 9 64 128 184")
+    s.bylevel(9, ALL, "label 0")
+    s.bylevel(9, sum_of((64, 128, 184)), "label 1")
+    s.label(39, b"L39")
+    s.label(40, 13)
+    s.list(0, 13)
+    s.ask(b"L05", b"L06", b"r", "override 7", 1)
+    s.mapping(b"L32 9 184", "refused 10")
+    s.say("36 words are no full size any more, and no other number of them is but 100.")
+    for size in (4, 35, 36, 37, 67, 68, 96, 99, 101, 128, 200):
+        s.call("fresh", "done")
+        s.mapping(b"V 9 184")
+        s.call("resize words %d" % size, "done")
+        s.bylabel(b"V", "refused 0")
+        s.bylevel(9, category(184), "refused 0")
+        s.mapping(b"V 9 1", "refused 0")
+        s.call("freshen", "refused 0")
+    s.store()
+
+
+def categories_places():
+    s = Script("categories_places", "02, Three and Four: the place beside 3 in mapping writes of over 600 bytes, up to 1,000.", True)
+    s.fresh()
+    s.dump("fresh", True)
+    for length in (601, 1000):
+        wide = b" " * length
+        for text, where in ((b"A/ 9", 1), (b"-A 9", 0))[:2 if length == 601 else 1]:
+            n = length - len(text)
+            s.mapping(text + wide[:n], bad(where))
+            s.mapping(wide[:n] + text, bad(n + where))
+            s.mapping(wide[:n // 2] + text + wide[:n - n // 2], bad(n // 2 + where))
+        s.mapping(b"V/ 9" + b" 184" * ((length - 4) // 4), bad(1))
+        s.mapping(spoilt(length - 2) + b" 9", bad(255))
+        s.mapping(spoilt(length - 2, (254, b"/")) + b" 9", bad(254))
+        s.mapping(spoilt(length - 2, (length - 3, b"/")) + b" 9", bad(255))
+        s.mapping(wide[:length - 258] + spoilt(256) + b" 9", bad(length - 3))
+        s.mapping(wide[:length - 257] + spoilt(255, (254, b"/")) + b" 9", bad(length - 3))
+        s.mapping(wide[:length - 3] + b"/ 9", bad(length - 3))
+    s.mapping(to_length(b"A/ 9", 1001), "refused 1")
+    s.mapping(b" " * 997 + b"A/ 9", "refused 1")
+    s.mapping(spoilt(999) + b" 9", "refused 1")
+    s.say("3 before 9, and 2 before 3, at these lengths; 9 has no place.")
+    for text, answer in ((b"A/ 9 185", bad(1)), (b" -A 256", bad(1)), (b"A/", "refused 2"), (b"A 9 /", "refused 9"), (spoilt(256) + b" 9 185", bad(255))):
+        s.mapping(to_length(text, 1000), answer)
+    s.mapping(spoilt(1000), "refused 2")
+    s.say("A newline, a slash and a tilde in a label of 600 bytes, at the places 0, 254 and 255.")
+    for byte in b"\n/~":
+        for at in (0, 254, 255):
+            text = spoilt(600, (at, bytes([byte]))) + b" 9"
+            s.mapping(text, "refused 3")
+    s.dump("fresh", True)
+    s.store()
+
+
+def categories_alone():
+    s = Script("categories_alone", "02, Four: each category alone beside the empty set, in a run of one record, each way; and found where both have it.", True)
+    for n in range(1, 185):
+        s.run(9, category(n), [(7, 9, 0)], "none")
+        s.run(9, 0, [(7, 9, category(n))], "none")
+    for n in range(1, 185):
+        s.run(9, category(n), [(7, 9, category(n))], "label 7")
+    s.run(9, 0, [(7, 9, 0)], "label 7")
+    s.store()
+
+
+def categories_counts():
+    s = Script("categories_counts", "02, Four: sets of every size from 0 to 184, two of each size but the empty and the full one, and their counts. Each category twice in a write counts once.", True)
+    for order in (sorted(range(1, 185), key=lambda n: (-n % 64 // 4, n * 7 % 13)), range(184, 0, -1)):
+        s.call("fresh", "done")
+        s.mapping(b"A 9")
+        s.bylabel(b"A", mapped(9, 0, 0))
+        for size in range(1, 185):
+            set_, word = sum_of(order[:size]), (order[size - 1] - 1) // 64
+            s.poke("words", (4, 36, 68)[word], words_of(set_)[word])
+            s.bylabel(b"A", mapped(9, set_, size))
+    s.say("Each category twice in one write.")
+    for n in range(1, 185):
+        s.mapping(b"A 9 %d %d" % (n, n))
+        s.bylabel(b"A", mapped(9, category(n), 1))
+    s.store()
+
+
+def laid(s):
+    """32 mappings, of the labels 0 to 31, at level 9, with empty sets."""
+    s.fresh()
+    labels_to(s, 32)
+    s.poke("words", 2, 32)
+    s.poke("entries", 768, bytes(range(32)))
+    s.poke("entries", 800, b"\x09" * 32)
+
+
+def categories_full():
+    s = Script("categories_full", "02, Four: by level and set in a full table: at each place a set that is not the sought one by one category of the second or the third word, and the same set.", True)
+    laid(s)
+    base = sum_of((64, 128, 184))
+    s.say("All 32 are one set: none for one that is another by one category.")
+    for k in range(32):
+        s.poke_set(k, base)
+    s.bylevel(9, base, "label 0")
+    for n in [*range(1, 65, 9), *range(65, 185)]:
+        s.bylevel(9, base ^ category(n), "none")
+    for row, first, many in ((36, 65, 63), (68, 129, 55)):
+        s.say("All 32 are other sets by one category, at %d on; then each in turn is the sought one." % row)
+        word = (row - 4) // 32
+        others = [base ^ category(first + (k * 5 + 3) % many) for k in range(32)]
+        for k in range(32):
+            s.poke("words", row + k, words_of(others[k])[word])
+        s.bylevel(9, base, "none")
+        for k in range(32):
+            s.poke("words", row + k, words_of(base)[word])
+            s.bylevel(9, base, "label %d" % k)
+            s.poke("words", row + k, words_of(others[k])[word])
+        s.bylevel(9, base, "none")
+        for k in range(32):
+            s.poke("words", row + k, words_of(base)[word])
+    s.say("The sought set at levels of each kind, one place each; all others have it at the level beside.")
+    for place, level in ((0, 0), (3, 1), (7, 9), (8, 100), (15, 127), (16, 128), (23, 200), (24, 250), (30, 254), (31, 255)):
+        s.poke("entries", 800, bytes([level ^ 1]) * 32)
+        s.bylevel(level, base, "none")
+        s.poke("entries", 800 + place, bytes([level]))
+        s.bylevel(level ^ 1, base, "label %d" % (place == 0))
+        for row, change in ((36, category(100)), (68, category(150))):
+            word = (row - 4) // 32
+            s.poke("words", row + place, words_of(base ^ change)[word])
+            s.bylevel(level, base, "none")
+            s.bylevel(level, base ^ change, "label %d" % place)
+            s.poke("words", row + place, words_of(base)[word])
+            s.bylevel(level, base, "label %d" % place)
+    s.say("Big sets that are not the sought one by one member, at the first, a middle and the last place.")
+    s.poke("entries", 800, b"\x09" * 32)
+    for at, size in enumerate((20, 40, 63, 64, 65, 100, 128, 129, 150)):
+        members = [(k * 75 + at * 7) % 184 + 1 for k in range(size)]
+        set_, place = sum_of(members), (0, 15, 31)[at % 3]
+        assert len(set(members)) == size
+        s.poke_set(place, set_)
+        s.bylevel(9, set_, "label %d" % place)
+        s.bylabel(name_of(place), mapped(9, set_, size))
+        for n in (1 + 7 * at, 65 + 7 * at, 121 + at, 129 + 5 * at, 176 + at):
+            s.bylevel(9, set_ ^ category(n), "none")
+        s.run(9, set_ ^ category((66, 130)[at % 2] + 6 * at), [(3, 9, set_)], "none")
+        s.poke_set(place, base)
+    s.store()
+
+
+def categories_strays():
+    s = Script("categories_strays", "02, Four: every value of the eight bits that are no categories, sought, in a record and stored; one such bit at every place of a table of every size.", True)
+    s.fresh()
+    s.mapping(b"A 9")
+    for value in range(1, 256):
+        s.bylevel(9, value | 256 * (value % 2), "refused 9")
+        s.run(9, value | 256 * (value % 2), [(7, 9, value)], "refused 9")
+    s.say("in a record")
+    for value in range(1, 256):
+        s.run(9, category(184) if value % 2 else 0, [(7, 9, (category(184) if value % 2 else 0) | value)], "none")
+    s.say("stored")
+    for value in range(1, 256):
+        s.poke("words", 68, value if value % 3 else value | 256)
+        if value % 2:
+            s.bylabel(b"A", "refused 0")
+        else:
+            s.bylevel(9, 0, "refused 0")
+    s.say("Tables of 1 to 32 mappings: a bit at the last place that is stored, and at the next.")
+    laid(s)
+    s.dump("sound", True)
+    for count in range(1, 33):
+        bit = STRAYS[count % 8]
+        s.poke("words", 2, count)
+        s.poke("words", 67 + count, bit)
+        s.bylevel(9, 0, "refused 0")
+        s.bylabel(b"_", "refused 0")
+        s.poke("words", 67 + count, 0)
+        if count < 32:
+            s.poke("words", 68 + count, bit)
+            s.bylevel(9, 0, "label 0")
+            s.bylabel(name_of(count - 1), mapped(9, 0, 0))
+            s.poke("words", 68 + count, 0)
+    s.dump("sound", True)
+    s.say("Each of the eight bits at each of 32 places, under a call of each kind in turn.")
+    calls = ["bylevel 9 0:0:0", "bylabel =_", "question =_ =_ =r 0", "piece -", "mapping " + h(b"_ 9"), "end", "change =_", "revoke =_", "override =_"]
+    for k in range(32):
+        for at, bit in enumerate(STRAYS):
+            s.poke("words", 68 + k, bit)
+            s.call(calls[(k + at) % len(calls)], "refused 0")
+        s.poke("words", 68 + k, 0)
+    s.dump("sound", True)
+    s.store()
+
+
+def categories_long():
+    s = Script("categories_long", "02, Four: more lengths of a mapping write about 600 and over 1,000; blanks alone; bytes over 127 in a write of 1,000 bytes.", True)
+    s.fresh()
+    s.mapping(b"V 7 64")
+    s.dump("before", True)
+    for length in (1002, 1003, 1100):
+        s.mapping(to_length(b"V 9 184", length), "refused 1")
+        s.bylabel(b"V", mapped(7, category(64), 1))
+    for length in (1024, 2000, 4096):
+        s.call("mapping =" + "A" * length, "refused 1")
+    s.mapping(b" \t" * 500, "refused 2")
+    s.mapping(b" \t" * 500 + b" ", "refused 1")
+    s.say("A byte of 128 and one of 255: in the label, in the level, in a category.")
+    for byte in (b"\x80", b"\xff"):
+        s.mapping(to_length(b"V" + byte + b" 9 1", 1000), bad(1))
+        s.mapping(to_length(b"V 9" + byte + b" 1", 1000), "refused 9")
+        s.mapping(to_length(b"V 9 1" + byte, 1000), "refused 9")
+    s.dump("before", True)
+    for at, length in enumerate((603, 700, 800, 900, 998)):
+        n = 120 + at
+        s.mapping(b"V %d" % at + b" " * (length - 6) + b"%d" % n)
+        s.bylabel(b"V", mapped(at, category(n), 1))
+    s.say("A label of 255 bytes.")
+    long = spoilt(255)
+    s.mapping(long + b" 9" + b" " * 740 + b"184")
+    s.bylabel(long, mapped(9, category(184), 1))
+    s.mapping(long + b" 8" + b" " * 741 + b"183", "refused 1")
+    s.bylabel(long, mapped(9, category(184), 1))
+    s.bylevel(8, category(183), "none")
+    s.store()
+
+
+def categories_kept():
+    s = Script("categories_kept", "02, Four: what is no mapping write, and a mapping write that is refused, changes no set: looked up and dumped after each call, accepted or refused.", True)
+    members = [(64 - k, 128 - (k * 5) % 64, 184 - (k * 11) % 56) for k in range(32)]
+    s.fresh()
+    labels_to(s, 64)
+    for text in (b"L05 L06 r", b"L07 L08 -", b"L63 L05 r"):
+        s.line(text, None)
+    s.override(b"L05 L63")
+    for k in range(31):
+        s.mapping(name_of(k) + b" 9 " + listed(members[k]))
+    s.mapping(b"L63 9 " + listed(members[31]))
+    s.dump("full", True)
+
+    def kept(looked=True):
+        s.dump("full", True)
+        if not looked:
+            return
+        for label, number, k in ((b"_", 0, 0), (b"L63", 63, 31)):
+            s.bylabel(label, mapped(9, sum_of(members[k]), 3))
+            s.bylevel(9, sum_of(members[k]), "label %d" % number)
+    kept()
+    s.say("Mapping writes that are refused: 1, 2, 3, 9, 6 and 10, of the first mapping's label, of the last one's and of others.")
+    for text, number in ((to_length(b"_ 8 2", 1001), 1), (b"_", 2), (b"L63", 2), (b"", 2), (b"_/ 8 2", 3), (b"-L63 8 2", 3), (b"_ 8 2 66 130 185", 9), (b"L63 8 2 66 130 0", 9), (b"_ 256 2", 9), (b"New 8 2 66 130", 6),
+                         (b"L40 8 2 66 130", 10)):
+        s.mapping(text, "refused %d" % number)
+        kept()
+    s.say("The same mappings once more; and lines, changes, revokes and override lists that change nothing.")
+    s.mapping(b"_ 9 " + listed(members[0]))
+    kept(False)
+    s.mapping(b"L63 9 " + listed(members[31]))
+    kept()
+    s.line(b"L05 L06 r", None)
+    kept()
+    s.piece(b"L05 L06 ")
+    s.dump("full", True)
+    s.piece(b"R")
+    s.end("report 1 1 0 0 0 0")
+    kept()
+    s.change(b"L05 L06 r w")
+    kept()
+    s.revoke(b"L07", "revoked 1")
+    kept(False)
+    s.revoke(b"Unseen", "revoked 0")
+    kept()
+    s.override(b"L05 L63")
+    kept()
+    s.say("Refused: lines, changes, revokes, override lists.")
+    for text, number in ((b"L05 L06", 2), (b"L05/ L06 r", 3), (b"L05 L06 q", 4), (b"L05 L05 r", 5), (b"New L05 r", 6)):
+        s.line(text, number)
+        kept(False)
+    for text, number in ((b"L05 L06 r", 2), (b"-L05 L06 r -", 3), (b"L05 L06 b -", 4), (b"L05 L05 r -", 5), (b"New L05 r -", 6)):
+        s.change(text, "refused %d" % number)
+        kept(False)
+    s.revoke(b"A" * 601, "refused 1")
+    s.revoke(b"L05/", "refused 3")
+    kept()
+    for text, number in ((b"", 2), (b"L05 L/", 3), (b"L05 New", 6)):
+        s.override(text, "refused %d" % number)
+        kept(False)
+    kept()
+    s.say("Under damage: refused 0.")
+    third = words_of(sum_of(members[0]))[2]
+    s.poke("words", 68, third | 1)
+    for call in ("piece " + h(b"L05 L06 w\n"), "end", "change " + h(b"L05 L06 w -"), "revoke =L05", "override " + h(b"L06"), "mapping " + h(b"_ 9 1"), "mapping " + h(b"L63 9 1")):
+        s.call(call, "refused 0")
+    s.poke("words", 68, third)
+    kept()
+    s.say("A change, a revoke and a shorter override list that do something, and back.")
+    s.change(b"L05 L06 w r")
+    s.change(b"L05 L06 r w")
+    kept()
+    s.revoke(b"L05", "revoked 1")
+    s.line(b"L05 L06 r", None)
+    kept()
+    s.override(b"L63")
+    s.override(b"L05 L63")
+    kept()
+    s.say("The 64th label, the third rule and the last mapping enter anew, by each write that can: the state is the same.")
+    for call, sets in (("piece " + h(b"L63 L05 r\n"), {0, 1}), ("change " + h(b"L63 L05 r -"), {0, 1}), ("override " + h(b"L05 L63"), {0, 3}), ("mapping " + h(b"L63 9 " + listed(members[31])), {0, 2})):
+        for at, low in enumerate((63, 2, 31, 1)):
+            s.poke("words", at, low)
+        s.call(call, "done")
+        for at, high in enumerate((64, 3, 32, 2)):
+            if at not in sets:
+                s.poke("words", at, high)
+        kept()
+    s.end("report 1 1 0 0 0 0")
+    s.say("A fresh table in this memory: with the old counts all is as it was, refused or not.")
+    s.call("freshen", "done")
+    s.bylevel(9, sum_of(members[0]), "none")
+    s.bylabel(b"_", "none")
+    for at, high in enumerate((64, 3, 32, 2)):
+        s.poke("words", at, high)
+    kept()
+    s.call("resize labels 16383", "done")
+    s.call("freshen", "refused 0")
+    s.call("resize labels 16384", "done")
+    kept()
+    s.store()
+
+
+def categories_far():
+    s = Script("categories_far", "02, Three and Four: bad bytes at places of about 600, about 744 and up to 997 in a mapping write; tabs before the label.", True)
+    s.fresh()
+    s.dump("fresh", True)
+    for where in (599, 600, 601, 743, 744, 745, 800, 996, 997):
+        if where in (599, 601, 744, 800, 997):
+            s.mapping(b"\t" * (where - 1) + b"A/ 9", bad(where))
+            if where != 800:
+                s.mapping((b" \t" * 500)[:where - 1] + b"A\n 9", bad(where))
+        else:
+            s.mapping(b"\t" * where + b"- 9", bad(where))
+            s.mapping(b" " * (where - 2) + b"Ab\xc8 9", bad(where))
+    s.dump("fresh", True)
+    s.store()
+
+
+def categories_runs():
+    s = Script("categories_runs", "02, Four: runs of 0 to 24 records of sets that are not the sought one by the second or the third word alone; label numbers of 64 bits.", True)
+    set_ = sum_of((64, 128, 184))
+    near = [set_ ^ category(127), set_ ^ category(183), set_ ^ category(128), set_ ^ category(184)]
+    numbers = [0, 1 << 32, 1 << 63, HUGE]
+    s.run(9, set_, [], "none")
+    for count in range(1, 25):
+        others = [(k, 9, near[(k + count) % 4]) for k in range(1, count)]
+        number = numbers[count % 4]
+        s.run(9, set_, others, "none")
+        s.run(9, set_, others + [(number, 9, set_)], "label %d" % number)
+        s.run(9, set_, [(number, 9, set_)] + others, "label %d" % number)
+        s.run(9, set_, [(100 - k, 9, set_) for k in range(count)], "label %d" % (101 - count))
+    s.say("Each label number alone, before and behind the others.")
+    for number in numbers:
+        s.run(9, set_, [(number, 9, set_)], "label %d" % number)
+        s.run(9, set_, [(number, 9, near[0])], "none")
+        s.run(9, set_, [(number, 9, near[1])], "none")
+        for other in numbers:
+            s.run(9, set_, [(number, 9, set_), (other, 9, set_)], "label %d" % min(number, other))
+            s.run(9, set_, [(number, 9, set_), (other, 9, near[0])], "label %d" % number)
+            s.run(9, set_, [(number, 9, near[1]), (other, 9, set_)], "label %d" % other)
+    s.store()
+
+
+def categories_replaced():
+    s = Script("categories_replaced", "02, Four: mappings at the first, a middle and the last place replaced by sets with fewer words; labels of high numbers; more numbers that are categories or not.", True)
+    s.fresh()
+    labels_to(s, 64)
+    order = list(range(6, 32)) + [33, 34]
+    for place, number in ((0, 32), (7, 5), (15, 40), (31, 63)):
+        order.insert(place, number)
+    assert len(set(order)) == 32 and [order[k] for k in (0, 7, 15, 31)] == [32, 5, 40, 63]
+    for number in order:
+        s.mapping(name_of(number) + b" 9 %d" % (number + 1))
+    s.dump("before", True)
+    for place in (0, 7, 15, 31):
+        number, name = order[place], name_of(order[place])
+        first = (64, 128, 184)
+        for then in ((), (100,), (150,), (64,), (128,), (184,), (64, 128), (128, 184), (64, 184))[:4 if place == 7 else 9]:
+            s.mapping(name + b" 9 " + listed(first))
+            s.bylevel(9, sum_of(first), "label %d" % number)
+            s.mapping(name + b" 9 " + listed(then))
+            s.bylabel(name, mapped(9, sum_of(then), len(then)))
+            s.bylevel(9, sum_of(then), "label %d" % number)
+            s.bylevel(9, sum_of(first), "none")
+        s.mapping(name + b" 9 %d" % (number + 1))
+        s.dump("before", True)
+    s.say("Numbers with zeros before them, and numbers that are categories in their low bits alone.")
+    s.mapping(b"L63 9 9")
+    for field, n in ((b"09", 9), (b"009", 9), (b"0184", None), (b"441", None), (b"448", None), (b"255", None), (b"256", None)):
+        s.mapping(b"L32 9 8")
+        s.mapping(b"L32 7 " + field, "done" if n else "refused 9")
+        s.bylabel(b"L32", mapped(7, category(n), 1) if n else mapped(9, category(8), 1))
+        s.mapping(b"L32 7 1 " + field + b" 184", "done" if n else "refused 9")
+        s.bylabel(b"L32", mapped(7, category(1) | category(n) | category(184), 3) if n else mapped(9, category(8), 1))
+    s.store()
+
+
+def categories():
+    categories_each()
+    categories_sets()
+    categories_lengths()
+    categories_numbers()
+    categories_unknown()
+    categories_near()
+    categories_words()
+    categories_places()
+    categories_alone()
+    categories_counts()
+    categories_full()
+    categories_strays()
+    categories_long()
+    categories_kept()
+    categories_far()
+    categories_runs()
+    categories_replaced()
 
 
 # ---------------------------------------------------------------------------------------------------------------------------------------------
@@ -4195,23 +5123,21 @@ def kernel(folder):
     print(count, "labels of the kernel")
     s.store()
 
-    s = Script("kernel_cipso", "The kernel's mappings: level and categories as it put them on packets. Categories 0 and over 63 are refused with 9 here.")
+    s = Script("kernel_cipso", "The kernel's mappings: level and categories as it put them on packets. Category 0, which it takes and ignores, is refused with 9 here.")
     for row in rows(folder, "cipso.tsv"):
         if not row[1].startswith("cipso2 level "):
             continue
         level, listed = row[1][len("cipso2 level "):].split(" cats ")
         categories = [] if listed == "none" else listed.split(",")
         write = " ".join([row[0], level] + categories).encode()
-        if len(write) > 600:
-            s.mapping(write, "refused 1")
-        elif not all(1 <= int(c) <= 63 for c in categories):
+        if "0" in categories:
             s.mapping(write, "refused 9")
         else:
             option = bytes.fromhex(row[2])
             bits = [8 * k + j for k, byte in enumerate(option[10:option[1]]) for j in range(8) if byte & (0x80 >> j)]
             set_ = sum(category(n) for n in bits)
             s.mapping(write)
-            s.bylabel(row[0].encode(), "mapping %d %d %d" % (option[9], set_, len(bits)))
+            s.bylabel(row[0].encode(), mapped(option[9], set_, len(bits)))
     s.dump()
     s.store()
 
@@ -4236,6 +5162,7 @@ def main():
     records()
     searches()
     places()
+    categories()
     folder = os.environ.get("KERNEL_VECTORS")
     if folder:
         kernel(folder)

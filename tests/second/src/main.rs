@@ -20,6 +20,7 @@ fn main() -> ExitCode {
                 ["records"] => Kind::Records,
                 ["searches"] => Kind::Searches,
                 ["places"] => Kind::Places,
+                ["categories"] => Kind::Categories,
                 _ => return usage(),
             };
             match (seed.parse(), count.parse()) {
@@ -40,7 +41,7 @@ fn main() -> ExitCode {
 
 fn usage() -> ExitCode {
     eprintln!(
-        "usage: second program | second script | second random SEED COUNT [records | searches | places]"
+        "usage: second program | second script | second random SEED COUNT [records | searches | places | categories]"
     );
     ExitCode::FAILURE
 }

@@ -2,9 +2,12 @@
 //!
 //! Words in quotes are the paper's. The order of this file is the paper's:
 //! labels, modes, rule text, single writes, look-ups, questions, listing; then
-//! request One of 02, old fixed records. The places of request Three stand with
-//! the labels, fields and calls that they belong to.
+//! request One of 02, old fixed records. The places of request Three and the
+//! categories of request Four stand with the labels, fields and calls that they
+//! belong to.
 //! A table here is never damaged; see `raw` for lent memory and refusal 0.
+
+use std::collections::BTreeSet;
 
 /// "The label table holds 64 labels".
 pub const LABEL_PLACES: usize = 64;
@@ -18,6 +21,10 @@ pub const OVERRIDE_PLACES: usize = 8;
 pub const LABEL_LIMIT: usize = 255;
 /// "A line has at most 600 bytes before its newline"; a single write "at most 600 bytes".
 pub const LINE_LIMIT: usize = 600;
+/// "A mapping write may have 1,000 bytes."
+pub const MAPPING_LIMIT: usize = 1000;
+/// "Later kernels allow 1 to 184".
+pub const HIGHEST_CATEGORY: u64 = 184;
 /// "Each number is the true one or 4,294,967,295, whichever is smaller."
 pub const REPORT_LIMIT: u64 = 4_294_967_295;
 
@@ -26,7 +33,7 @@ pub const REPORT_LIMIT: u64 = 4_294_967_295;
 pub enum Refusal {
     /// "the lent state" is damaged. Given only by the calls of `raw`.
     Damaged,
-    /// "a line or write has over 600 bytes".
+    /// "a line or write has over 600 bytes"; "1 for a mapping write over 1,000 bytes".
     TooLong,
     /// "wrong number of fields".
     WrongFields,
@@ -44,7 +51,7 @@ pub enum Refusal {
     NoRulePlace,
     /// "the request is empty or has another byte".
     BadRequest,
-    /// "a level or category is not as above".
+    /// "a level or category is not as above"; "9 for category 0 or above 184".
     BadLevelOrCategory,
     /// "the label has no mapping and 32 are stored".
     NoMappingPlace,
@@ -250,14 +257,57 @@ pub fn write_modes(modes: u8) -> Vec<u8> {
 // Categories
 // ---------------------------------------------------------------------------
 
-/// Category n, 1 to 63, is the bit 2^(64-n): category 1 the top bit, category
-/// 63 the bit 2. The bit 1 (2^0) names no category.
-pub fn category_bit(category: u64) -> u64 {
-    1u64 << (64 - category)
+/// A set of categories, each 1 to 184, by its members. "equality and counts read
+/// over all 184": two are equal where they have the same members.
+pub type Categories = BTreeSet<u64>;
+
+/// How a set is said in memory, in a sought set and in a record of a run: three
+/// words. What has a bit that is no category is no set.
+pub type Words = [u64; 3];
+
+/// The word of category n, (n-1)/64, and its bit there, 63 - (n-1) mod 64:
+/// category 1 is the top bit of the first word, 65 of the second, 129 of the third.
+pub fn category_bit(category: u64) -> (usize, u64) {
+    let before = category - 1;
+    ((before / 64) as usize, 1 << (63 - before % 64))
 }
 
-/// The one bit of a set that is no category.
-pub const UNKNOWN_CATEGORY_BIT: u64 = 1;
+/// The words that say this set.
+pub fn words_of(set: &Categories) -> Words {
+    let mut words = [0; 3];
+    for &category in set {
+        let (word, bit) = category_bit(category);
+        words[word] |= bit;
+    }
+    words
+}
+
+/// Three words have 192 bits, and there is no category above 184: whether one of
+/// the eight last is in them.
+pub fn has_unknown_bit(words: &Words) -> bool {
+    (HIGHEST_CATEGORY + 1..=192).any(|number| {
+        let (word, bit) = category_bit(number);
+        words[word] & bit != 0
+    })
+}
+
+/// The set that these words say. None where a bit is no category.
+pub fn set_of(words: &Words) -> Option<Categories> {
+    if has_unknown_bit(words) {
+        return None;
+    }
+    let mut set = Categories::new();
+    for (word, &bits) in words.iter().enumerate() {
+        // The highest bits first, so the lowest categories.
+        let mut left = bits;
+        while left != 0 {
+            let from_top = u64::from(left.leading_zeros());
+            set.insert(64 * word as u64 + from_top + 1);
+            left &= !(1 << (63 - from_top));
+        }
+    }
+    Some(set)
+}
 
 /// "Numbers are 1 to 3 digits, leading zeros allowed."
 pub fn read_number(field: &[u8]) -> Option<u64> {
@@ -283,13 +333,13 @@ fn read_level(field: &[u8]) -> Option<u8> {
     Some(number as u8)
 }
 
-/// "category 1 to 63", given as its bit.
+/// A category, 1 to 184.
 fn read_category(field: &[u8]) -> Option<u64> {
     let number = read_number(field)?;
-    if !(1..=63).contains(&number) {
+    if !(1..=HIGHEST_CATEGORY).contains(&number) {
         return None;
     }
-    Some(category_bit(number))
+    Some(number)
 }
 
 // ---------------------------------------------------------------------------
@@ -330,11 +380,11 @@ pub fn fields(line: &[u8]) -> Vec<Field<'_>> {
 // ---------------------------------------------------------------------------
 
 /// One CIPSO mapping: a label's number, its level and its set of categories.
-#[derive(Clone, Copy, PartialEq, Eq, Debug)]
+#[derive(Clone, PartialEq, Eq, Debug)]
 pub struct Mapping {
     pub label: usize,
     pub level: u8,
-    pub set: u64,
+    pub set: Categories,
 }
 
 /// "the tables (labels, rules and mappings in order, override list)".
@@ -722,7 +772,7 @@ impl Table {
 
     /// "Mapping: label, level, then no or more categories." Refusals 1 2 3 9 6 10.
     pub fn mapping(&mut self, write: &[u8]) -> Result<(), Refusal> {
-        if write.len() > LINE_LIMIT {
+        if write.len() > MAPPING_LIMIT {
             return Err(Refusal::TooLong);
         }
         let fields = fields(write);
@@ -734,12 +784,12 @@ impl Table {
         let Some(level) = read_level(fields[1].bytes) else {
             return Err(Refusal::BadLevelOrCategory);
         };
-        let mut set = 0;
+        let mut set = Categories::new();
         for field in &fields[2..] {
-            let Some(bit) = read_category(field.bytes) else {
+            let Some(category) = read_category(field.bytes) else {
                 return Err(Refusal::BadLevelOrCategory);
             };
-            set |= bit;
+            set.insert(category);
         }
         if self.lacks_label_places(&[label]) {
             return Err(Refusal::NoLabelPlace);
@@ -772,11 +822,11 @@ impl Table {
 
 /// "A mapping looked up by label gives level, set and how many categories are
 /// in the set."
-#[derive(Clone, Copy, PartialEq, Eq, Debug)]
+#[derive(Clone, PartialEq, Eq, Debug)]
 pub struct Found {
     pub level: u8,
-    pub set: u64,
-    pub count: u32,
+    pub set: Categories,
+    pub count: usize,
 }
 
 /// One record of a lent run: "a label number, a level and a set", "of any
@@ -785,15 +835,16 @@ pub struct Found {
 pub struct Record {
     pub label: u64,
     pub level: u64,
-    pub set: u64,
+    pub set: Words,
 }
 
-/// The 9 of a look-up: a level over 255, or a set with the bit that is no category.
-fn check_level_and_set(level: u64, set: u64) -> Result<(), Refusal> {
-    if level > 255 || set & UNKNOWN_CATEGORY_BIT != 0 {
+/// The set that is sought. The 9 of a look-up: a level over 255, or a bit that is
+/// no category.
+fn sought_set(level: u64, set: &Words) -> Result<Categories, Refusal> {
+    if level > 255 {
         return Err(Refusal::BadLevelOrCategory);
     }
-    Ok(())
+    set_of(set).ok_or(Refusal::BadLevelOrCategory)
 }
 
 impl Table {
@@ -806,11 +857,11 @@ impl Table {
         let Some(place) = self.place_of_mapping(number) else {
             return Ok(None);
         };
-        let mapping = self.mappings[place];
+        let mapping = &self.mappings[place];
         Ok(Some(Found {
             level: mapping.level,
-            set: mapping.set,
-            count: mapping.set.count_ones(),
+            set: mapping.set.clone(),
+            count: mapping.set.len(),
         }))
     }
 
@@ -818,8 +869,8 @@ impl Table {
     /// both are equal, or none." Refusal 9. Where a label or a mapping is
     /// stored twice "the first counts": a number counts only if it is its
     /// label's first, and only by its first mapping.
-    pub fn by_level(&self, level: u64, set: u64) -> Result<Option<usize>, Refusal> {
-        check_level_and_set(level, set)?;
+    pub fn by_level(&self, level: u64, set: &Words) -> Result<Option<usize>, Refusal> {
+        let set = sought_set(level, set)?;
         for number in 0..self.labels.len() {
             let is_first_number = self.number_of(&self.labels[number]) == Some(number);
             if !is_first_number {
@@ -828,7 +879,7 @@ impl Table {
             let Some(place) = self.place_of_mapping(number) else {
                 continue;
             };
-            let mapping = self.mappings[place];
+            let mapping = &self.mappings[place];
             if u64::from(mapping.level) == level && mapping.set == set {
                 return Ok(Some(number));
             }
@@ -839,12 +890,13 @@ impl Table {
 
 /// "The host can also search a lent run of records ...: the lowest label number
 /// whose level and set both match, or none." Refusal 9. "A run is no part of
-/// the state and never gets 0."
-pub fn search_run(run: &[Record], level: u64, set: u64) -> Result<Option<u64>, Refusal> {
-    check_level_and_set(level, set)?;
+/// the state and never gets 0." A record with a bit that is no category has no
+/// set, so it matches none.
+pub fn search_run(run: &[Record], level: u64, set: &Words) -> Result<Option<u64>, Refusal> {
+    let set = sought_set(level, set)?;
     let mut lowest: Option<u64> = None;
     for record in run {
-        if record.level != level || record.set != set {
+        if record.level != level || set_of(&record.set).as_ref() != Some(&set) {
             continue;
         }
         match lowest {

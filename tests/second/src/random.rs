@@ -15,9 +15,9 @@
 
 use std::io::{self, Write};
 
-use crate::plain::{self, class_of, Class, Table};
+use crate::plain::{self, category_bit, class_of, words_of, Class, Table, Words};
 use crate::raw;
-use crate::script::{write_hex, Machine};
+use crate::script::{write_hex, write_set, Machine};
 
 /// A xorshift generator with a multiplied output.
 pub struct Xorshift {
@@ -66,14 +66,26 @@ impl Xorshift {
 
 /// Which calls a script has: all of them; the two that turn old records into
 /// lines and back; questions, and some writes, about labels that are hard to
-/// tell apart; or the calls that tell the place of a bad byte.
+/// tell apart; the calls that tell the place of a bad byte; or mappings, look-ups
+/// and runs of sets that are hard to tell apart.
 #[derive(Clone, Copy, PartialEq, Eq)]
 pub enum Kind {
     Every,
     Records,
     Searches,
     Places,
+    Categories,
 }
+
+/// Lengths just under and over 600 bytes, and for a mapping over 1,000 too.
+const LINE_LENGTHS: [usize; 6] = [599, 600, 600, 601, 601, 602];
+const MAPPING_LENGTHS: [usize; 9] = [600, 601, 800, 999, 1000, 1000, 1001, 1001, 1002];
+
+/// Categories at a word's border or at a limit.
+const EDGES: [u64; 12] = [1, 2, 62, 63, 64, 65, 66, 127, 128, 129, 183, 184];
+
+/// The eight bits of a third word that are no categories.
+const STRAY_BITS: u64 = 255;
 
 /// Writes a script of `count` calls.
 pub fn write_script(seed: u64, count: u64, kind: Kind, output: &mut dyn Write) -> io::Result<()> {
@@ -87,6 +99,7 @@ pub fn write_script(seed: u64, count: u64, kind: Kind, output: &mut dyn Write) -
         new_percent: 5,
         next_name: 0,
         pending: Vec::new(),
+        sets: Vec::new(),
     };
     while generator.left > 0 && generator.error.is_none() {
         match kind {
@@ -94,6 +107,7 @@ pub fn write_script(seed: u64, count: u64, kind: Kind, output: &mut dyn Write) -
             Kind::Records => generator.records_episode(),
             Kind::Searches => generator.searches_episode(),
             Kind::Places => generator.places_episode(),
+            Kind::Categories => generator.categories_episode(),
         }
     }
     match generator.error {
@@ -116,6 +130,8 @@ struct Generator<'a> {
     next_name: u64,
     /// Rule text that is made but not yet handed over in pieces.
     pending: Vec<u8>,
+    /// The sets that an episode of the kind `categories` likes to use.
+    sets: Vec<Words>,
 }
 
 impl Generator<'_> {
@@ -369,12 +385,17 @@ impl Generator<'_> {
         }
         self.emit(&format!("poke entries 0 {}", write_hex(&entries)));
         for place in 0..32 {
-            let set = match self.random.below(100) {
-                0 => self.random.next_number(),
-                _ => self.random.pick(&[0, 2, 1 << 63, (1 << 63) | 2]),
-            };
-            let index = raw::SETS + place;
-            self.emit(&format!("poke words {index} {set}"));
+            let mut set = [0; 3];
+            for word in &mut set {
+                *word = self.random.pick(&[0, 0, 256, 1 << 63, (1 << 63) | 256]);
+            }
+            if self.random.chance(1) {
+                set[2] = self.random.next_number();
+            }
+            for (row, word) in raw::SETS.iter().zip(set) {
+                let index = row + place;
+                self.emit(&format!("poke words {index} {word}"));
+            }
         }
         self.emit(&format!("poke words 0 {labels}"));
         for (index, limit) in [(1, 256), (2, 32), (3, 8)] {
@@ -428,7 +449,8 @@ impl Generator<'_> {
         for _ in 0..mappings {
             let label = self.pool_label();
             let mut write = label;
-            write.extend_from_slice(b" 9 1 63");
+            let rest = [" 9 1 63", " 9 1 63", " 9 64 65 128 129 184", " 9 184"];
+            write.extend_from_slice(self.random.pick(&rest).as_bytes());
             self.emit(&format!("mapping {}", write_hex(&write)));
         }
         let overrides = 1 + self.random.below(3);
@@ -523,7 +545,7 @@ impl Generator<'_> {
             write.push(b' ');
             write.extend_from_slice(
                 self.random
-                    .pick(&["9 1 63", "9", "0 5", "7 7 7 8"])
+                    .pick(&["9 1 63", "9", "0 5", "7 7 7 8", "9 65 127", "9 129 184"])
                     .as_bytes(),
             );
             self.emit(&format!("mapping {}", write_hex(&write)));
@@ -540,7 +562,7 @@ impl Generator<'_> {
         let (part, size) = match self.random.below(4) {
             0 => ("labels", self.random.pick(&[0, 256, 16383, 16385, 20000])),
             1 => ("entries", self.random.pick(&[0, 256, 839, 841])),
-            2 => ("words", self.random.pick(&[0, 3, 4, 35, 37])),
+            2 => ("words", self.random.pick(&[0, 3, 4, 35, 36, 68, 99, 101])),
             _ => ("line", self.random.pick(&[0, 1, 599, 601])),
         };
         self.emit(&format!("resize {part} {size}"));
@@ -581,9 +603,7 @@ impl Generator<'_> {
             8 => self.poke_below(raw::MAPPING_LABELS, counts[2], 32, no_label as u8),
             9 => {
                 let place = self.random.below(counts[2].min(32) + 1).min(31) as usize;
-                let old = self.machine.state.words[raw::SETS + place];
-                let value = self.random.pick(&[1, 3, u64::MAX, old | 1]);
-                self.poke_word(raw::SETS + place, value)
+                self.damage_set(place)
             }
             10 => self.poke_below(raw::OVERRIDES, counts[3], 8, no_label as u8),
             11 => {
@@ -609,6 +629,28 @@ impl Generator<'_> {
                 self.poke_word(index, value)
             }
         }
+    }
+
+    /// One word of a mapping's set changes. Mostly it is the third, which gets bits
+    /// that are no categories; those of the other two all are.
+    fn damage_set(&mut self, place: usize) -> Vec<String> {
+        let row = self.random.pick(&[0, 1, 2, 2, 2, 2, 2, 2]);
+        let index = raw::SETS[row] + place;
+        let old = self.machine.state.words[index];
+        let stray = 1 << self.random.below(8);
+        let any = self.random.next_number();
+        let value = self.random.pick(&[
+            stray,
+            old | stray,
+            old | stray,
+            old | stray,
+            old | STRAY_BITS,
+            old | 256,
+            u64::MAX,
+            u64::MAX - STRAY_BITS,
+            any,
+        ]);
+        self.poke_word(index, value)
     }
 
     fn over_limit(&mut self, limit: u64) -> u64 {
@@ -746,8 +788,10 @@ impl Generator<'_> {
             }
         }
         if table.mappings.len() < 32 {
-            let index = raw::SETS + table.mappings.len();
-            self.emit(&format!("poke words {index} {}", u64::MAX));
+            for row in raw::SETS {
+                let index = row + table.mappings.len();
+                self.emit(&format!("poke words {index} {}", u64::MAX));
+            }
         }
         if table.labels.len() < 64 {
             let at = table.labels.len() * raw::PLACE;
@@ -1003,9 +1047,9 @@ impl Generator<'_> {
         text
     }
 
-    /// More blanks, so that the text comes to just under or over 600 bytes.
-    fn pad(&mut self, mut text: Vec<u8>) -> Vec<u8> {
-        let target = self.random.pick(&[599, 600, 600, 601, 601, 602]);
+    /// More blanks, so that the text comes to one of these lengths.
+    fn pad(&mut self, mut text: Vec<u8>, lengths: &[usize]) -> Vec<u8> {
+        let target = self.random.pick(lengths);
         let at = match text.iter().position(|&byte| byte == b' ' || byte == b'\t') {
             Some(at) if self.random.chance(50) => at,
             _ if self.random.chance(50) => 0,
@@ -1059,7 +1103,7 @@ impl Generator<'_> {
             22 => vec![b' '; self.random.pick(&[599, 600, 601, 602])],
             23 | 24 => {
                 let line = self.good_rule_line();
-                self.pad(line)
+                self.pad(line, &LINE_LENGTHS)
             }
             25 => self.random_bytes(40),
             26 => {
@@ -1094,8 +1138,9 @@ impl Generator<'_> {
         text
     }
 
-    /// A write of these fields: mostly as it is, sometimes spoilt.
-    fn write_of(&mut self, mut fields: Vec<Vec<u8>>) -> Vec<u8> {
+    /// A write of these fields: mostly as it is, sometimes spoilt, or with blanks
+    /// to one of these lengths.
+    fn write_of(&mut self, mut fields: Vec<Vec<u8>>, lengths: &[usize]) -> Vec<u8> {
         if self.random.chance(5) {
             fields.pop();
         }
@@ -1104,7 +1149,7 @@ impl Generator<'_> {
         }
         let mut text = self.join(&fields);
         if self.random.chance(5) {
-            text = self.pad(text);
+            text = self.pad(text, lengths);
         }
         if self.random.chance(5) {
             text.push(b'\n');
@@ -1125,8 +1170,9 @@ impl Generator<'_> {
 
     fn digits(&mut self, usual: &[&str]) -> Vec<u8> {
         let odd = [
-            "0", "00", "000", "0000", "0001", "001", "63", "063", "64", "255", "256", "999", "+1",
-            "-1", "-", "1a", "a", "1.", "\n", "1\r",
+            "0", "00", "000", "0000", "0001", "001", "63", "063", "64", "65", "128", "129", "183",
+            "184", "0184", "185", "186", "192", "193", "255", "256", "999", "1000", "+1", "-1",
+            "-", "1a", "a", "1.", "\n", "1\r",
         ];
         if self.random.chance(10) {
             return self.random.pick(&odd).as_bytes().to_vec();
@@ -1218,7 +1264,7 @@ impl Generator<'_> {
             self.change_access(),
             self.change_access(),
         ];
-        let write = self.write_of(fields);
+        let write = self.write_of(fields, &LINE_LENGTHS);
         self.emit(&format!("change {}", write_hex(&write)));
     }
 
@@ -1270,25 +1316,34 @@ impl Generator<'_> {
         let write = if self.random.chance(80) {
             self.join(&fields)
         } else {
-            self.write_of(fields)
+            self.write_of(fields, &LINE_LENGTHS)
         };
         self.emit(&format!("override {}", write_hex(&write)));
+    }
+
+    /// A category of any word, often at an edge; sometimes no category.
+    fn category(&mut self) -> Vec<u8> {
+        match self.random.below(3) {
+            0 => self.digits(&["1", "2", "62", "63", "5", "05"]),
+            1 => self.random.pick(&EDGES).to_string().into_bytes(),
+            _ => self.digits(&["64", "65", "100", "128", "129", "183", "184", "079"]),
+        }
     }
 
     fn mapping_call(&mut self) {
         let mut fields = vec![self.label(), self.digits(&["0", "9", "255", "7"])];
         let count = match self.random.below(10) {
-            0 => self.random.pick(&[20, 63, 100]),
+            0 => self.random.pick(&[20, 63, 100, 184, 250]),
             _ => self.random.below(4),
         };
         for _ in 0..count {
             let category = match count {
-                0..=3 => self.digits(&["1", "2", "62", "63", "5", "05"]),
-                _ => (1 + self.random.below(63)).to_string().into_bytes(),
+                0..=3 => self.category(),
+                _ => (1 + self.random.below(184)).to_string().into_bytes(),
             };
             fields.push(category);
         }
-        let write = self.write_of(fields);
+        let write = self.write_of(fields, &MAPPING_LENGTHS);
         self.emit(&format!("mapping {}", write_hex(&write)));
     }
 
@@ -1307,60 +1362,138 @@ impl Generator<'_> {
     }
 
     /// A level and a set: of a stored mapping, or near one, or any.
-    fn level_and_set(&mut self) -> (u64, u64) {
+    fn level_and_set(&mut self) -> (u64, Words) {
         let mut level = self.random.pick(&[0, 7, 8, 9, 255]);
-        let mut set = self.random.pick(&[0, 2, 1 << 63, (1 << 63) | 2, 1 << 59]);
+        let mut set = self.few_categories();
         if let Some(table) = self.table() {
             if !table.mappings.is_empty() && self.random.chance(60) {
                 let at = self.random.below(table.mappings.len() as u64) as usize;
                 level = u64::from(table.mappings[at].level);
-                set = table.mappings[at].set;
+                set = words_of(&table.mappings[at].set);
             }
         }
-        match self.random.below(14) {
+        match self.random.below(16) {
             0 => {
                 level = self
                     .random
                     .pick(&[256, 257, 1000, 1 << 32, u64::MAX, level + 256])
             }
-            1 => set |= 1,
-            2 => set = self.random.next_number(),
-            3 => set = u64::MAX - 1,
+            1 => self.stray(&mut set),
+            2 => {
+                for word in &mut set {
+                    *word = self.random.next_number();
+                }
+            }
+            3 => set = [u64::MAX, u64::MAX, u64::MAX - STRAY_BITS],
+            4 | 5 => set = self.near_set(set),
             _ => {}
         }
         (level, set)
     }
 
+    /// A set of no, one or a few categories, often at edges.
+    fn few_categories(&mut self) -> Words {
+        let mut set = [0; 3];
+        for _ in 0..self.random.pick(&[0, 1, 1, 2, 2, 3, 5]) {
+            let any = 1 + self.random.below(plain::HIGHEST_CATEGORY);
+            let edge = self.random.pick(&EDGES);
+            let (word, bit) = category_bit(self.random.pick(&[any, edge, edge]));
+            set[word] |= bit;
+        }
+        set
+    }
+
+    /// Bits that are no categories: one of the eight, or some.
+    fn stray(&mut self, set: &mut Words) {
+        set[2] |= match self.random.below(4) {
+            0 => 1 + self.random.below(STRAY_BITS),
+            _ => 1 << self.random.below(8),
+        };
+    }
+
+    /// Another set that is hard to tell from this one. The third word's low bits
+    /// stay, unless words change their places.
+    fn near_set(&mut self, set: Words) -> Words {
+        let mut near = set;
+        let any = 1 + self.random.below(plain::HIGHEST_CATEGORY);
+        let edge = self.random.pick(&EDGES);
+        let (word, bit) = category_bit(self.random.pick(&[any, edge]));
+        match self.random.below(12) {
+            // One bit of one word.
+            0..=3 => near[word] ^= bit,
+            // The same count: a category goes and another comes.
+            4..=6 => {
+                near[word] ^= bit;
+                let has = near[word] & bit != 0;
+                let other = 1 + self.random.below(plain::HIGHEST_CATEGORY);
+                for n in (other..=plain::HIGHEST_CATEGORY).chain(1..other) {
+                    let (at, one) = category_bit(n);
+                    if (at, one) != (word, bit) && (near[at] & one != 0) == has {
+                        near[at] ^= one;
+                        break;
+                    }
+                }
+            }
+            // The same words in another order.
+            7 => near.swap(0, 1),
+            8 => {
+                let two = self.random.below(2) as usize;
+                near.swap(two, 2);
+            }
+            9 => near.rotate_left(1),
+            // A word is missing, or is another's.
+            10 => near[word] = 0,
+            _ => near[word] = near[(word + 1) % 3],
+        }
+        // What was moved to the third word says something there, or not.
+        if self.random.chance(75) && set[2] & STRAY_BITS == 0 {
+            near[2] &= !STRAY_BITS;
+        }
+        near
+    }
+
     fn by_level_call(&mut self) {
         let (level, set) = self.level_and_set();
-        self.emit(&format!("bylevel {level} {set}"));
+        self.emit(&format!("bylevel {level} {}", write_set(&set)));
     }
 
     fn run_call(&mut self) {
         let (level, set) = self.level_and_set();
-        let mut call = format!("run {level} {set}");
         let count = match self.random.below(12) {
             0 => 0,
             1 => self.random.below(200),
             _ => self.random.below(8),
         };
+        self.emit_run(level, set, count, 70);
+    }
+
+    /// A run of so many records; of each its level and its set are, this often of
+    /// a hundred, those that are sought.
+    fn emit_run(&mut self, level: u64, set: Words, count: u64, percent: u64) {
+        let mut call = format!("run {level} {}", write_set(&set));
         for _ in 0..count {
             let label = self
                 .random
                 .pick(&[0, 1, 5, 63, 64, 255, 256, 1 << 32, u64::MAX]);
             let other_level = self.random.pick(&[0, 9, 255, 256, level | 256, u64::MAX]);
-            let record_level = if self.random.chance(70) {
+            let record_level = if self.random.chance(percent.max(70)) {
                 level
             } else {
                 other_level
             };
-            let other_set = self.random.pick(&[0, 1, set | 1, u64::MAX, set ^ 2]);
-            let record_set = if self.random.chance(70) {
-                set
-            } else {
-                other_set
-            };
-            call.push_str(&format!(" {label},{record_level},{record_set}"));
+            let mut record_set = set;
+            if !self.random.chance(percent) {
+                match self.random.below(8) {
+                    0 => record_set = [0; 3],
+                    1 => record_set = [u64::MAX; 3],
+                    2 | 3 => self.stray(&mut record_set),
+                    _ => record_set = self.near_set(set),
+                }
+            }
+            call.push_str(&format!(
+                " {label},{record_level},{}",
+                write_set(&record_set)
+            ));
         }
         self.emit(&call);
     }
@@ -1737,8 +1870,8 @@ impl Generator<'_> {
     }
 
     /// Fields with more blanks before and between than `join` has. Now and then a
-    /// field too few or too many, or a text of about 600 bytes.
-    fn spread(&mut self, mut fields: Vec<Vec<u8>>) -> Vec<u8> {
+    /// field too few or too many, or a text of one of these lengths.
+    fn spread(&mut self, mut fields: Vec<Vec<u8>>, lengths: &[usize]) -> Vec<u8> {
         if self.random.chance(4) {
             fields.pop();
         }
@@ -1754,7 +1887,7 @@ impl Generator<'_> {
         }
         text.extend(self.some_blanks(&[0, 0, 0, 1, 3]));
         if self.random.chance(10) {
-            text = self.pad(text);
+            text = self.pad(text, lengths);
         }
         text
     }
@@ -1762,7 +1895,7 @@ impl Generator<'_> {
     fn place_line(&mut self) -> Vec<u8> {
         let (subject, object) = self.place_pair();
         let access = self.any_access();
-        self.spread(vec![subject, object, access])
+        self.spread(vec![subject, object, access], &LINE_LENGTHS)
     }
 
     /// A few lines; that they are few lets each of them be the first that is
@@ -1812,7 +1945,7 @@ impl Generator<'_> {
             22..=29 => {
                 let (subject, object) = self.place_pair();
                 let fields = vec![subject, object, self.change_access(), self.change_access()];
-                let write = self.spread(fields);
+                let write = self.spread(fields, &LINE_LENGTHS);
                 self.emit(&format!("change {}", write_hex(&write)));
             }
             30..=34 => {
@@ -1837,20 +1970,30 @@ impl Generator<'_> {
                     }
                     fields.push(field);
                 }
-                let write = self.spread(fields);
+                let write = self.spread(fields, &LINE_LENGTHS);
                 self.emit(&format!("override {}", write_hex(&write)));
             }
             41..=46 => {
-                let label = match self.random.below(2) {
-                    0 => self.faulty_label(),
+                let label = match self.random.below(5) {
+                    0 | 1 => self.faulty_label(),
+                    // As long as the write may be.
+                    2 => {
+                        let length = self.random.pick(&[602, 800, 996, 997, 998, 999, 1000]);
+                        let mut label = self.label_of_length(length);
+                        if self.random.chance(60) {
+                            let at = self.fault_place(length);
+                            label[at] = self.bad_byte();
+                        }
+                        label
+                    }
                     _ => self.label(),
                 };
                 let level = self.digits(&["0", "9", "255"]);
                 let mut fields = vec![label, level];
                 for _ in 0..self.random.below(3) {
-                    fields.push(self.digits(&["1", "5", "63"]));
+                    fields.push(self.digits(&["1", "5", "63", "64", "100", "184"]));
                 }
-                let write = self.spread(fields);
+                let write = self.spread(fields, &MAPPING_LENGTHS);
                 self.emit(&format!("mapping {}", write_hex(&write)));
             }
             47..=51 => {
@@ -1878,6 +2021,250 @@ impl Generator<'_> {
                 self.emit_line(&line, &output);
             }
             62 => self.record_call(),
+            _ => self.emit("dump"),
+        }
+        if self.random.chance(8) {
+            self.emit("dump");
+        }
+    }
+
+    // -----------------------------------------------------------------------
+    // Sets that are hard to tell apart
+    // -----------------------------------------------------------------------
+
+    /// Sets each of which is near another.
+    fn make_sets(&mut self) {
+        let any = [
+            self.random.next_number(),
+            self.random.next_number(),
+            self.random.next_number() & !STRAY_BITS,
+        ];
+        let all = [u64::MAX, u64::MAX, u64::MAX - STRAY_BITS];
+        let few = self.few_categories();
+        self.sets = vec![self.random.pick(&[[0; 3], few, few, any, all])];
+        let size = self.random.pick(&[2, 4, 8, 20]);
+        while self.sets.len() < size {
+            let at = self.random.below(self.sets.len() as u64) as usize;
+            let mut near = self.near_set(self.sets[at]);
+            near[2] &= !STRAY_BITS;
+            self.sets.push(near);
+        }
+    }
+
+    fn family_set(&mut self) -> Words {
+        let at = self.random.below(self.sets.len() as u64) as usize;
+        self.sets[at]
+    }
+
+    /// The categories of a set as fields, in some order, some of them with leading
+    /// zeros and some twice.
+    fn written_categories(&mut self, set: Words) -> Vec<Vec<u8>> {
+        let mut fields = Vec::new();
+        let (zeros, repeats) = (
+            self.random.pick(&[0, 20, 100]),
+            self.random.pick(&[0, 0, 30]),
+        );
+        for n in 1..=plain::HIGHEST_CATEGORY {
+            let (word, bit) = category_bit(n);
+            if set[word] & bit == 0 {
+                continue;
+            }
+            let times = 1 + usize::from(self.random.chance(repeats));
+            for _ in 0..times {
+                let width = match self.random.chance(zeros) {
+                    true => self.random.pick(&[2, 3, 3]),
+                    false => 0,
+                };
+                fields.push(format!("{n:0width$}").into_bytes());
+            }
+        }
+        match self.random.below(3) {
+            0 => {}
+            1 => fields.reverse(),
+            _ => {
+                for k in (1..fields.len()).rev() {
+                    let other = self.random.below(k as u64 + 1) as usize;
+                    fields.swap(k, other);
+                }
+            }
+        }
+        fields
+    }
+
+    /// A mapping write of a set of the family, or one at a limit.
+    fn write_family_set(&mut self) {
+        let label = match self.random.below(20) {
+            0 => self.label_of_length(255),
+            1 => self.bad_label(),
+            2..=9 => self.mapped_label(),
+            _ => self.label(),
+        };
+        let level = match self.random.below(12) {
+            0 => self.digits(&["0", "9", "255"]),
+            1 => b"8".to_vec(),
+            _ => b"9".to_vec(),
+        };
+        let mut fields = vec![label, level];
+        let set = self.family_set();
+        fields.extend(self.written_categories(set));
+        if self.random.chance(15) {
+            let odd = [
+                "0", "00", "000", "1", "63", "64", "65", "127", "128", "129", "183", "184", "0184",
+                "185", "186", "192", "193", "255", "256", "999", "1000",
+            ];
+            let category = self.random.pick(&odd).as_bytes().to_vec();
+            let at = 2 + self.random.below(fields.len() as u64 - 1) as usize;
+            fields.insert(at, category);
+        }
+        let mut write = match self.random.chance(60) {
+            true => fields.join(&b' '),
+            false => self.join(&fields),
+        };
+        if self.random.chance(25) {
+            let target = self.random.pick(&[600, 601, 999, 1000, 1000, 1001]);
+            match self.random.below(2) {
+                0 => write = self.pad(write, &[target]),
+                _ => {
+                    // More categories instead of blanks.
+                    while write.len() < target {
+                        let more = 1 + self.random.below(plain::HIGHEST_CATEGORY);
+                        write.extend_from_slice(format!(" {more}").as_bytes());
+                    }
+                    write.truncate(target);
+                }
+            }
+        }
+        self.emit(&format!("mapping {}", write_hex(&write)));
+    }
+
+    /// Mappings that need not have been written: sets of the family for stored
+    /// labels, some of them twice. Behind the count lies what would count, or would
+    /// be damage, if it were larger.
+    fn lend_mappings(&mut self) {
+        let labels = self.random.pick(&[5, 8, 20, 40, 64]);
+        self.fill_labels_to(labels);
+        let labels = self.machine.state.words[raw::LABEL_COUNT];
+        let count = self.random.pick(&[1, 2, 3, 8, 31, 32, 32]);
+        let places = (count + self.random.pick(&[0, 1, 8])).min(32);
+        let twice = self.random.chance(30);
+        for place in 0..places as usize {
+            let label = match twice || place as u64 >= labels {
+                true => self.random.below(labels),
+                false => labels - 1 - place as u64,
+            };
+            let level = self.random.pick(&[9, 9, 9, 8, 255]);
+            let mut set = self.family_set();
+            if place as u64 >= count && self.random.chance(50) {
+                self.stray(&mut set);
+            }
+            let (at, value) = (raw::MAPPING_LABELS + place, write_hex(&[label as u8]));
+            self.emit(&format!("poke entries {at} {value}"));
+            let (at, value) = (raw::LEVELS + place, write_hex(&[level]));
+            self.emit(&format!("poke entries {at} {value}"));
+            for (row, word) in raw::SETS.iter().zip(set) {
+                let index = row + place;
+                self.emit(&format!("poke words {index} {word}"));
+            }
+        }
+        self.emit(&format!("poke words {} {count}", raw::MAPPING_COUNT));
+    }
+
+    /// Mapping writes, look-ups both ways and runs over sets that are hard to tell
+    /// apart, in a table that is fresh, grown, lent, full or damaged.
+    fn categories_episode(&mut self) {
+        self.emit("fresh");
+        self.emit("freshloader");
+        self.pending.clear();
+        self.make_pool();
+        self.make_sets();
+        self.new_percent = 5;
+        match self.random.below(12) {
+            0 | 1 => {}
+            2..=5 => self.lend_mappings(),
+            6..=8 => {
+                for _ in 0..self.random.pick(&[2, 8, 20]) {
+                    self.write_family_set();
+                }
+            }
+            9 => {
+                let target = self.random.pick(&[40, 64]);
+                self.fill_labels_to(target);
+                let target = self.random.pick(&[31, 32]);
+                self.fill_mappings_to(target);
+            }
+            _ => {
+                self.lend_mappings();
+                if self.random.chance(15) {
+                    let size = self.random.pick(&[0, 4, 36, 68, 99, 101]);
+                    self.emit(&format!("resize words {size}"));
+                    for _ in 0..8 {
+                        self.category_call();
+                    }
+                    return;
+                }
+                for _ in 0..1 + self.random.below(4) {
+                    let count = self.machine.state.words[raw::MAPPING_COUNT].min(32);
+                    let place = match self.random.below(4) {
+                        0 => 0,
+                        1 => count.saturating_sub(1),
+                        2 => count.min(31),
+                        _ => self.random.below(count.max(1)),
+                    };
+                    let undo = self.damage_set(place as usize);
+                    for _ in 0..4 {
+                        self.category_call();
+                    }
+                    if self.random.chance(20) {
+                        self.every_call();
+                    }
+                    if self.random.chance(80) {
+                        for call in undo {
+                            self.emit(&call);
+                        }
+                    }
+                }
+            }
+        }
+        self.emit("dump");
+        for _ in 0..20 + self.random.below(40) {
+            self.category_call();
+        }
+        self.emit("dump");
+    }
+
+    /// A level and a set to seek: of the family, of the table, or near one.
+    fn sought(&mut self) -> (u64, Words) {
+        if self.random.chance(40) {
+            return self.level_and_set();
+        }
+        let mut set = self.family_set();
+        match self.random.below(10) {
+            0 => self.stray(&mut set),
+            1 | 2 => set = self.near_set(set),
+            _ => {}
+        }
+        (self.random.pick(&[9, 9, 9, 9, 8, 255, 256]), set)
+    }
+
+    fn category_call(&mut self) {
+        match self.random.below(40) {
+            0..=12 => self.write_family_set(),
+            13 | 14 => self.mapping_call(),
+            15..=20 => {
+                let label = self.mapped_label();
+                self.emit(&format!("bylabel {}", write_hex(&label)));
+            }
+            21..=27 => {
+                let (level, set) = self.sought();
+                self.emit(&format!("bylevel {level} {}", write_set(&set)));
+            }
+            28..=36 => {
+                let (level, set) = self.sought();
+                let count = self.random.pick(&[0, 1, 1, 2, 3, 5, 8, 20]);
+                let percent = self.random.pick(&[0, 10, 30, 60]);
+                self.emit_run(level, set, count, percent);
+            }
+            37 => self.any_call(),
             _ => self.emit("dump"),
         }
         if self.random.chance(8) {
@@ -2045,7 +2432,7 @@ impl Generator<'_> {
             }
             16 | 17 => {
                 let line = self.good_fixed_line();
-                self.pad(line)
+                self.pad(line, &LINE_LENGTHS)
             }
             18 => {
                 let label = self.label();

@@ -6,7 +6,7 @@
 //! |---------------|-------------|---------------|
 //! | `label_store` | 16384 bytes | 64 places of 256 bytes: the label's length, then its bytes |
 //! | `entries`     | 840 bytes   | rule subjects 0..256, rule objects 256..512, rule modes 512..768, mapping labels 768..800, mapping levels 800..832, override labels 832..840 |
-//! | `words`       | 36 words    | counts of labels, rules, mappings, override labels 0..4, category sets of the mappings 4..36 |
+//! | `words`       | 100 words   | counts of labels, rules, mappings, override labels 0..4, of the mappings' sets the first words 4..36, the second 36..68, the third 68..100 |
 //! | `line`        | 600 bytes   | the kept line |
 //! | `numbers`     | 8 numbers   | kept, lines, accepted, skipped, refused, first line, first reason, first place |
 //!
@@ -18,9 +18,9 @@
 //! bytes again, and every other byte stays.
 
 use crate::plain::{
-    self, limited, search_run, Answer, Found, Loader, Mapping, Record, Refusal, Report, Table,
-    LABEL_PLACES, LINE_LIMIT, MAPPING_PLACES, OVERRIDE_PLACES, RULE_LETTERS, RULE_PLACES,
-    UNKNOWN_CATEGORY_BIT,
+    self, has_unknown_bit, limited, search_run, set_of, words_of, Answer, Found, Loader, Mapping,
+    Record, Refusal, Report, Table, Words, LABEL_PLACES, LINE_LIMIT, MAPPING_PLACES,
+    OVERRIDE_PLACES, RULE_LETTERS, RULE_PLACES,
 };
 
 /// A label's place: one byte of length and up to 255 bytes of label.
@@ -39,8 +39,9 @@ pub const LABEL_COUNT: usize = 0;
 pub const RULE_COUNT: usize = 1;
 pub const MAPPING_COUNT: usize = 2;
 pub const OVERRIDE_COUNT: usize = 3;
-pub const SETS: usize = 4;
-pub const WORDS_SIZE: usize = 36;
+/// Where the first, the second and the third words of the mappings' sets begin.
+pub const SETS: [usize; 3] = [4, 36, 68];
+pub const WORDS_SIZE: usize = 100;
 
 pub const KEPT: usize = 0;
 pub const LINES: usize = 1;
@@ -139,7 +140,7 @@ pub fn raw_is_damaged(state: &RawState) -> bool {
             return true;
         }
         // "an unknown ... category bit"
-        if state.words[SETS + k] & UNKNOWN_CATEGORY_BIT != 0 {
+        if has_unknown_bit(&stored_words(state, k)) {
             return true;
         }
     }
@@ -184,10 +185,13 @@ pub fn table_of(state: &RawState) -> Result<Table, Refusal> {
         ));
     }
     for k in 0..state.words[MAPPING_COUNT] as usize {
+        let Some(set) = set_of(&stored_words(state, k)) else {
+            return Err(Refusal::Damaged);
+        };
         table.mappings.push(Mapping {
             label: usize::from(state.entries[MAPPING_LABELS + k]),
             level: state.entries[LEVELS + k],
-            set: state.words[SETS + k],
+            set,
         });
     }
     for k in 0..state.words[OVERRIDE_COUNT] as usize {
@@ -203,6 +207,11 @@ fn stored_label(state: &RawState, k: usize) -> &[u8] {
     let place = k * PLACE;
     let length = usize::from(state.label_store[place]);
     &state.label_store[place + 1..place + 1 + length]
+}
+
+/// The three words of the set of mapping k.
+fn stored_words(state: &RawState, k: usize) -> Words {
+    SETS.map(|row| state.words[row + k])
 }
 
 /// The model of an undamaged lent loader; else refusal 0. Of a line that is
@@ -248,7 +257,9 @@ pub fn write_table(table: &Table, state: &mut RawState) {
     for (k, mapping) in table.mappings.iter().enumerate() {
         state.entries[MAPPING_LABELS + k] = mapping.label as u8;
         state.entries[LEVELS + k] = mapping.level;
-        state.words[SETS + k] = mapping.set;
+        for (row, word) in SETS.iter().zip(words_of(&mapping.set)) {
+            state.words[row + k] = word;
+        }
     }
     for (k, label) in table.override_list.iter().enumerate() {
         state.entries[OVERRIDES + k] = *label as u8;
@@ -366,12 +377,12 @@ pub fn by_label(state: &RawState, label: &[u8]) -> Result<Option<Found>, Refusal
 }
 
 /// A mapping looked up by level and set. Refusals 0 9.
-pub fn by_level(state: &RawState, level: u64, set: u64) -> Result<Option<usize>, Refusal> {
+pub fn by_level(state: &RawState, level: u64, set: &Words) -> Result<Option<usize>, Refusal> {
     table_of(state)?.by_level(level, set)
 }
 
 /// The search of a lent run. Refusal 9; it takes no state, so never 0.
-pub fn by_run(run: &[Record], level: u64, set: u64) -> Result<Option<u64>, Refusal> {
+pub fn by_run(run: &[Record], level: u64, set: &Words) -> Result<Option<u64>, Refusal> {
     search_run(run, level, set)
 }
 

@@ -20,7 +20,7 @@
 //! | `mapping HEX` | `done`, `refused 3 PLACE` or `refused N` |
 //! | `bylabel HEX` | `mapping LEVEL SET COUNT`, `none`, `refused 3 PLACE` or `refused N` |
 //! | `bylevel LEVEL SET` | `label NUMBER`, `none` or `refused N` |
-//! | `run LEVEL SET n,l,s n,l,s ...` | `label NUMBER`, `none` or `refused N` |
+//! | `run LEVEL SET n,l,SET n,l,SET ...` | `label NUMBER`, `none` or `refused N` |
 //! | `question SUBJECT OBJECT REQUEST 0` or `1` | `granted R`, `granted 6 b`, `denied R`, `override R`, `refused 3 PLACE` or `refused N` |
 //! | `list K HEX` | `length N HEX` or `refused N HEX`: the whole buffer afterwards |
 //! | `label K` | `done HEX` or `refused N -` |
@@ -34,6 +34,8 @@
 //! | `resize labels N`, `entries`, `words`, `line` | `done`: cut at the end, or zeros added |
 //! | `dump` | `dump labels H entries H words H line H counts L R M O loader K L A S R F N P` |
 //!
+//! SET is the three words of a set with `:` between.
+//!
 //! PLACE is where the first bad byte of the first bad label stands, from 0. The
 //! two calls for old records have none: their 3 is `refused 3 HEX`.
 //!
@@ -42,7 +44,7 @@
 //! is written `-`. Before the first call there are a fresh table and a fresh
 //! loader.
 
-use crate::plain::{Answer, Record, Refusal};
+use crate::plain::{words_of, Answer, Record, Refusal, Words};
 use crate::program::{answer_text, report_text};
 use crate::raw::{self, RawLoader, RawState};
 
@@ -121,7 +123,8 @@ impl Machine {
                 let label = read_hex(label)?;
                 Some(match raw::by_label(&self.state, &label) {
                     Ok(Some(found)) => {
-                        format!("mapping {} {} {}", found.level, found.set, found.count)
+                        let set = write_set(&words_of(&found.set));
+                        format!("mapping {} {set} {}", found.level, found.count)
                     }
                     Ok(None) => "none".to_string(),
                     Err(refusal) => refused_text(refusal),
@@ -129,8 +132,8 @@ impl Machine {
             }
             ["bylevel", level, set] => {
                 let level = read_u64(level)?;
-                let set = read_u64(set)?;
-                Some(match raw::by_level(&self.state, level, set) {
+                let set = read_set(set)?;
+                Some(match raw::by_level(&self.state, level, &set) {
                     Ok(Some(number)) => format!("label {number}"),
                     Ok(None) => "none".to_string(),
                     Err(refusal) => refused_text(refusal),
@@ -138,12 +141,12 @@ impl Machine {
             }
             ["run", level, set, records @ ..] => {
                 let level = read_u64(level)?;
-                let set = read_u64(set)?;
+                let set = read_set(set)?;
                 let mut run = Vec::new();
                 for record in records {
                     run.push(read_record(record)?);
                 }
-                Some(match raw::by_run(&run, level, set) {
+                Some(match raw::by_run(&run, level, &set) {
                     Ok(Some(number)) => format!("label {number}"),
                     Ok(None) => "none".to_string(),
                     Err(refusal) => refused_text(refusal),
@@ -308,7 +311,25 @@ fn read_u64(word: &str) -> Option<u64> {
     word.parse().ok()
 }
 
-/// `n,l,s`: a label number, a level and a set.
+/// `A:B:C`: the three words of a set.
+fn read_set(word: &str) -> Option<Words> {
+    let numbers: Vec<&str> = word.split(':').collect();
+    if numbers.len() != 3 {
+        return None;
+    }
+    Some([
+        read_u64(numbers[0])?,
+        read_u64(numbers[1])?,
+        read_u64(numbers[2])?,
+    ])
+}
+
+/// The three words of a set, with `:` between.
+pub fn write_set(set: &Words) -> String {
+    format!("{}:{}:{}", set[0], set[1], set[2])
+}
+
+/// `n,l,A:B:C`: a label number, a level and a set.
 fn read_record(word: &str) -> Option<Record> {
     let numbers: Vec<&str> = word.split(',').collect();
     if numbers.len() != 3 {
@@ -317,7 +338,7 @@ fn read_record(word: &str) -> Option<Record> {
     Some(Record {
         label: read_u64(numbers[0])?,
         level: read_u64(numbers[1])?,
-        set: read_u64(numbers[2])?,
+        set: read_set(numbers[2])?,
     })
 }
 

@@ -173,15 +173,15 @@ fn labels_that_the_kernel_kept_whole() {
 /// The level and the categories in the option bytes that a kernel sent: ten
 /// bytes of head, the level the last of them, then the categories from 0 on,
 /// the highest bit first.
-fn level_and_set(option: &str) -> (u8, u64) {
+fn level_and_set(option: &str) -> (u8, Categories) {
     let bytes = second::script::read_hex(option).unwrap();
     let length = usize::from(bytes[1]);
-    let mut set = 0;
+    let mut set = Categories::new();
     for (k, byte) in bytes[10..length].iter().enumerate() {
         for bit in 0..8 {
             let category = k * 8 + bit;
             if byte & (0x80 >> bit) != 0 {
-                set |= category_bit(category as u64);
+                set.insert(category as u64);
             }
         }
     }
@@ -208,6 +208,22 @@ fn mappings_as_the_kernel_sent_them() {
         ("6", "63 1", "861200000003010c000640000000000000010000"),
         ("250", "2 8 10", "860c00000003010600fa20a0"),
         ("12", "1 2 3", "860b000000030105000c7000"),
+        ("3", "79", "861400000003010e000300000000000000000001"),
+        (
+            "3",
+            "80",
+            "861500000003010f00030000000000000000000080000000",
+        ),
+        (
+            "7",
+            "100 184",
+            "862200000003011c00070000000000000000000000000800000000000000000000800000",
+        ),
+        (
+            "9",
+            "184",
+            "862200000003011c00090000000000000000000000000000000000000000000000800000",
+        ),
     ];
     for (level, categories, option) in recorded {
         let mut table = Table::fresh();
@@ -216,8 +232,8 @@ fn mappings_as_the_kernel_sent_them() {
         let found = table.by_label(b"Map").unwrap().unwrap();
         assert_eq!((found.level, found.set), level_and_set(option), "{write}");
     }
-    // Categories that the kernel takes and the paper does not.
-    for categories in ["0", "0 3", "64", "79", "80", "100 184"] {
+    // A category that the kernel takes, and ignores, and the papers do not.
+    for categories in ["0", "0 3"] {
         let mut table = Table::fresh();
         let write = format!("Map 3 {categories}");
         assert_eq!(
@@ -327,10 +343,8 @@ fn whole_recording_of_mappings() {
         let answer = table.mapping(write.as_bytes());
         let known = categories
             .iter()
-            .all(|c| (1..=63).contains(&c.parse::<u32>().unwrap()));
-        if write.len() > 600 {
-            assert_eq!(answer, Err(Refusal::TooLong));
-        } else if !known {
+            .all(|c| (1..=184).contains(&c.parse::<u32>().unwrap()));
+        if !known {
             assert_eq!(answer, Err(Refusal::BadLevelOrCategory));
         } else {
             assert_eq!(answer, Ok(()));
@@ -339,5 +353,5 @@ fn whole_recording_of_mappings() {
             seen += 1;
         }
     }
-    assert_eq!(seen, 13);
+    assert_eq!(seen, 18);
 }

@@ -55,8 +55,8 @@ fn assert_every_call_gets_0(state: &RawState) {
         Answer::Refused(Refusal::Damaged)
     );
     assert_eq!(raw::by_label(&copy, b"A"), Err(Refusal::Damaged));
-    assert_eq!(raw::by_level(&copy, 9, 2), Err(Refusal::Damaged));
-    assert_eq!(raw::by_level(&copy, 256, 1), Err(Refusal::Damaged));
+    assert_eq!(raw::by_level(&copy, 9, &[2, 0, 0]), Err(Refusal::Damaged));
+    assert_eq!(raw::by_level(&copy, 256, &[0, 0, 1]), Err(Refusal::Damaged));
     let mut buffer = [7; 40];
     for k in [0, 1, 999, u64::MAX] {
         assert_eq!(raw::list(&copy, k, &mut buffer), Err(Refusal::Damaged));
@@ -68,7 +68,7 @@ fn assert_every_call_gets_0(state: &RawState) {
     assert_eq!(&copy, state);
     assert_eq!(loader, loader_before);
     // "A run is no part of the state and never gets 0."
-    assert_eq!(raw::by_run(&[], 9, 2), Ok(None));
+    assert_eq!(raw::by_run(&[], 9, &[2, 0, 0]), Ok(None));
 }
 
 #[test]
@@ -83,7 +83,7 @@ fn a_part_not_of_its_full_size() {
         state.entries.resize(size, 0);
         assert_every_call_gets_0(&state);
     }
-    for size in [0, 3, 4, 35, 37] {
+    for size in [0, 3, 4, 36, 68, 99, 101] {
         let mut state = some_state();
         state.words.resize(size, 0);
         assert_every_call_gets_0(&state);
@@ -155,17 +155,23 @@ fn an_unknown_mode_bit() {
 #[test]
 fn an_unknown_category_bit() {
     for k in 0..2 {
-        for set in [1, 3, u64::MAX] {
+        for word in [1, 2, 4, 8, 16, 32, 64, 128, 257, u64::MAX] {
             let mut state = some_state();
-            state.words[SETS + k] = set;
+            state.words[SETS[2] + k] = word;
             assert_every_call_gets_0(&state);
         }
+        // All other bits are categories.
         let mut state = some_state();
-        state.words[SETS + k] = u64::MAX - 1;
+        state.words[SETS[0] + k] = u64::MAX;
+        state.words[SETS[1] + k] = u64::MAX;
+        state.words[SETS[2] + k] = u64::MAX - 255;
         assert!(!raw_is_damaged(&state));
     }
+    // Behind the count nothing matters.
     let mut state = some_state();
-    state.words[SETS + 2] = u64::MAX;
+    for row in SETS {
+        state.words[row + 2] = u64::MAX;
+    }
     assert!(!raw_is_damaged(&state));
 }
 
@@ -260,10 +266,11 @@ fn a_label_stored_twice_means_its_first_number() {
     assert!(!raw_is_damaged(&state));
     assert_eq!(
         raw::by_label(&state, b"A").unwrap().unwrap().set,
-        (1 << 63) | 2
+        Categories::from([1, 63])
     );
-    assert_eq!(raw::by_level(&state, 9, 1 << 62), Ok(None));
-    assert_eq!(raw::by_level(&state, 9, (1 << 63) | 2), Ok(Some(5)));
+    assert_eq!(raw::by_level(&state, 9, &[1 << 62, 0, 0]), Ok(None));
+    let one_and_63 = [(1 << 63) | 2, 0, 0];
+    assert_eq!(raw::by_level(&state, 9, &one_and_63), Ok(Some(5)));
     assert_eq!(
         raw::question(&state, b"A", b"B", b"w", true),
         common::denied(7)
@@ -309,11 +316,12 @@ fn a_mapping_stored_twice() {
     // The second mapping is now A's too.
     state.entries[MAPPING_LABELS + 1] = 5;
     assert_eq!(raw::by_label(&state, b"A").unwrap().unwrap().count, 2);
-    assert_eq!(raw::by_level(&state, 9, 1 << 62), Ok(None));
-    assert_eq!(raw::by_level(&state, 9, (1 << 63) | 2), Ok(Some(5)));
+    assert_eq!(raw::by_level(&state, 9, &[1 << 62, 0, 0]), Ok(None));
+    let one_and_63 = [(1 << 63) | 2, 0, 0];
+    assert_eq!(raw::by_level(&state, 9, &one_and_63), Ok(Some(5)));
     raw::mapping(&mut state, b"A 1").unwrap();
     assert_eq!(&state.entries[LEVELS..LEVELS + 2], [1, 9]);
-    assert_eq!(&state.words[SETS..SETS + 2], [0, 1 << 62]);
+    assert_eq!(&state.words[SETS[0]..SETS[0] + 2], [0, 1 << 62]);
     assert_eq!(state.words[MAPPING_COUNT], 2);
 }
 
@@ -373,10 +381,12 @@ fn an_accepted_change_writes_its_entry_and_the_counts() {
 fn an_accepted_mapping_writes_its_entry_and_the_counts() {
     let mut state = with_unused_filled(&some_state());
     let mut expected = state.clone();
-    raw::mapping(&mut state, b"B 7 63").unwrap();
+    raw::mapping(&mut state, b"B 7 63 128 184").unwrap();
     expected.entries[MAPPING_LABELS + 2] = 6;
     expected.entries[LEVELS + 2] = 7;
-    expected.words[SETS + 2] = 2;
+    expected.words[4 + 2] = 2;
+    expected.words[36 + 2] = 1;
+    expected.words[68 + 2] = 256;
     expected.words[MAPPING_COUNT] = 3;
     assert_eq!(state, expected);
 }
@@ -403,7 +413,7 @@ fn a_refusal_leaves_every_byte() {
     }
     assert!(raw::revoke(&mut copy, b"A ").is_err());
     assert!(raw::override_write(&mut copy, b"New /").is_err());
-    assert!(raw::mapping(&mut copy, b"New 1 64").is_err());
+    assert!(raw::mapping(&mut copy, b"New 1 185").is_err());
     assert_eq!(copy, state);
 }
 
@@ -514,7 +524,7 @@ fn a_fresh_table_in_memory_of_any_contents() {
     let mut state = RawState {
         label_store: vec![0xaa; 16384],
         entries: vec![0xbb; 840],
-        words: vec![u64::MAX; 36],
+        words: vec![u64::MAX; 100],
     };
     raw::fresh_table(&mut state).unwrap();
     assert_eq!(raw::table_of(&state).unwrap(), Table::fresh());
@@ -536,7 +546,7 @@ fn a_fresh_table_in_memory_of_any_contents() {
                 (0, true) => state.label_store.push(0),
                 (1, false) => state.entries.truncate(839),
                 (1, true) => state.entries.push(0),
-                (_, false) => state.words.truncate(35),
+                (_, false) => state.words.truncate(99),
                 (_, true) => state.words.push(0),
             }
             let before = state.clone();

@@ -281,19 +281,19 @@ fn mapping() {
     table.mapping(b"V 9").unwrap();
     table.mapping(b"W 255 63 1 63 001").unwrap();
     table.mapping(b"V 000 05").unwrap();
-    let five = 1u64 << 59;
+    let five = Categories::from([5]);
     assert_eq!(
         table.mappings,
         vec![
             Mapping {
                 label: 5,
                 level: 0,
-                set: five
+                set: five.clone()
             },
             Mapping {
                 label: 6,
                 level: 255,
-                set: (1 << 63) | 2
+                set: Categories::from([1, 63])
             },
         ]
     );
@@ -306,21 +306,28 @@ fn mapping() {
     assert_eq!(table.by_label(b"_"), Ok(None));
     // All categories.
     let mut all = b"U 1".to_vec();
-    for category in 1..=63 {
+    for category in 1..=184 {
         all.extend_from_slice(format!(" {category}").as_bytes());
     }
     table.mapping(&all).unwrap();
     let found = table.by_label(b"U").unwrap().unwrap();
-    assert_eq!((found.set, found.count), (u64::MAX - 1, 63));
+    assert_eq!(found.count, 184);
+    assert_eq!(words_of(&found.set), [u64::MAX, u64::MAX, u64::MAX - 255]);
 }
 
 #[test]
 fn a_set_is_counted_in_categories() {
-    for category in 1..=63 {
+    for category in 1..=184u64 {
         let mut table = Table::fresh();
         table.mapping(format!("V 1 {category}").as_bytes()).unwrap();
         let found = table.by_label(b"V").unwrap().unwrap();
-        assert_eq!(found.set, 1 << (64 - category));
+        let words = match category {
+            1..=64 => [1 << (64 - category), 0, 0],
+            65..=128 => [0, 1 << (128 - category), 0],
+            _ => [0, 0, 1 << (192 - category)],
+        };
+        assert_eq!(words_of(&found.set), words);
+        assert_eq!(set_of(&words), Some(found.set));
         assert_eq!(found.count, 1);
     }
 }
@@ -331,49 +338,51 @@ fn look_up_by_level_and_set() {
     for write in ["A 1", "B 9 1", "C 9 2", "A 9 1", "_ 3"] {
         table.mapping(write.as_bytes()).unwrap();
     }
-    let one = 1u64 << 63;
+    let (none, one, two) = ([0; 3], [1 << 63, 0, 0], [1 << 62, 0, 0]);
     // The lowest label number, not the first mapping.
-    assert_eq!(table.by_level(9, one), Ok(Some(5)));
+    assert_eq!(table.by_level(9, &one), Ok(Some(5)));
     table.mapping(b"A 8 1").unwrap();
-    assert_eq!(table.by_level(9, one), Ok(Some(6)));
-    assert_eq!(table.by_level(9, one >> 1), Ok(Some(7)));
-    assert_eq!(table.by_level(3, 0), Ok(Some(0)));
-    assert_eq!(table.by_level(9, 0), Ok(None));
-    assert_eq!(table.by_level(1, 0), Ok(None));
+    assert_eq!(table.by_level(9, &one), Ok(Some(6)));
+    assert_eq!(table.by_level(9, &two), Ok(Some(7)));
+    assert_eq!(table.by_level(3, &none), Ok(Some(0)));
+    assert_eq!(table.by_level(9, &none), Ok(None));
+    assert_eq!(table.by_level(1, &none), Ok(None));
     table.mapping(b"^ 9 1").unwrap();
-    assert_eq!(table.by_level(9, one), Ok(Some(1)));
+    assert_eq!(table.by_level(9, &one), Ok(Some(1)));
     assert_eq!(table.mappings.last().unwrap().label, 1);
 }
 
 #[test]
 fn search_of_a_run() {
     let record = |label, level, set| Record { label, level, set };
+    let (none, two, three) = ([0; 3], [2, 0, 0], [2, 0, 1]);
     let run = [
-        record(200, 9, 2),
-        record(70, 9, 2),
-        record(3, 9, 4),
-        record(3, 8, 2),
-        record(71, 9, 2),
-        record(0, 9, 3),
+        record(200, 9, two),
+        record(70, 9, two),
+        record(3, 9, [4, 0, 0]),
+        record(3, 8, two),
+        record(71, 9, two),
+        record(0, 9, three),
     ];
-    assert_eq!(search_run(&run, 9, 2), Ok(Some(70)));
-    assert_eq!(search_run(&run, 9, 4), Ok(Some(3)));
-    assert_eq!(search_run(&run, 7, 2), Ok(None));
-    assert_eq!(search_run(&[], 7, 2), Ok(None));
-    assert_eq!(search_run(&run[..1], 9, 2), Ok(Some(200)));
-    // A record's set may hold the bit that is no category; no look-up may.
-    assert_eq!(search_run(&run, 9, 3), Err(Refusal::BadLevelOrCategory));
-    assert_eq!(search_run(&[], 256, 0), Err(Refusal::BadLevelOrCategory));
+    assert_eq!(search_run(&run, 9, &two), Ok(Some(70)));
+    assert_eq!(search_run(&run, 9, &[4, 0, 0]), Ok(Some(3)));
+    assert_eq!(search_run(&run, 7, &two), Ok(None));
+    assert_eq!(search_run(&[], 7, &two), Ok(None));
+    assert_eq!(search_run(&run[..1], 9, &two), Ok(Some(200)));
+    // A record's set may hold a bit that is no category; no look-up may.
+    let bad = Err(Refusal::BadLevelOrCategory);
+    assert_eq!(search_run(&run, 9, &three), bad);
+    assert_eq!(search_run(&[], 256, &none), bad);
     // Many records.
-    let mut long = vec![record(9, 1, 0); 5000];
-    long.push(record(8, 1, 0));
-    assert_eq!(search_run(&long, 1, 0), Ok(Some(8)));
+    let mut long = vec![record(9, 1, none); 5000];
+    long.push(record(8, 1, none));
+    assert_eq!(search_run(&long, 1, &none), Ok(Some(8)));
 }
 
 #[test]
 fn on_a_grown_table_both_searches_agree() {
     let mut table = Table::fresh();
-    for write in ["B 9 1", "A 9 1", "C 1", "_ 9 1", "D 1", "A 1"] {
+    for write in ["B 9 1", "A 9 184", "C 1", "_ 9 1", "D 1", "A 1", "E 9 65"] {
         table.mapping(write.as_bytes()).unwrap();
     }
     let run: Vec<Record> = table
@@ -382,13 +391,19 @@ fn on_a_grown_table_both_searches_agree() {
         .map(|m| Record {
             label: m.label as u64,
             level: u64::from(m.level),
-            set: m.set,
+            set: words_of(&m.set),
         })
         .collect();
     for level in [0, 1, 9, 255, 256] {
-        for set in [0, 1, 1 << 63] {
-            let in_table = table.by_level(level, set).map(|n| n.map(|n| n as u64));
-            assert_eq!(in_table, search_run(&run, level, set));
+        for set in [
+            [0; 3],
+            [0, 0, 1],
+            [1 << 63, 0, 0],
+            [0, 1 << 63, 0],
+            [0, 0, 256],
+        ] {
+            let in_table = table.by_level(level, &set).map(|n| n.map(|n| n as u64));
+            assert_eq!(in_table, search_run(&run, level, &set));
         }
     }
 }
@@ -527,7 +542,7 @@ fn p11_and_p12() {
     table.mapping(b"Vault7 9 1 63").unwrap(); // P12
     let found = Found {
         level: 9,
-        set: category_bit(1) | category_bit(63),
+        set: Categories::from([1, 63]),
         count: 2,
     };
     assert_eq!(table.by_label(b"Vault7"), Ok(Some(found)));
@@ -594,9 +609,9 @@ fn with_256_rules() {
 }
 
 #[test]
-fn categories_0_and_64() {
+fn categories_0_and_185() {
     let mut table = Table::fresh();
-    for write in ["V 1 0", "V 1 64", "V 1 000", "V 1 1 64", "V 1 999"] {
+    for write in ["V 1 0", "V 1 185", "V 1 000", "V 1 1 185", "V 1 999"] {
         assert_eq!(
             table.mapping(write.as_bytes()),
             Err(Refusal::BadLevelOrCategory),
@@ -605,7 +620,8 @@ fn categories_0_and_64() {
     }
     assert_eq!(table, Table::fresh());
     table.mapping(b"V 1 1").unwrap();
-    table.mapping(b"V 1 63").unwrap();
+    table.mapping(b"V 1 64").unwrap();
+    table.mapping(b"V 1 184").unwrap();
 }
 
 // --- Ways to get it nearly right --------------------------------------------

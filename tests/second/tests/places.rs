@@ -213,7 +213,7 @@ fn beside_other_reasons_there_is_no_place() {
     assert_eq!(change(b"A B/ r"), Refusal::WrongFields);
     assert_eq!(change(b"A B/ r r r"), Refusal::WrongFields);
     assert_eq!(mapping(b"A/"), Refusal::WrongFields);
-    assert_eq!(mapping(&joined(&[b"A/ 9", &[b' '; 597]])), Refusal::TooLong);
+    assert_eq!(mapping(&joined(&[b"A/ 9", &[b' '; 997]])), Refusal::TooLong);
     assert_eq!(overrides(&label(601, &[(0, b'/')])), Refusal::TooLong);
     for refusal in [
         Refusal::Damaged,
@@ -259,6 +259,11 @@ fn mappings() {
     assert_eq!(mapping(b" \tV/ 256"), bad(3));
     assert_eq!(mapping(b"- 9"), bad(0));
     assert_eq!(mapping(&joined(&[b" ", &label(256, &[]), b" 9"])), bad(256));
+    // In a write of over 600 bytes too, up to 1,000.
+    assert_eq!(mapping(&joined(&[b"A/ 9", &[b' '; 996]])), bad(1));
+    assert_eq!(mapping(&joined(&[&[b' '; 998], b"/ 9"])), Refusal::TooLong);
+    assert_eq!(mapping(&joined(&[&[b' '; 997], b"/ 9"])), bad(997));
+    assert_eq!(mapping(&joined(&[&label(998, &[]), b" 9"])), bad(255));
 }
 
 #[test]

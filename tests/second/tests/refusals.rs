@@ -294,8 +294,8 @@ fn a_refused_override_write_keeps_the_list() {
 fn mapping() {
     let fresh = Table::fresh();
     let mut copy = fresh.clone();
-    assert_eq!(copy.mapping(&padded(b"V 1", 600)), Ok(()));
-    assert_eq!(refused_mapping(&fresh, &padded(b"V 1", 601)), 1);
+    assert_eq!(copy.mapping(&padded(b"V 1", 1000)), Ok(()));
+    assert_eq!(refused_mapping(&fresh, &padded(b"V 1", 1001)), 1);
     for write in ["", " ", "V", " V "] {
         assert_eq!(refused_mapping(&fresh, write.as_bytes()), 2, "{write:?}");
     }
@@ -315,7 +315,9 @@ fn mapping() {
         "V 1\n",
         "V \n",
         "V 1 0",
-        "V 1 64",
+        "V 1 185",
+        "V 1 256",
+        "V 1 0184",
         "V 1 0001",
         "V 1 1 x",
         "V 1 -",
@@ -339,7 +341,7 @@ fn mapping() {
         Mapping {
             label: 0,
             level: 255,
-            set: 2
+            set: Categories::from([63])
         }
     );
 }
@@ -348,13 +350,13 @@ fn mapping() {
 fn mapping_neighbours() {
     let fresh = Table::fresh();
     // 1 before 2
-    assert_eq!(refused_mapping(&fresh, &padded(b"V", 601)), 1);
-    assert_eq!(refused_mapping(&fresh, &padded(b"", 601)), 1);
+    assert_eq!(refused_mapping(&fresh, &padded(b"V", 1001)), 1);
+    assert_eq!(refused_mapping(&fresh, &padded(b"", 1001)), 1);
     // 2 before 3
     assert_eq!(refused_mapping(&fresh, b"V/"), 2);
     // 3 before 9
     assert_eq!(refused_mapping(&fresh, b"V/ 256"), 3);
-    assert_eq!(refused_mapping(&fresh, b"V/ 1 64"), 3);
+    assert_eq!(refused_mapping(&fresh, b"V/ 1 185"), 3);
     // 9 before 6
     assert_eq!(refused_mapping(&full_of_labels(), b"New 256"), 9);
     assert_eq!(refused_mapping(&full_of_labels(), b"New 1 0"), 9);
@@ -400,18 +402,28 @@ fn by_label() {
 #[test]
 fn by_level_and_run() {
     let table = Table::fresh();
-    for (level, set) in [(256, 0), (u64::MAX, 0), (0, 1), (0, u64::MAX), (256, 1)] {
-        assert_eq!(table.by_level(level, set), Err(Refusal::BadLevelOrCategory));
+    let bad = Err(Refusal::BadLevelOrCategory);
+    let none = [0; 3];
+    for (level, set) in [
+        (256, none),
+        (u64::MAX, none),
+        (0, [0, 0, 1]),
+        (0, [0, 0, 128]),
+        (0, [u64::MAX; 3]),
+        (256, [0, 0, 1]),
+    ] {
+        assert_eq!(table.by_level(level, &set), bad);
         assert_eq!(
-            search_run(&[], level, set),
+            search_run(&[], level, &set),
             Err(Refusal::BadLevelOrCategory)
         );
     }
-    assert_eq!(table.by_level(255, u64::MAX - 1), Ok(None));
+    let all = [u64::MAX, u64::MAX, u64::MAX - 255];
+    assert_eq!(table.by_level(255, &all), Ok(None));
     // A level is not cut to a byte.
     let mut table = Table::fresh();
     table.mapping(b"V 0").unwrap();
-    assert_eq!(table.by_level(256, 0), Err(Refusal::BadLevelOrCategory));
+    assert_eq!(table.by_level(256, &none), bad);
 }
 
 // --- question 3 8 ---------------------------------------------------------------------

@@ -62,7 +62,7 @@ fn every_form() {
         ("override 2d", "done"),
         ("override -", "refused 2"),
         (&mapping, "done"),
-        (&by_label, "mapping 9 9223372036854775810 2"),
+        (&by_label, "mapping 9 9223372036854775810:0:0 2"),
         (&unmapped, "none"),
         ("bylabel -", "refused 3 0"),
         ("bylabel =A/", "refused 3 1"),
@@ -77,12 +77,18 @@ fn every_form() {
         ("piece 20412f204220720a", "done"),
         ("piece 20412f20422072", "done"),
         ("end", "report 2 0 0 2 1 3 2"),
-        ("bylevel 9 9223372036854775810", "label 6"),
-        ("bylevel 9 0", "none"),
-        ("bylevel 256 0", "refused 9"),
-        ("run 9 2 7,9,2 3,9,2 1,9,4", "label 3"),
-        ("run 9 2", "none"),
-        ("run 9 3 1,9,3", "refused 9"),
+        ("bylevel 9 9223372036854775810:0:0", "label 6"),
+        ("bylevel 9 0:0:9223372036854775810", "refused 9"),
+        ("bylevel 9 0:9223372036854775810:0", "none"),
+        ("bylevel 9 0:0:0", "none"),
+        ("bylevel 256 0:0:0", "refused 9"),
+        (
+            "run 9 2:3:256 7,9,2:3:256 3,9,2:3:256 1,9,4:3:256",
+            "label 3",
+        ),
+        ("run 9 2:0:0", "none"),
+        ("run 9 2:0:0 1,9,2:0:1", "none"),
+        ("run 9 2:0:1 1,9,2:0:1", "refused 9"),
         (&revoke, "revoked 1"),
         ("label 6", &air),
         ("label 7", "refused 13 -"),
@@ -116,7 +122,7 @@ fn every_form() {
         ("end", "report 0 0 0 0 0 0 18446744073709551615"),
         ("end", "report 0 0 0 0 0 0 0"),
         (
-            "run 9 2 18446744073709551615,9,2 256,9,2 1,265,2",
+            "run 9 2:0:0 18446744073709551615,9,2:0:0 256,9,2:0:0 1,265,2:0:0",
             "label 256",
         ),
         ("poke words 0 65", "done"),
@@ -149,12 +155,20 @@ fn lines_that_are_no_calls() {
         "label -1",
         "label 18446744073709551616",
         "bylevel 1",
+        "bylevel 1 2",
+        "bylevel 1 2:3",
+        "bylevel 1 2:3:",
+        "bylevel 1 2:3:4:5",
+        "bylevel 1 2:3:18446744073709551616",
         "run 1",
-        "run 1 2 3",
-        "run 1 2 3,4",
+        "run 1 2",
+        "run 1 2:0:0 3",
+        "run 1 2:0:0 3,4",
+        "run 1 2:0:0 3,4,5",
+        "run 1 2:0:0 3,4,5:0",
         "question 41 42 72 2",
         "question 41 42 72",
-        "poke words 36 0",
+        "poke words 100 0",
         "poke line 600 00",
         "poke line 599 0000",
         "poke loader 8 0",
@@ -420,8 +434,8 @@ fn random_searches_get_every_answer() {
     ];
     assert_eq!(answers.keys().collect::<Vec<_>>(), expected);
     assert!(answers["granted 6"] * 10 > questions, "{answers:?}");
-    assert!(labels_twice * 4 > questions, "{labels_twice} {questions}");
-    assert!(pairs_twice * 4 > questions, "{pairs_twice} {questions}");
+    assert!(labels_twice * 5 > questions, "{labels_twice} {questions}");
+    assert!(pairs_twice * 5 > questions, "{pairs_twice} {questions}");
 }
 
 /// Of calls about places, every one is both accepted and refused with 3 in a good
@@ -484,6 +498,123 @@ fn random_places_are_of_every_kind() {
     assert_eq!(reasons, ["0", "1", "2", "3", "4", "5", "6", "7"]);
     let all: u32 = first.values().sum();
     assert!(first["3"] * 6 > all, "{first:?}");
+}
+
+/// Of calls about categories each is both answered and refused in a good share;
+/// sets are found and not found; categories of every word, every bit that is none
+/// and writes of every length near a limit come. The ordinary kind reaches these
+/// too.
+#[test]
+fn random_categories_are_of_every_kind() {
+    for (kind, seeds) in [(Kind::Categories, 0..2), (Kind::Every, 0..4)] {
+        let mut answers = std::collections::BTreeMap::new();
+        let mut seen = std::collections::BTreeSet::new();
+        let mut words_in_use = [false; 3];
+        let mut counts = std::collections::BTreeSet::new();
+        for seed in seeds {
+            let mut machine = Machine::new();
+            for call in script_of(kind, seed, 10000) {
+                let answer = machine.execute(&call).unwrap();
+                assert_ne!(answer, "bad line", "{call}");
+                let words: Vec<&str> = call.split(' ').collect();
+                let said = answer.split(' ').next().unwrap();
+                let said = match (said, words[0]) {
+                    ("refused", _) => answer.split(' ').take(2).collect::<Vec<_>>().join(" "),
+                    _ => said.to_string(),
+                };
+                *answers.entry((words[0].to_string(), said)).or_insert(0) += 1;
+                match words[0] {
+                    "mapping" => {
+                        let length = words[1].len() / 2;
+                        if [600, 601, 999, 1000, 1001].contains(&length) {
+                            seen.insert(format!("write {length}"));
+                        }
+                    }
+                    "bylabel" if answer.starts_with("mapping ") => {
+                        let set = answer.split(' ').nth(2).unwrap();
+                        for (k, word) in set.split(':').enumerate() {
+                            words_in_use[k] |= word != "0";
+                        }
+                        counts.insert(answer.split(' ').nth(3).unwrap().to_string());
+                    }
+                    "bylevel" | "run" => {
+                        let bits = |set: &str| set.rsplit(':').next().unwrap().parse::<u64>();
+                        for bit in 0..8 {
+                            if bits(words[2]).unwrap() >> bit & 1 != 0 {
+                                seen.insert(format!("{} {bit}", words[0]));
+                            }
+                            for record in &words[3..] {
+                                if bits(record).unwrap() >> bit & 1 != 0 {
+                                    seen.insert(format!("record {bit}"));
+                                }
+                            }
+                        }
+                    }
+                    "poke" if words[1] == "words" => {
+                        let at: usize = words[2].parse().unwrap();
+                        let value: u64 = words[3].parse().unwrap();
+                        if let Some(row) = raw::SETS.iter().rposition(|&row| row <= at) {
+                            seen.insert(format!("poke row {row}"));
+                            for bit in 0..8 {
+                                if row == 2 && value >> bit & 1 != 0 {
+                                    seen.insert(format!("poke {bit}"));
+                                }
+                            }
+                        }
+                    }
+                    _ => {}
+                }
+            }
+        }
+        for length in [600, 601, 999, 1000, 1001] {
+            assert!(seen.contains(&format!("write {length}")), "{length}");
+        }
+        for bit in 0..8 {
+            for place in ["bylevel", "run", "record", "poke"] {
+                assert!(seen.contains(&format!("{place} {bit}")), "{place} {bit}");
+            }
+        }
+        for row in 0..3 {
+            assert!(seen.contains(&format!("poke row {row}")), "{row}");
+        }
+        assert_eq!(words_in_use, [true; 3]);
+        assert!(counts.len() > 10, "{counts:?}");
+        if kind == Kind::Categories {
+            assert!(counts.contains("184"));
+            let count = |call: &str, answer: &str| {
+                let key = (call.to_string(), answer.to_string());
+                answers.get(&key).copied().unwrap_or(0)
+            };
+            for call in ["mapping", "bylabel", "bylevel", "run"] {
+                let all: i32 = answers
+                    .iter()
+                    .filter(|(key, _)| key.0 == call)
+                    .map(|(_, count)| count)
+                    .sum();
+                assert!(all > 1000, "{call} {all}");
+                let good = match call {
+                    "mapping" => count(call, "done"),
+                    "bylabel" => count(call, "mapping"),
+                    _ => count(call, "label"),
+                };
+                assert!(good * 5 > all, "{call} {good} {all}");
+                match call {
+                    "mapping" => {
+                        for number in [0, 1, 2, 3, 6, 9, 10] {
+                            let refused = count(call, &format!("refused {number}"));
+                            assert!(refused > 5, "{call} {number} {refused}");
+                        }
+                    }
+                    "bylabel" => assert!(count(call, "refused 0") > 20),
+                    _ => {
+                        assert!(count(call, "none") * 6 > all, "{call} {answers:?}");
+                        assert!(count(call, "refused 9") > 100, "{call}");
+                    }
+                }
+            }
+            assert!(count("bylevel", "refused 0") > 20);
+        }
+    }
 }
 
 /// Demand 3: the same bytes and end calls, whatever the cuts and questions.
