@@ -26,7 +26,8 @@
 
 /* ---- the library before a change, where it is linked in: the same calls with another name */
 
-/* The major version of its interface, where that is another than the header's. Under version 1 no answer had a place, and the loader was flat. */
+/* The major version of its interface, where that is another than the header's. Under version 1 no answer had a place, and the loader was flat. Under
+ * versions 1 and 2 a set was one word, with the categories 1 to 63, and the part of words had 36. */
 #ifndef BEFORE_MAJOR
 #define BEFORE_MAJOR BQ_VERSION_MAJOR
 #endif
@@ -60,7 +61,7 @@ typedef struct {
     uint8_t number;
     bool bringup;
 } before_bq_decision;
-#elif BEFORE_MAJOR == BQ_VERSION_MAJOR
+#elif BEFORE_MAJOR == 2 || BEFORE_MAJOR == BQ_VERSION_MAJOR
 typedef bq_written before_bq_written;
 typedef bq_loader before_bq_loader;
 typedef bq_taken before_bq_taken;
@@ -68,6 +69,30 @@ typedef bq_finished before_bq_finished;
 typedef bq_decision before_bq_decision;
 #else
 #error "the structs of that version are not here"
+#endif
+#if BEFORE_MAJOR < 3
+#define BEFORE_IS_NARROW true
+typedef uint64_t before_bq_set;
+typedef struct {
+    uint64_t label, level, set;
+} before_bq_record;
+typedef struct {
+    uint8_t kind;
+    uint8_t number;
+    uint8_t level;
+    uint32_t count;
+    uint64_t set;
+#if BEFORE_MAJOR == 2
+    size_t place;
+#endif
+} before_bq_mapped;
+enum { bq_WORDS = BQ_WORDS, before_bq_WORDS = 36, SET_WORDS = 3, BEFORE_SET_WORDS = 1 };
+#else
+#define BEFORE_IS_NARROW false
+typedef bq_set before_bq_set;
+typedef bq_record before_bq_record;
+typedef bq_mapped before_bq_mapped;
+enum { bq_WORDS = BQ_WORDS, before_bq_WORDS = BQ_WORDS, SET_WORDS = 3, BEFORE_SET_WORDS = 3 };
 #endif
 
 #define TO_READ const uint8_t *, size_t, const uint8_t *, size_t, const uint64_t *, size_t
@@ -80,6 +105,11 @@ OLDER before_bq_finished before_bq_end(TO_WRITE, uint8_t *, size_t, before_bq_lo
 OLDER before_bq_written before_bq_change(TO_WRITE, const uint8_t *, size_t);
 OLDER before_bq_decision before_bq_question(TO_READ, const uint8_t *, size_t, const uint8_t *, size_t, const uint8_t *, size_t, bool);
 OLDER __typeof__(bq_list_rule) before_bq_list_rule;
+OLDER before_bq_written before_bq_mapping(TO_WRITE, const uint8_t *, size_t);
+OLDER before_bq_mapped before_bq_by_label(TO_READ, const uint8_t *, size_t);
+OLDER bq_lowest before_bq_by_level(TO_READ, uint64_t, before_bq_set);
+OLDER bq_lowest before_bq_lowest_in_run(const before_bq_record *, size_t, uint64_t, before_bq_set);
+OLDER bq_lowest before_bq_lowest_of(const uint64_t *, size_t, const uint64_t *, size_t, const uint64_t *, size_t, uint64_t, before_bq_set);
 
 /* ---- the second implementation */
 
@@ -113,8 +143,9 @@ static bool is_library(int side)
 {
     return side == LIBRARY || side == BEFORE;
 }
-/* A field of what a call of the library, or of the one before, answers. */
-#define OF(side, name, arguments, field) ((side) == BEFORE ? before_bq_##name arguments.field : bq_##name arguments.field)
+/* A field of what a call of the library, or of the one before, answers about the lent tables t. */
+#define OF(side, name, field, t, ...)                                                                                                        \
+    ((side) == BEFORE ? before_bq_##name(TABLES(before_bq_, t), __VA_ARGS__).field : bq_##name(TABLES(bq_, t), __VA_ARGS__).field)
 
 enum { QUESTIONS = 4096, PIECE = 65536, MOST_ROUNDS = 64 };
 
@@ -239,12 +270,13 @@ static void make_rules(void)
             has_rule[l][rules[l][i].subject][rules[l][i].object] = true;
 }
 
-/* The library's tables as they are lent. */
+/* The library's tables as they are lent. The one before takes as many of the words as its version has: they are the counts and the first words of the
+ * sets, in the same places. */
 struct lent {
     uint64_t words[BQ_WORDS];
     uint8_t labels[BQ_LABELS], entries[BQ_ENTRIES], line[BQ_LINE];
 };
-#define TABLES(t) (t)->labels, BQ_LABELS, (t)->entries, BQ_ENTRIES, (t)->words, BQ_WORDS
+#define TABLES(ITS, t) (t)->labels, BQ_LABELS, (t)->entries, BQ_ENTRIES, (t)->words, ITS##WORDS
 
 /* The library and the one before are lent the same tables, at the same addresses. The kinds after SIZES have the spread rules alone. */
 static struct lent lent[LAYOUTS][KINDS];
@@ -287,11 +319,11 @@ static void make_lent(struct lent *t, int l, int kind)
 {
     char line[600];
     bq_loader loader = bq_fresh_loader();
-    if (bq_fresh_table(TABLES(t)).refused)
+    if (bq_fresh_table(TABLES(bq_, t)).refused)
         fail("no fresh table");
     for (int i = 5; i < 64; i++) {
         int n = sprintf(line, "%s _ -\n", label[kind][i]);
-        loader = bq_piece(TABLES(t), t->line, BQ_LINE, loader, (const uint8_t *)line, (size_t)n).loader;
+        loader = bq_piece(TABLES(bq_, t), t->line, BQ_LINE, loader, (const uint8_t *)line, (size_t)n).loader;
     }
     if (loader.report.accepted != 59 || t->words[0] != 64)
         fail("the labels did not enter");
@@ -305,6 +337,9 @@ static void make_lent(struct lent *t, int l, int kind)
 
 static void make_tables(void)
 {
+    static struct lent t;
+    if (is_there(BEFORE) && before_bq_fresh_table(TABLES(before_bq_, &t)).refused)
+        fail("the library before refuses parts of these sizes: its header had another major version than BEFORE_MAJOR says");
     for (int l = 0; l < LAYOUTS; l++)
         for (int kind = 0; kind < KINDS; kind++) {
             if (!is_laid_out(l, kind))
@@ -430,7 +465,7 @@ static unsigned ask(int side, int l, int kind, const struct question *q, size_t 
     {                                                                                                                                        \
         struct lent *t = &lent[l][kind];                                                                                                     \
         for (size_t i = 0; i < n; i++) {                                                                                                     \
-            ITS##decision d = ITS##question(TABLES(t), q[i].subject, q[i].subject_len, q[i].object, q[i].object_len, q[i].request,           \
+            ITS##decision d = ITS##question(TABLES(ITS, t), q[i].subject, q[i].subject_len, q[i].object, q[i].object_len, q[i].request,           \
                                             q[i].request_len, false);                                                                        \
             sum += d.kind * 16u + d.number;                                                                                                  \
         }                                                                                                                                    \
@@ -570,15 +605,15 @@ static void make_text(int which, int kind, size_t bytes)
     {                                                                                                                                        \
         ITS##loader loader = ITS##fresh_loader();                                                                                            \
         for (size_t at = 0; at < n; at += PIECE)                                                                                             \
-            loader = ITS##piece(TABLES(own), own->line, BQ_LINE, loader, (const uint8_t *)t + at, n - at < PIECE ? n - at : PIECE).loader;   \
-        ITS##finished f = ITS##end(TABLES(own), own->line, BQ_LINE, loader);                                                                 \
+            loader = ITS##piece(TABLES(ITS, own), own->line, BQ_LINE, loader, (const uint8_t *)t + at, n - at < PIECE ? n - at : PIECE).loader;   \
+        ITS##finished f = ITS##end(TABLES(ITS, own), own->line, BQ_LINE, loader);                                                                 \
         return f.refused ? 0 : which == KNOWN ? f.report.accepted : which == BLANK ? f.report.skipped : f.report.refused;                    \
     }                                                                                                                                        \
     static unsigned feed_fresh_##WHICH(struct lent *fresh, const char *t, size_t n)                                                          \
     {                                                                                                                                        \
-        ITS##fresh_table(TABLES(fresh));                                                                                                     \
-        ITS##taken taken = ITS##piece(TABLES(fresh), fresh->line, BQ_LINE, ITS##fresh_loader(), (const uint8_t *)t, n);                      \
-        return ITS##end(TABLES(fresh), fresh->line, BQ_LINE, taken.loader).report.accepted;                                                  \
+        ITS##fresh_table(TABLES(ITS, fresh));                                                                                                     \
+        ITS##taken taken = ITS##piece(TABLES(ITS, fresh), fresh->line, BQ_LINE, ITS##fresh_loader(), (const uint8_t *)t, n);                      \
+        return ITS##end(TABLES(ITS, fresh), fresh->line, BQ_LINE, taken.loader).report.accepted;                                                  \
     }
 FEED(library, bq_)
 FEED(before, before_bq_)
@@ -644,7 +679,7 @@ static unsigned do_changes(int side, int kind)
         const uint8_t *t = (const uint8_t *)change[kind][i];
         size_t n = change_len[kind][i];
         if (is_library(side))
-            done += !OF(side, change, (TABLES(&lent[SPREAD][kind]), t, n), refused);
+            done += !OF(side, change, refused, &lent[SPREAD][kind], t, n);
         else if (side == SECOND)
             done += second_change(second[SPREAD][kind], t, n) == 0;
         else
@@ -659,7 +694,7 @@ static size_t do_listing(int side, int kind)
     size_t n = 0;
     if (is_library(side))
         for (size_t k = 0; k < 256; k++)
-            n += OF(side, list_rule, (TABLES(&lent[SPREAD][kind]), k, out + n, sizeof out - n), length);
+            n += OF(side, list_rule, length, &lent[SPREAD][kind], k, out + n, sizeof out - n);
     else if (side == SECOND)
         for (size_t k = 0; k < 256; k++)
             n += second_list(second[SPREAD][kind], k, out + n, sizeof out - n);
@@ -668,9 +703,293 @@ static size_t do_listing(int side, int kind)
     return n;
 }
 
+/* ---- mappings */
+
+/* Tables with 64 labels, the spread rules and 32 mappings, which are all that there can be. FEW: three categories, other ones in each mapping, all at one
+ * level; every version has them. MOST: the categories 1 to 63, every mapping at a level of its own. FEW_WIDE and ALL_WIDE are the same for a set of three
+ * words: the sets of FEW_WIDE have one category in each word and differ in the last word alone. */
+enum { FEW, MOST, FEW_WIDE, ALL_WIDE, SETS };
+static const char *const SET[SETS] = {"3 categories up to 63", "categories 1 to 63", "3 categories up to 184", "categories 1 to 184"};
+enum { MAPPINGS = 32, RECORDS = 1000, SEARCHES = 64 };
+
+static struct lent lent_mapped[SETS][SIZES];
+static size_t label_len[SIZES][64];
+static int mapped_label[MAPPINGS], unmapped_label[MAPPINGS]; /* label numbers: a mapping's, and labels without one */
+static struct mapping {
+    uint64_t level;
+    bq_set set;
+    unsigned count;
+} mapping[SETS][MAPPINGS], missing[SETS][MAPPINGS];
+static char map_write[SETS][SIZES][MAPPINGS][BQ_LONGEST_MAPPING];
+static size_t map_write_len[SETS][SIZES][MAPPINGS];
+
+/* Which mapping a call writes or looks up, or whose level and set it searches a run for, in any order. */
+static int map_asked[QUESTIONS];
+
+/* A run of records, with sets of FEW or of FEW_WIDE, in one array and with its fields apart. */
+static _Alignas(4096) bq_record run_library[SETS][RECORDS];
+static _Alignas(4096) before_bq_record run_before[SETS][RECORDS];
+static _Alignas(4096) uint64_t run_labels[RECORDS], run_levels[RECORDS];
+static _Alignas(4096) uint64_t run_words_library[SETS][RECORDS * SET_WORDS];
+static _Alignas(4096) uint64_t run_words_before[SETS][RECORDS * BEFORE_SET_WORDS];
+static int run_lowest[SETS][MAPPINGS]; /* what a search for mapping k's level and set finds, -1 for none */
+
+static bool is_wide(int sets)
+{
+    return sets == FEW_WIDE || sets == ALL_WIDE;
+}
+
+static void put_category(struct mapping *m, int n)
+{
+    if (!(m->set.word[BQ_CATEGORY_WORD(n)] & BQ_CATEGORY_BIT(n)))
+        m->count++;
+    m->set.word[BQ_CATEGORY_WORD(n)] |= BQ_CATEGORY_BIT(n);
+}
+
+/* A set as each of the two takes it; and a number that is made of the words of a set that was answered. */
+static bq_set set_library(bq_set set)
+{
+    return set;
+}
+
+static unsigned number_library(bq_set set)
+{
+    uint64_t all = set.word[0] ^ set.word[1] * 3 ^ set.word[2] * 5;
+    return (unsigned)(all >> 32) ^ (unsigned)all;
+}
+
+#if BEFORE_IS_NARROW
+static uint64_t set_before(bq_set set)
+{
+    return set.word[0];
+}
+
+static unsigned number_before(uint64_t set)
+{
+    return number_library((bq_set){{set, 0, 0}});
+}
+#else
+#define set_before set_library
+#define number_before number_library
+#endif
+
+/* Mapping k of a table, the write that makes it, and, where there are few categories, a set that no mapping has. */
+static void make_mapping(int sets, int k)
+{
+    struct mapping *m = &mapping[sets][k];
+    m->level = sets == FEW || sets == FEW_WIDE ? 9 : (uint64_t)k;
+    missing[sets][k].level = m->level;
+    if (sets == FEW) {
+        put_category(m, 1 + k);
+        put_category(m, 33 + k % 30);
+        put_category(m, 63);
+        put_category(&missing[sets][k], 1 + k);
+        put_category(&missing[sets][k], 33 + (k + 1) % 30);
+        put_category(&missing[sets][k], 63);
+    } else if (sets == FEW_WIDE) {
+        put_category(m, 1);
+        put_category(m, 65);
+        put_category(m, 129 + k);
+        put_category(&missing[sets][k], 1);
+        put_category(&missing[sets][k], 65);
+        put_category(&missing[sets][k], 161 + k % 24);
+    } else
+        for (int n = 1; n <= (sets == MOST ? 63 : BQ_HIGHEST_CATEGORY); n++)
+            put_category(m, n);
+    for (int kind = 0; kind < SIZES; kind++) {
+        char *w = map_write[sets][kind][k];
+        int n = sprintf(w, "%s %d", label[kind][mapped_label[k]], (int)m->level);
+        for (int c = 1; c <= BQ_HIGHEST_CATEGORY; c++)
+            if (m->set.word[BQ_CATEGORY_WORD(c)] & BQ_CATEGORY_BIT(c))
+                n += sprintf(w + n, " %d", c);
+        map_write_len[sets][kind][k] = (size_t)n;
+    }
+}
+
+/* A run: labels of any number, three of four records at the level that is sought, each with the set of one mapping. */
+static void make_runs(void)
+{
+    for (int sets = 0; sets < SETS; sets++)
+        for (int k = 0; k < MAPPINGS; k++)
+            run_lowest[sets][k] = -1;
+    for (int i = 0; i < RECORDS; i++) {
+        int k = (int)pick(MAPPINGS), l = (int)pick(4096);
+        run_labels[i] = (uint64_t)l;
+        run_levels[i] = pick(4) ? 9 : 8;
+        for (int sets = FEW; sets <= FEW_WIDE; sets += FEW_WIDE - FEW) {
+            bq_set set = mapping[sets][k].set;
+            run_library[sets][i] = (bq_record){run_labels[i], run_levels[i], set};
+            run_before[sets][i] = (before_bq_record){run_labels[i], run_levels[i], set_before(set)};
+            memcpy(&run_words_library[sets][i * SET_WORDS], &set, sizeof set);
+            before_bq_set older = set_before(set);
+            memcpy(&run_words_before[sets][i * BEFORE_SET_WORDS], &older, sizeof older);
+            if (run_levels[i] == 9 && (run_lowest[sets][k] < 0 || l < run_lowest[sets][k]))
+                run_lowest[sets][k] = l;
+        }
+    }
+}
+
+static void make_mappings(void)
+{
+    int number[59];
+    for (int i = 0; i < 59; i++)
+        number[i] = 5 + i;
+    for (int i = 58; i > 0; i--) {
+        int j = (int)pick((uint32_t)i + 1), t = number[i];
+        number[i] = number[j];
+        number[j] = t;
+    }
+    for (int k = 0; k < MAPPINGS; k++) {
+        mapped_label[k] = number[k];
+        unmapped_label[k] = number[MAPPINGS + k % (59 - MAPPINGS)];
+    }
+    for (int kind = 0; kind < SIZES; kind++)
+        for (int i = 0; i < 64; i++)
+            label_len[kind][i] = strlen(label[kind][i]);
+    for (int i = 0; i < QUESTIONS; i++)
+        map_asked[i] = (int)pick(MAPPINGS);
+    for (int sets = 0; sets < SETS; sets++) {
+        for (int k = 0; k < MAPPINGS; k++)
+            make_mapping(sets, k);
+        for (int kind = 0; kind < SIZES; kind++) {
+            struct lent *t = &lent_mapped[sets][kind];
+            make_lent(t, SPREAD, kind);
+            for (int k = 0; k < MAPPINGS; k++)
+                if (bq_mapping(TABLES(bq_, t), (const uint8_t *)map_write[sets][kind][k], map_write_len[sets][kind][k]).refused)
+                    fail("a mapping is refused");
+        }
+    }
+    make_runs();
+}
+
+/* MAP_WRITE: the mapping that the label has, written anew. OF_LABEL and OF_NONE: look-up of a label with a mapping and without. OF_SET and OF_MISSING:
+ * look-up of a level and set that a mapping has, and of a set that none has at that level. IN_RUN and IN_ARRAYS: the lowest label of a run. */
+enum { MAP_WRITE, OF_LABEL, OF_NONE, OF_SET, OF_MISSING, IN_RUN, IN_ARRAYS, MAP_CALLS };
+static const char *const MAP_CALL[MAP_CALLS] = {"mapping write",
+                                                "look-up by label",
+                                                "look-up by label, no mapping",
+                                                "look-up by level and set, 32 mappings",
+                                                "look-up by level and set, 32 mappings, none has it",
+                                                "search of a run of 1,000 records",
+                                                "search of a run of 1,000 records, fields apart"};
+
+/* Which rows there are: a label without a mapping has no set; sets that none has, and those of a run, are of few categories; a run has no labels. */
+static bool is_mapped(int call, int sets, int kind)
+{
+    bool few = sets == FEW || sets == FEW_WIDE;
+    switch (call) {
+    case OF_NONE:
+        return sets == FEW;
+    case OF_MISSING:
+        return few;
+    case IN_RUN:
+    case IN_ARRAYS:
+        return few && kind == 0;
+    default:
+        return true;
+    }
+}
+
+static int map_calls(int call)
+{
+    return call == IN_RUN || call == IN_ARRAYS ? SEARCHES : QUESTIONS;
+}
+
+/* What a call comes to where there is no mapping or label to tell. */
+enum { NOTHING = 1 << 20 };
+
+static unsigned map_expected(int call, int sets, int i)
+{
+    int k = map_asked[i];
+    const struct mapping *m = &mapping[sets][k];
+    switch (call) {
+    case MAP_WRITE:
+        return 1;
+    case OF_LABEL:
+        return (unsigned)m->level + m->count * 256 + number_library(m->set);
+    case OF_SET:
+        return (unsigned)mapped_label[k];
+    case IN_RUN:
+    case IN_ARRAYS:
+        return run_lowest[sets][k] < 0 ? NOTHING : (unsigned)run_lowest[sets][k];
+    default:
+        return NOTHING;
+    }
+}
+
+/* The same for the library and for the one before; a refusal is none of what is expected. */
+#define MAP(WHICH, ITS)                                                                                                                      \
+    static unsigned of_label_##WHICH(struct lent *t, int kind, int l)                                                                        \
+    {                                                                                                                                        \
+        ITS##mapped m = ITS##by_label(TABLES(ITS, t), (const uint8_t *)label[kind][l], label_len[kind][l]);                                  \
+        return m.kind == BQ_MAPPED ? m.level + m.count * 256 + number_##WHICH(m.set) : m.kind == BQ_UNMAPPED ? NOTHING : 2 * NOTHING;        \
+    }                                                                                                                                        \
+    static unsigned map_##WHICH(int call, int sets, int kind, int from, int n)                                                               \
+    {                                                                                                                                        \
+        struct lent *t = &lent_mapped[sets][kind];                                                                                           \
+        unsigned sum = 0;                                                                                                                    \
+        for (int i = from; i < from + n; i++) {                                                                                              \
+            int k = map_asked[i];                                                                                                            \
+            const struct mapping *m = call == OF_MISSING ? &missing[sets][k] : &mapping[sets][k];                                            \
+            bq_lowest found;                                                                                                                 \
+            switch (call) {                                                                                                                  \
+            case MAP_WRITE:                                                                                                                  \
+                sum += !ITS##mapping(TABLES(ITS, t), (const uint8_t *)map_write[sets][kind][k], map_write_len[sets][kind][k]).refused;       \
+                continue;                                                                                                                    \
+            case OF_LABEL:                                                                                                                   \
+                sum += of_label_##WHICH(t, kind, mapped_label[k]);                                                                           \
+                continue;                                                                                                                    \
+            case OF_NONE:                                                                                                                    \
+                sum += of_label_##WHICH(t, kind, unmapped_label[k]);                                                                         \
+                continue;                                                                                                                    \
+            case IN_RUN:                                                                                                                     \
+                found = ITS##lowest_in_run(run_##WHICH[sets], RECORDS, m->level, set_##WHICH(m->set));                                       \
+                break;                                                                                                                       \
+            case IN_ARRAYS:                                                                                                                  \
+                found = ITS##lowest_of(run_labels, RECORDS, run_levels, RECORDS, run_words_##WHICH[sets],                                    \
+                                       sizeof run_words_##WHICH[sets] / sizeof(uint64_t), m->level, set_##WHICH(m->set));                    \
+                break;                                                                                                                       \
+            default:                                                                                                                         \
+                found = ITS##by_level(TABLES(ITS, t), m->level, set_##WHICH(m->set));                                                        \
+            }                                                                                                                                \
+            sum += found.kind == BQ_LABEL ? (unsigned)found.label : found.kind == BQ_NO_LABEL ? NOTHING : 2 * NOTHING;                       \
+        }                                                                                                                                    \
+        return sum;                                                                                                                          \
+    }
+MAP(library, bq_)
+MAP(before, before_bq_)
+
+static unsigned do_mappings(int side, int call, int sets, int kind, int from, int n)
+{
+    return side == BEFORE ? map_before(call, sets, kind, from, n) : map_library(call, sets, kind, from, n);
+}
+
+/* Sets of three words are no sets to a version before 3. */
+static bool maps(int side, int sets)
+{
+    return is_library(side) && is_there(side) && !(side == BEFORE && BEFORE_IS_NARROW && is_wide(sets));
+}
+
+/* Every answer of both is the one that the call was made for. */
+static void check_mappings(void)
+{
+    for (int call = 0; call < MAP_CALLS; call++)
+        for (int sets = 0; sets < SETS; sets++)
+            for (int kind = 0; kind < SIZES; kind++)
+                for (int side = 0; side <= BEFORE; side++)
+                    for (int i = 0; i < map_calls(call) && is_mapped(call, sets, kind) && maps(side, sets); i++) {
+                        unsigned got = do_mappings(side, call, sets, kind, i, 1), want = map_expected(call, sets, i);
+                        if (got != want) {
+                            fprintf(stderr, "bench: %s comes to %u, not %u: %s, %s; %s\n", SIDE[side], got, want, MAP_CALL[call], SET[sets],
+                                    KIND[kind].name);
+                            exit(1);
+                        }
+                    }
+}
+
 /* ---- the operations and their table */
 
-enum { ASK, FEED, CHANGE, LIST };
+enum { ASK, FEED, CHANGE, LIST, MAP };
 struct operation {
     int what, a, kind, by;
     char name[120];
@@ -695,6 +1014,10 @@ static unsigned expected(const struct operation *o)
         return o->a == FRESH ? (unsigned)((total + text_len[FRESH][o->kind] - 1) / text_len[FRESH][o->kind]) * 256 : text_lines[o->a][o->kind];
     case CHANGE:
         return QUESTIONS;
+    case MAP:
+        for (int i = 0; i < map_calls(o->by); i++)
+            sum += map_expected(o->by, o->a, i);
+        return sum;
     default:
         return (unsigned)do_listing(SECOND, o->kind);
     }
@@ -715,6 +1038,9 @@ static void run_once(const struct operation *o, int side, unsigned want)
         break;
     case LIST:
         got = (unsigned)do_listing(side, o->kind);
+        break;
+    case MAP:
+        got = do_mappings(side, o->by, o->a, o->kind, 0, map_calls(o->by));
         break;
     }
     if (got != want) {
@@ -761,6 +1087,19 @@ static void add_all(void)
         snprintf(name, sizeof name, "listing, each of 256 rules; %s", KIND[kind].name);
         add(LIST, 0, kind, 0, 256, name, three);
     }
+    for (int call = 0; call < MAP_CALLS; call++)
+        for (int sets = 0; sets < SETS; sets++)
+            for (int kind = 0; kind < SIZES; kind++) {
+                if (!is_mapped(call, sets, kind))
+                    continue;
+                if (call == OF_NONE)
+                    snprintf(name, sizeof name, "%s; %s", MAP_CALL[call], KIND[kind].name);
+                else if (call == IN_RUN || call == IN_ARRAYS)
+                    snprintf(name, sizeof name, "%s; %s", MAP_CALL[call], SET[sets]);
+                else
+                    snprintf(name, sizeof name, "%s; %s; %s", MAP_CALL[call], SET[sets], KIND[kind].name);
+                add(MAP, sets, kind, call, map_calls(call), name, maps(BEFORE, sets) ? alone : 1u << LIBRARY);
+            }
     for (int t = 0; t < TEXTS; t++)
         for (int kind = 0; kind < (t == BLANK ? 1 : SIZES); kind++) {
             double bytes = (double)text_len[t][kind];
@@ -977,11 +1316,13 @@ int main(int argc, char **argv)
     for (int which = 0; which < TEXTS; which++)
         for (int kind = 0; kind < (which == BLANK ? 1 : SIZES); kind++)
             make_text(which, kind, which == FRESH ? 1 << 20 : total);
+    make_mappings();
     if (profiling) {
         profile(argv[2], atoi(argv[3]), argc > 4 ? atoi(argv[4]) : 0);
         return 0;
     }
     check_questions();
+    check_mappings();
     add_all();
     if (counting) {
         count_instructions();
