@@ -175,6 +175,13 @@ static bool is_in(bq_set set, int n)
     return (set.word[BQ_CATEGORY_WORD(n)] & BQ_CATEGORY_BIT(n)) != 0;
 }
 
+static void print_categories(bq_set set)
+{
+    for (int n = 1; n <= BQ_HIGHEST_CATEGORY; n++)
+        if (is_in(set, n))
+            printf(" %d", n);
+}
+
 static void show_mapping(const char *label)
 {
     bq_mapped m = bq_by_label(TABLES, TEXT(label));
@@ -185,11 +192,17 @@ static void show_mapping(const char *label)
         printf("none\n");
     else {
         printf("level %d, %u categories:", m.level, m.count);
-        for (int n = 1; n <= BQ_HIGHEST_CATEGORY; n++)
-            if (is_in(m.set, n))
-                printf(" %d", n);
+        print_categories(m.set);
         printf("\n");
     }
+}
+
+/* What was sought, in the table or in a run. */
+static void print_sought(uint64_t level, bq_set set)
+{
+    printf("level %u, categories", (unsigned)level);
+    print_categories(set);
+    printf(": ");
 }
 
 static void show_label_of(uint64_t level, bq_set set)
@@ -198,21 +211,27 @@ static void show_label_of(uint64_t level, bq_set set)
     if (refused("mapping by level and set", found.kind == BQ_SEARCH_REFUSED, found.number))
         return;
     if (found.kind == BQ_NO_LABEL) {
-        printf("level %u with these: no label\n", (unsigned)level);
+        print_sought(level, set);
+        printf("no label\n");
         return;
     }
     bq_part part = bq_label(TABLES, found.label);
-    if (!refused("label by number", part.refused, part.number))
-        printf("level %u with these: label %zu, %.*s\n", (unsigned)level, found.label, (int)part.length, (const char *)labels + part.start);
+    if (refused("label by number", part.refused, part.number))
+        return;
+    print_sought(level, set);
+    printf("label %zu, %.*s\n", found.label, (int)part.length, (const char *)labels + part.start);
 }
 
 static void show_lowest(const bq_record *run, size_t records, uint64_t level, bq_set set)
 {
     bq_lowest found = bq_lowest_in_run(run, records, level, set);
+    if (refused("search of a run", found.kind == BQ_SEARCH_REFUSED, found.number))
+        return;
+    print_sought(level, set);
     if (found.kind == BQ_NO_LABEL)
-        printf("lowest of the run: none\n");
-    else if (!refused("search of a run", found.kind == BQ_SEARCH_REFUSED, found.number))
-        printf("lowest of the run: label %zu\n", found.label);
+        printf("none of the run\n");
+    else
+        printf("lowest of the run is label %zu\n", found.label);
 }
 
 /* Every rule by its number, up to the first number that is no rule's. */

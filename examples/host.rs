@@ -486,34 +486,40 @@ fn revoke(t: &mut Tables, subject: &str) {
     println!("revoke '{subject}': {answer}");
 }
 
+fn categories(set: Set) -> String {
+    set.members().map(|category| format!(" {category}")).collect()
+}
+
 fn show_mapping(t: &Tables, label: &str) {
     let answer = match t.by_label(label.as_bytes()) {
-        Ok(Some(m)) => {
-            let categories: String = m.set.members().map(|category| format!(" {category}")).collect();
-            format!("level {}, {} categories:{categories}", m.level, m.count)
-        }
+        Ok(Some(m)) => format!("level {}, {} categories:{}", m.level, m.count, categories(m.set)),
         Ok(None) => "none".to_string(),
         Err(refusal) => refused(refusal, "that label"),
     };
     println!("mapping of '{label}': {answer}");
 }
 
+/// What was sought, in the table or in a run.
+fn sought(level: u64, set: Set) -> String {
+    format!("level {level}, categories{}", categories(set))
+}
+
 fn show_label_of(t: &Tables, level: u64, set: Set) {
     match accepted("mapping by level and set", t.by_level(level, set)) {
         Some(Some(k)) => {
             if let Some(label) = accepted("label by number", t.label(k)) {
-                println!("level {level} with these: label {k}, {}", String::from_utf8_lossy(label));
+                println!("{}: label {k}, {}", sought(level, set), String::from_utf8_lossy(label));
             }
         }
-        Some(None) => println!("level {level} with these: no label"),
+        Some(None) => println!("{}: no label", sought(level, set)),
         None => {}
     }
 }
 
 fn show_lowest(run: &[Record], level: u64, set: Set) {
     match accepted("search of a run", lowest_in_run(run, level, set)) {
-        Some(Some(k)) => println!("lowest of the run: label {k}"),
-        Some(None) => println!("lowest of the run: none"),
+        Some(Some(k)) => println!("{}: lowest of the run is label {k}", sought(level, set)),
+        Some(None) => println!("{}: none of the run", sought(level, set)),
         None => {}
     }
 }

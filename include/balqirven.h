@@ -279,7 +279,7 @@ bq_lowest bq_by_level(const uint8_t *labels, size_t labels_len, const uint8_t *e
 bq_lowest bq_lowest_in_run(const bq_record *records, size_t records_len, uint64_t level, bq_set set);
 
 /* The same with each field of the records in an array of its own, a set as its three words one after another; there are as many records as the
- * shortest of the three has room for. */
+ * shortest of the three has room for. Refusals: 9, as bq_by_level. */
 bq_lowest bq_lowest_of(const uint64_t *run_labels, size_t run_labels_len, const uint64_t *run_levels, size_t run_levels_len,
                        const uint64_t *run_set_words, size_t run_set_words_len, uint64_t level, bq_set set);
 

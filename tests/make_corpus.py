@@ -1904,7 +1904,7 @@ def ranges_refusals():
 
 
 def ranges_look_ups():
-    s = Script("limits_look_ups", "01: a mapping by level and set, in the table and in a run: both equal in each bit; each record counts; over 255 is refused 9.", True)
+    s = Script("limits_look_ups", "01: a mapping by level and set, in the table and in a run: both equal, in each bit of 1 to 63; each record counts; over 255 is refused 9.", True)
     s.say("An unmapped label has no level and no set.")
     s.fresh()
     labels_to(s, 12)

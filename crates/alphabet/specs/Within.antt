@@ -17,6 +17,10 @@ unfoldable pub classTable : List ℕ
 unfolding classOf
 classTable = entries classOf 256
 
+-- the most bytes of a text in which the place of a bad byte is told: a mapping write's, the longest of all (`mappingLongest` of cipso)
+abbrev pub textLongest : ℕ
+textLongest = 1000
+
 -- how many bytes at the front of a line are blanks (true), or are not (false)
 unfoldable pub run : Bool → List ℕ → ℕ
 unfolding isBlank

@@ -6,7 +6,7 @@ ghost use Prim.Native.Nat.{_+_, _≤_};
 ghost use lib.ListN.{drop, getD, length};
 ghost use Rattle.refusals.specs.Refusals.{badLabelAt};
 ghost use Rattle.alphabet.specs.Alphabet.{labelByte, classOf, ByteClasses, wellFormed, faultOf, badByte, badByteIn, FieldsOfALine, FirstBadByte};
-ghost use Rattle.alphabet.specs.Within.{classTable, run, fieldAt, labelFieldAt, labelBytes, highBit};
+ghost use Rattle.alphabet.specs.Within.{classTable, textLongest, run, fieldAt, labelFieldAt, labelBytes, highBit};
 
 // The bytes that have a part of their own.
 pub const NEWLINE: u8 = b'\n';
@@ -351,7 +351,7 @@ pub fn bad_label(label: &[u8]) -> Refusal
 
 // The same of a label that is a field of a text, with the place in that text, of which it begins at `start`. Who calls it has tested how long the text is.
 pub fn bad_label_at(label: &[u8], start: usize) -> Refusal
-    requires { ⌜ start ≤ 1000 ⌝ }
+    requires { ⌜ start ≤ textLongest ⌝ }
     ensures { λ r. ⌜ r ≡ badLabelAt (start + badByte (now (label .entry))) ⌝ }
 {
     let bad = bad_label(label);
@@ -548,7 +548,7 @@ pub fn fields_of_a_line()
 // Refusal 3 of a line or a write with a field that is no label, with the place of the first bad byte of the first such field. Who calls it has tested
 // how long the text is.
 pub fn bad_label_in(text: &[u8]) -> Refusal
-    requires { ⌜ length (now text) ≤ 1000 ⌝ }
+    requires { ⌜ length (now text) ≤ textLongest ⌝ }
     ensures { λ r. ⌜ r ≡ badLabelAt (badByteIn (now (text .entry))) ⌝ }
 {
     let classes = classes();

@@ -60,7 +60,7 @@ pub struct Finished {
     pub loader: Loader,
 }
 
-// What the listing of a rule answers: how many bytes were written.
+// What a call that writes to a lent output answers: how many bytes were written.
 #[repr(C)]
 pub struct Length {
     pub refused: bool,

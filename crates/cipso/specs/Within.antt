@@ -3,7 +3,7 @@ use Prim.Native.Nat.{ℕ, _<_, _≤_}
 use mathlib.Core.Bool.{cond}
 use mathlib.Core.Path.{_≡_}
 use mathlib.Core.List.{List}
-use lib.ListN.{length, set}
+use lib.ListN.{length}
 use Rattle.refusals.specs.Refusals.{labelsFull, mappingsFull}
 use Rattle.search.specs.Search.{put, placeOf}
 use Rattle.search.specs.declared.Found.{Found}

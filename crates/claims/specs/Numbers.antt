@@ -1,4 +1,4 @@
--- 01's numbers and 02's, each as it stands there: the refusals, the limits, and what a host gets for each case of an answer. Elsewhere they are spoken of by name; here
+-- 01's numbers and 02's, each as it stands there, and those of the header: the refusals, the limits, and what a host gets for each case of an answer. Elsewhere they are spoken of by name; here
 -- a name that has another number is refused. Assumes nothing.
 use Prim.Native.Nat.{ℕ}
 use mathlib.Core.Path.{_≡_}
@@ -77,7 +77,7 @@ pub record NumbersOf01 : Type 0 where
 
 -- what 02 adds, request by request. One: the refusals 14 and 15; the most bytes of a label in an old record, the bytes of a label's place, and those
 -- of the record. Three: the place beside a 3, as every answer that has one shows it; a refusal is plain where its place is 0. Four: the highest category
--- and the most bytes of a mapping write; the sizes of the lent parts, which the header has too; the first and the last category of each word of a set
+-- and the most bytes of a mapping write; and, from the header, the sizes of the lent parts and the bits of categories at both ends of each word of a set
 pub record NumbersOf02 : Type 0 where
   pub old-records :
       (refusal.badRecord .number ∷ refusal.notInARecord .number ∷ recordLabel ∷ labelPlace ∷ recordSize ∷ []) ≡ 14 ∷ 15 ∷ 23 ∷ 24 ∷ 53 ∷ []

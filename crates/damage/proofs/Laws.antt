@@ -2,15 +2,15 @@
 use mathlib.Core.Path.{_≡_, refl, sym, ap, _∙_}
 use mathlib.Core.Bool.{Bool, true, false, _&&_}
 use mathlib.Core.List.{List, [], _∷_}
-use Prim.Native.Nat.{ℕ, zero, suc, _+_, _%_, _<_, _≤_}
+use Prim.Native.Nat.{ℕ, zero, suc, _+_, _<_, _≤_}
 use native.Mathlib.Omega.{arith}
-use lib.Dec.{eqb, ltb}
+use lib.Dec.{ltb}
 use borrow.Author.Tests.{lt-ltb}
 use lib.ListN.{length, take, drop, getD, length-take, length-drop}
 use lib.Seq.{take-suc, getD-take, getD-drop}
 use Rattle.search.specs.Search.{all, entries}
 use Rattle.search.proofs.Laws.{all-snoc}
-use Rattle.numbers.specs.Categories.{knownSet}
+use Rattle.numbers.specs.Categories.{knownThird, knownSet}
 use Rattle.store.specs.declared.Rule.{Rule}
 use Rattle.store.specs.declared.Mapping.{Mapping}
 use Rattle.store.specs.Table.{soundRule, soundMapping, soundTable}
@@ -90,13 +90,13 @@ pub sound-runs :
     Counts w →
     soundTable n (tableOf (store [] e w))
     ≡ ((all (soundRule n) (entries (ruleAt e) (getD w 1 0))
-    && (all (λ (x : ℕ). ltb x n) (take (getD w 2 0) (take 32 (drop 768 e))) && all (λ (x : ℕ). eqb (x % 256) 0) (take (getD w 2 0) (take 32 (drop 68 w)))))
+    && (all (λ (x : ℕ). ltb x n) (take (getD w 2 0) (take 32 (drop 768 e))) && all knownThird (take (getD w 2 0) (take 32 (drop 68 w)))))
     && all (λ (x : ℕ). ltb x n) (take (getD w 3 0) (take 8 (drop 832 e))))
 unfolding soundTable soundMapping mappingAt onlycapAt
 sound-runs n e w he hw c =
     rw (
       all-and (λ (m : Mapping). ltb (m .label) n) (λ (m : Mapping). knownSet (m .set)) (entries (mappingAt e w) (getD w 2 0)),
       all-run (λ (m : Mapping). ltb (m .label) n) (λ (x : ℕ). ltb x n) (mappingAt e w) (take 32 (drop 768 e)) (getD w 2 0) (rw (part-length e 768 32 (omega arith)) (c .mappings)) (λ k h. ap (λ (x : ℕ). ltb x n) (sym (part-at e 768 32 k (omega (arith, c .mappings))))),
-      all-run (λ (m : Mapping). knownSet (m .set)) (λ (x : ℕ). eqb (x % 256) 0) (mappingAt e w) (take 32 (drop 68 w)) (getD w 2 0) (rw (part-length w 68 32 (omega arith)) (c .mappings)) (λ k h. ap (λ (x : ℕ). eqb (x % 256) 0) (sym (part-at w 68 32 k (omega (arith, c .mappings))))),
+      all-run (λ (m : Mapping). knownSet (m .set)) knownThird (mappingAt e w) (take 32 (drop 68 w)) (getD w 2 0) (rw (part-length w 68 32 (omega arith)) (c .mappings)) (λ k h. ap knownThird (sym (part-at w 68 32 k (omega (arith, c .mappings))))),
       all-run (λ (k : ℕ). ltb k n) (λ (x : ℕ). ltb x n) (onlycapAt e) (take 8 (drop 832 e)) (getD w 3 0) (rw (part-length e 832 8 (omega arith)) (c .onlycap)) (λ k h. ap (λ (x : ℕ). ltb x n) (sym (part-at e 832 8 k (omega (arith, c .onlycap))))),
     )

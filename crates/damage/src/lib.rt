@@ -1,10 +1,10 @@
 // The damage test (01: refusal 0): every call makes it first, of the whole lent state.
 ghost use mathlib.Core.Path.{_≡_};
-ghost use Prim.Native.Nat.{ℕ, _+_, _%_, _<_, _≤_};
+ghost use Prim.Native.Nat.{ℕ, _+_, _<_, _≤_};
 ghost use lib.ListN.{length, getD, take};
-ghost use lib.Dec.{eqb};
 ghost use mathlib.Core.List.{[]};
 ghost use Rattle.search.specs.Search.{all, entries as listed};
+ghost use Rattle.numbers.specs.Categories.{knownThird};
 ghost use Rattle.store.specs.Table.{soundRule, soundTable, ruleLimit, mappingLimit, onlycapLimit};
 ghost use Rattle.store.specs.Layout.{store, lent, modesFrom, onlycapFrom, thirdsFrom, ruleAt, tableOf, undamagedOf};
 ghost use Rattle.store.specs.Within.{Counts};
@@ -19,11 +19,11 @@ const THIRDS_TO: usize = store::THIRDS_FROM + store::MAPPING_LIMIT;
 
 const ONLYCAP_TO: usize = store::ONLYCAP_FROM + store::ONLYCAP_LIMIT;
 
-// Whether the first `count` third words of a run of sets have no bit that is no category, as `knownSet` has it. It reads all of them, so that the
-// compiler can take many at a time. Who calls it has made sure that the run has that many.
+// Whether none of the first `count` words of a run, the third words of sets, has a bit that is no category. It reads all of them, so that the compiler
+// can take many at a time. Who calls it has made sure that the run has that many.
 fn all_known(run: &[u64], count: usize) -> bool
     requires { ⌜ count ≤ length (now run) ⌝ }
-    ensures { λ r. ⌜ r ≡ all (λ x. eqb (x % 256) 0) (take count (now (run .entry))) ⌝ }
+    ensures { λ r. ⌜ r ≡ all knownThird (take count (now (run .entry))) ⌝ }
 {
     let mut ok = true;
     let mut i = 0;

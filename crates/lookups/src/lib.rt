@@ -85,7 +85,7 @@ fn has_both(
 }
 
 // Whether a level and a set can be looked up: the level is 0 to 255, and the set has no bit that is no category.
-pub fn known(level: u64, set: CategorySet) -> bool
+pub fn can_be_sought(level: u64, set: CategorySet) -> bool
     ensures { λ r. ⌜ r ≡ sought level set ⌝ }
 {
     if numbers::LEVEL_LIMIT < level {
@@ -101,7 +101,7 @@ pub fn by_level(labels: &[u8], entries: &[u8], words: &[u64], level: u64, set: C
     if !damage::undamaged(labels, entries, words) {
         return Label::Refused(refusals::DAMAGED.number);
     }
-    if !known(level, set) {
+    if !can_be_sought(level, set) {
         return Label::Refused(refusals::BAD_LEVEL_OR_CATEGORY.number);
     }
     let stored = words[store::LABEL_COUNT] as usize;

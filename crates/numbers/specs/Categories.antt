@@ -1,6 +1,6 @@
 -- 01, Single writes, Mapping, and 02, Four: levels are 0 to 255, categories 1 to 184. A set of categories is three words of 64 bits, which make one number
--- of 192 bits, the first word highest; category n is its bit 2 ^ (192 - n): category 1 the top one. The eight lowest bits are no category. All that is
--- said of a set of categories stands here. Assumes nothing.
+-- of 192 bits, the first word highest; category n is its bit 2 ^ (192 - n): category 1 the top one. The eight lowest bits are no category. What a set of
+-- categories is stands here and nowhere else. Assumes nothing.
 use Prim.Native.Nat.{ℕ, suc, _+_, _-_, _*_, _/_, _%_, _^_, _<_, _≤_}
 use mathlib.Core.Path.{_≡_}
 use mathlib.Core.Bool.{Bool, true, false, cond, _&&_, _||_}
@@ -30,10 +30,11 @@ isCategory n = leb 1 n && leb n categoryLimit
 unfoldable pub value : CategorySet → ℕ
 value s = (s .first * 2 ^ 64 + s .second) * 2 ^ 64 + s .third
 
+-- the bit of n, from 1 to 192, in that number; n is a category where `isCategory` says so
 abbrev pub categoryBit : ℕ → ℕ
 categoryBit n = 2 ^ (192 - n)
 
--- whether a set has the bit of n; n is a category where `isCategory` says so
+-- whether a set has the bit of n
 abbrev pub hasCategory : CategorySet → ℕ → Bool
 hasCategory s n = eqb (value s / categoryBit n % 2) 1
 
@@ -58,9 +59,12 @@ withCategory s n =
 abbrev pub sameSet : CategorySet → CategorySet → Bool
 sameSet a b = eqb (a .first) (b .first) && (eqb (a .second) (b .second) && eqb (a .third) (b .third))
 
--- a set has no other bit than those of categories
+-- a set has no other bit than those of categories. The third word alone has others: the eight below the bit of category 184
+abbrev pub knownThird : ℕ → Bool
+knownThird w = eqb (w % 256) 0
+
 abbrev pub knownSet : CategorySet → Bool
-knownSet s = eqb (s .third % 256) 0
+knownSet s = knownThird (s .third)
 
 -- ---- what these say of each other: a set is told by its categories, and made of them
 
@@ -103,5 +107,5 @@ pub record CategorySets : Type 0 where
   -- which 23 hold them all
   pub in-first : (s : CategorySet) (n : ℕ) → InWords s → 1 ≤ n → n ≤ 64 → hasCategory s n ≡ eqb (s .first / 2 ^ (64 - n) % 2) 1
   pub in-second : (s : CategorySet) (n : ℕ) → InWords s → 64 < n → n ≤ 128 → hasCategory s n ≡ eqb (s .second / 2 ^ (128 - n) % 2) 1
-  pub in-third : (s : CategorySet) (n : ℕ) → 128 < n → n ≤ 184 → hasCategory s n ≡ eqb (s .third / 2 ^ (192 - n) % 2) 1
+  pub in-third : (s : CategorySet) (n : ℕ) → 128 < n → n ≤ categoryLimit → hasCategory s n ≡ eqb (s .third / 2 ^ (192 - n) % 2) 1
   pub in-byte : (s : CategorySet) (i j : ℕ) → i < 23 → j < 8 → hasCategory s (8 * i + j + 1) ≡ eqb (byteOf s i / 2 ^ (7 - j) % 2) 1

@@ -73,8 +73,8 @@ pub fn numbers_of_digits()
     ensures { λ _. ⌜ NumbersOfDigits ⌝ }
 {}
 
-// The claim that a set is told by its categories and made of them: what one category more changes, that two sets with the same categories are equal, and
-// where each category lies.
+// The claim that a set is told by its categories and made of them: what one category more changes, that two sets with the same categories and no other bit
+// are equal, and where each category lies.
 pub fn category_sets()
     ensures { λ _. ⌜ CategorySets ⌝ }
 {}
@@ -131,5 +131,7 @@ pub fn known_set(set: CategorySet) -> bool
 pub fn category_count(set: CategorySet) -> u32
     ensures { λ r. ⌜ r ≡ length (categories set) ⌝ }
 {
-    u64::count_ones(set.first) + u64::count_ones(set.second) + u64::count_ones(set.third >> 8)
+    u64::count_ones(set.first)
+        + u64::count_ones(set.second)
+        + u64::count_ones(set.third / LOWEST_CATEGORY_BIT)
 }

@@ -47,14 +47,18 @@ fn lower(best: Best, entry: Record, level: u64, set: CategorySet) -> Best
 fn reach(count: usize, level: u64, set: CategorySet) -> usize
     ensures { λ r. ⌜ r ≡ searched count level set ⌝ }
 {
-    if lookups::known(level, set) { count } else { 0 }
+    if lookups::can_be_sought(level, set) {
+        count
+    } else {
+        0
+    }
 }
 
 // What a search answers by the best that it found.
 fn settled(best: Best, level: u64, set: CategorySet) -> Label
     ensures { λ r. ⌜ r ≡ settledOf best level set ⌝ }
 {
-    if !lookups::known(level, set) {
+    if !lookups::can_be_sought(level, set) {
         return Label::Refused(refusals::BAD_LEVEL_OR_CATEGORY.number);
     }
     match best {
@@ -76,13 +80,13 @@ fn shortest(a: usize, b: usize, c: usize) -> usize
 pub fn lowest_of(
     labels: &[u64],
     levels: &[u64],
-    words: &[u64],
+    sets: &[u64],
     level: u64,
     set: CategorySet,
 ) -> Label
-    ensures { λ r. ⌜ r ≡ runOf (recordsOf (now (labels .entry)) (now (levels .entry)) (now (words .entry))) level set ⌝ }
+    ensures { λ r. ⌜ r ≡ runOf (recordsOf (now (labels .entry)) (now (levels .entry)) (now (sets .entry))) level set ⌝ }
 {
-    let all = shortest(labels.len(), levels.len(), words.len() / 3);
+    let all = shortest(labels.len(), levels.len(), sets.len() / 3);
     let count = reach(all, level, set);
     let mut best = Best::Nothing;
     let mut i = 0;
@@ -91,9 +95,9 @@ pub fn lowest_of(
             label: labels[i],
             level: levels[i],
             set: CategorySet {
-                first: words[i * 3],
-                second: words[i * 3 + 1],
-                third: words[i * 3 + 2],
+                first: sets[i * 3],
+                second: sets[i * 3 + 1],
+                third: sets[i * 3 + 2],
             },
         };
         best = lower(best, entry, level, set);

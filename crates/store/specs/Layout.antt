@@ -9,7 +9,7 @@ use Prim.Native.Nat.{ℕ, _+_, _*_}
 use mathlib.Core.Bool.{Bool, _&&_}
 use mathlib.Core.Path.{_≡_}
 use mathlib.Core.List.{List, [], _∷_}
-use lib.ListN.{length, take, drop, getD, set}
+use lib.ListN.{length, take, drop, getD}
 use lib.Dec.{eqb, leb}
 use denote.Ref.{RefT, now}
 use denote.Triple.Both.{Both}
@@ -83,6 +83,7 @@ labelAt labels k = held (take placeSize (drop (k * placeSize) labels))
 unfoldable pub ruleAt : List ℕ → ℕ → Rule
 ruleAt e k = record { subject = getD e k 0; object = getD e (objectsFrom + k) 0; modes = getD e (modesFrom + k) 0 }
 
+-- the set of mapping k, from the three runs of words
 abbrev pub setAt : List ℕ → ℕ → CategorySet
 setAt w k = record { first = getD w (firstsFrom + k) 0; second = getD w (secondsFrom + k) 0; third = getD w (thirdsFrom + k) 0 }
 

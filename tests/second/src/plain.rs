@@ -22,7 +22,7 @@ pub const LABEL_LIMIT: usize = 255;
 /// "A line has at most 600 bytes before its newline"; a single write "at most 600 bytes".
 pub const LINE_LIMIT: usize = 600;
 /// "A mapping write may have 1,000 bytes."
-pub const MAPPING_LIMIT: usize = 1000;
+pub const MAPPING_WRITE_LIMIT: usize = 1000;
 /// "Later kernels allow 1 to 184".
 pub const HIGHEST_CATEGORY: u64 = 184;
 /// "Each number is the true one or 4,294,967,295, whichever is smaller."
@@ -772,7 +772,7 @@ impl Table {
 
     /// "Mapping: label, level, then no or more categories." Refusals 1 2 3 9 6 10.
     pub fn mapping(&mut self, write: &[u8]) -> Result<(), Refusal> {
-        if write.len() > MAPPING_LIMIT {
+        if write.len() > MAPPING_WRITE_LIMIT {
             return Err(Refusal::TooLong);
         }
         let fields = fields(write);

@@ -1,18 +1,18 @@
 -- `damage::all_known` meets its contract: after i turns `ok` tells of the first i words. Assumes nothing.
-use Prim.Native.Nat.{ℕ, _≤_, _<_, _-_, _%_}
+use Prim.Native.Nat.{_≤_, _<_, _-_}
 use mathlib.Core.Path.{_≡_, refl, sym, _∙_}
 use native.Mathlib.Numerals.{add-one}
 use native.Mathlib.Omega.{arith}
-use lib.Dec.{eqb}
 use lib.ListN.{length, take, getD}
 use lib.Seq.{take-suc}
 use Rattle.search.specs.Search.{all}
 use Rattle.search.proofs.Laws.{all-snoc}
+use Rattle.numbers.specs.Categories.{knownThird}
 use Rattle.damage.proofs.all_known.Statement.{statement}
 use Rattle.damage.proofs.all_known.Tie as tie
 
 abbrev Inv-loop : tie.InvT-loop
-Inv-loop run count ok₀ i₀ ok i = (i ≤ count) × (ok ≡ all (λ (x : ℕ). eqb (x % 256) 0) (take i run))
+Inv-loop run count ok₀ i₀ ok i = (i ≤ count) × (ok ≡ all knownThird (take i run))
 
 abbrev μ-loop : tie.MeasureT-loop
 μ-loop run count ok₀ i₀ ok i = count - i
@@ -38,7 +38,7 @@ loop-again c =
     let l = c .before .before in
     let a = l .before .args in
     let h : l .loop .i < length (a .run .now) = omega arith in
-    (omega arith, rw (l .loop .inv .1, add-one, take-suc (a .run .now) (l .loop .i) 0 h) (sym (all-snoc (λ (x : ℕ). eqb (x % 256) 0) (take (l .loop .i) (a .run .now)) (getD (a .run .now) (l .loop .i) 0))))
+    (omega arith, rw (l .loop .inv .1, add-one, take-suc (a .run .now) (l .loop .i) 0 h) (sym (all-snoc knownThird (take (l .loop .i) (a .run .now)) (getD (a .run .now) (l .loop .i) 0))))
 
 returns : tie.Need-returns Inv-loop μ-loop
 returns c =

@@ -27,7 +27,7 @@ whole : (c : tie.Else1 Inv-loop μ-loop) → Undamaged (store (c .before .before
 whole c = undamaged-is _ (tested c)
 
 searched : (c : tie.Else2 Inv-loop μ-loop) → sought (c .before .before .before .before .before .before .before .args .level) (c .before .before .before .before .before .before .before .args .set) ≡ true
-searched c = sym (c .before .known .ensures) ∙ not-false (c .before .known .result) (c .if2 .left)
+searched c = sym (c .before .can-be-sought .ensures) ∙ not-false (c .before .can-be-sought .result) (c .if2 .left)
 
 undamaged-requires : tie.Need-undamaged-requires Inv-loop μ-loop
 undamaged-requires c κs = search needs
@@ -37,13 +37,13 @@ returns c =
     let a = c .before .before .before .before .before .args in
     sym (level-damaged (a .labels .now) (a .entries .now) (a .words .now) (a .level) (a .set) (sym (c .before .undamaged .ensures) ∙ not-true (c .before .undamaged .result) (c .if1 .taken)))
 
-known-requires : tie.Need-known-requires Inv-loop μ-loop
-known-requires c κs = search needs
+can-be-sought-requires : tie.Need-can-be-sought-requires Inv-loop μ-loop
+can-be-sought-requires c κs = search needs
 
 returns-2 : tie.Need-returns-2 Inv-loop μ-loop
 returns-2 c =
     let a = c .before .before .before .before .before .before .before .args in
-    sym (level-refused (a .labels .now) (a .entries .now) (a .words .now) (a .level) (a .set) (tested (c .before .before)) (sym (c .before .known .ensures) ∙ not-true (c .before .known .result) (c .if2 .taken)))
+    sym (level-refused (a .labels .now) (a .entries .now) (a .words .now) (a .level) (a .set) (tested (c .before .before)) (sym (c .before .can-be-sought .ensures) ∙ not-true (c .before .can-be-sought .result) (c .if2 .taken)))
 
 shared-slice-read-stored : tie.Need-shared-slice-read-stored Inv-loop μ-loop
 shared-slice-read-stored c = omega (arith, whole (c .before .before .before) .sizes .words)
@@ -83,7 +83,7 @@ by-level-spec =
     μ-loop
     undamaged-requires
     returns
-    known-requires
+    can-be-sought-requires
     returns-2
     shared-slice-read-stored
     loop-holds

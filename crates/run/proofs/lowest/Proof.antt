@@ -273,7 +273,8 @@ module _ {M : Type 1} (𝓤 : URA M) (H : Heap 𝓤) (A : Atoms 𝓤) (W : Given
             rewrite ! 4 (λ (p : ℕ). ‵ (fat fullShare tyPtr l₁₀ 0 (vptr b p))) (sym (place-is 40 o (t .i))) refl $
             fsplit ! $ move ! (1 ∷ []) $ fsplit ! $ move ! (1 ∷ 3 ∷ []) $
             looks-slice ! tt T.the-row (Is T.the-row) (shows 𝓤 H A T.the-row) (LL.vals T.the-type T′.the-laws) (LL.tells T.the-type T′.the-laws) ((LL.copy T.the-type T′.the-copy) 𝓤 H A W) ys b o (λ q′. elem-out ! T.the-row (Is T.the-row) (shows 𝓤 H A T.the-row) (LL.vals T.the-type T′.the-laws) (LL.tells T.the-type T′.the-laws) q′ ys (t .i) zero b o (inside less) (λ g.
-            -- [run[i]; what it owns; the others; what shuts; the fractured borrow; res; run's fact; _11; …]: the cell is held at the type as the machine sees it, with no name, and is read at the struct's own
+            -- [run[i]; what it owns; the others; what shuts; the fractured borrow; res; run's fact; _11; …]:
+            -- the cell is held at the type as the machine sees it, with no name, and is read at the struct's own
             use1 W (‵ (fat q′ T′.mir b (place 40 o (t .i)) (mach (elem t)))) (W .laws .raw-at q′ T′.mir b (place 40 o (t .i)) (mach (elem t))) $
             assigns ! (of-opd ! (load ! (from ! (hop ! (look ! 9 refl) (stop !))) (look ! 0 refl))) (from ! (stop !)) (init ! 7 refl (LL.lawful T.the-type T′.the-laws 𝓤 H A W .typed (elem t) (mach (elem t) ∷ []) g .0)) $
             use1 W (‵ (cellAt q′ (T.the-row .mir) (mach (elem t) ∷ []) b (place 40 o (t .i)))) (W .laws .at-raw q′ T′.mir b (place 40 o (t .i)) (mach (elem t))) $

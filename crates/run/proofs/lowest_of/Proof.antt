@@ -13,21 +13,21 @@ use Rattle.run.proofs.lowest_of.Statement.{statement}
 use Rattle.run.proofs.lowest_of.Tie as tie
 
 abbrev Inv-loop : tie.InvT-loop
-Inv-loop labels levels words level set all count best₀ i₀ best i = (i ≤ count) × Left (recordsOf labels levels words) level set best i
+Inv-loop labels levels sets level set all count best₀ i₀ best i = (i ≤ count) × Left (recordsOf labels levels sets) level set best i
 
 abbrev μ-loop : tie.MeasureT-loop
-μ-loop labels levels words level set all count best₀ i₀ best i = count - i
+μ-loop labels levels sets level set all count best₀ i₀ best i = count - i
 
 module _ (c : tie.After-reach Inv-loop μ-loop) where
   abbrev records : List Record
-  records = recordsOf (c .before .before .before .before .before .args .labels .now) (c .before .before .before .before .before .args .levels .now) (c .before .before .before .before .before .args .words .now)
+  records = recordsOf (c .before .before .before .before .before .args .labels .now) (c .before .before .before .before .before .args .levels .now) (c .before .before .before .before .before .args .sets .now)
 
   -- the shortest of the three lengths is how many records there are
   all-of : c .before .shortest .result ≡ length records
   all-of = shortest-same _ _ _ _ _ (c .before .shortest .ensures) (records-length _ _ _)
 
   -- three words of each are there
-  third : c .before .shortest .result * 3 ≤ length (c .before .before .before .before .before .args .words .now)
+  third : c .before .shortest .result * 3 ≤ length (c .before .before .before .before .before .args .sets .now)
   third = omega (arith, c .before .shortest .ensures .third)
 
   -- no more of them are looked at

@@ -1,9 +1,9 @@
--- `lookups::known` meets its contract: it makes the definition's tests in their order. Assumes nothing.
+-- `lookups::can_be_sought` meets its contract: it makes the definition's tests in their order. Assumes nothing.
 use borrow.Author.Needs.{needs}
 use borrow.Author.Tests.{lt-leb, le-leb}
 use Rattle.lookups.specs.Lookups.{sought}
-use Rattle.lookups.proofs.known.Statement.{statement}
-use Rattle.lookups.proofs.known.Tie as tie
+use Rattle.lookups.proofs.can_be_sought.Statement.{statement}
+use Rattle.lookups.proofs.can_be_sought.Tie as tie
 
 returns : tie.Need-returns
 unfolding sought
@@ -16,5 +16,5 @@ returns-2 : tie.Need-returns-2
 unfolding sought
 returns-2 c = rw (le-leb _ _ (c .before .if1 .left)) (c .known-set .ensures)
 
-pub known-spec : {M : Type 1} → statement M
-known-spec = tie.close (tie.spec returns known-set-requires returns-2)
+pub can-be-sought-spec : {M : Type 1} → statement M
+can-be-sought-spec = tie.close (tie.spec returns known-set-requires returns-2)
