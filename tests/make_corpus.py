@@ -4997,6 +4997,277 @@ def categories_replaced():
     s.store()
 
 
+def categories_deep():
+    s = Script("categories_deep", "02, Four: runs of up to 604 records: at each of some places past 23, counted from 0, a record that is nearly the sought one, and the sought one.", True)
+    set_ = sum_of((64, 128, 184))
+    near = [("a bit that is no category", set_ | 1), ("another third word", set_ ^ category(184)), ("another second word", set_ ^ category(128)), ("another first word", set_ ^ category(64))]
+    for where in (24, 25, 31, 32, 33, 63, 64, 65, 127, 128, 255, 256, 257, 600):
+        s.say("The last record of %d has %s: none. It is the sought one: found." % (where + 1, ", or ".join(kind for kind, _ in near)))
+        before = [(1, 0, 0)] * where
+        for _, record in near:
+            s.run(9, set_, before + [(7, 9, record)], "none")
+        s.run(9, set_, before + [(7, 9, set_)], "label 7")
+    s.say("604 records, each of them nearly the sought one in one of these ways in turn, so that over four runs each place has each of them: none.")
+    runs = [[(k, 9, near[(k + turn) % 4][1]) for k in range(604)] for turn in range(4)]
+    for run in runs:
+        s.run(9, set_, run, "none")
+    s.say("The same with the sought one among them, at two places: the lower number, though it stands behind.")
+    s.run(9, set_, runs[0][:100] + [(9000, 9, set_)] + runs[0][101:600] + [(8000, 9, set_)] + runs[0][601:], "label 8000")
+    s.store()
+
+
+def categories_lent():
+    s = Script("categories_lent", "02, Four: a bit that is no category, stored at each of the 32 places: 0 from every call that is lent the tables, listing and label by number too.", True)
+    laid(s)
+    s.line(b"L05 L06 r", None)
+    s.dump("sound", True)
+    for k in range(32):
+        for bit in STRAYS if k == 5 else [STRAYS[k % 8]]:
+            s.say("bit %d of the third word of mapping %d, of 32" % (bit, k))
+            s.poke("words", 68 + k, bit)
+            s.dump("mapping %d bit %d" % (k, bit), True)
+            for call in TABLE_CALLS:
+                if len(call) < 100:
+                    s.call(call, "refused 0")
+            for number, buffer in ((0, s.buffer), (0, b""), (1, s.buffer)):
+                s.list(number, 0, buffer)
+            for number in (0, 5, 31, 32, 999):
+                s.label(number, 0)
+            s.dump("mapping %d bit %d" % (k, bit), True)
+        s.say("the last of %d mappings; and past the last of %d, where it does not matter" % (k + 1, k))
+        for count in (k + 1, k):
+            s.poke("words", 2, count)
+            s.list(0, 0 if count > k else b"L05 L06 r\n")
+            s.label(5, 0 if count > k else b"L05")
+            s.label(32, 0 if count > k else 13)
+            s.ask(b"L05", b"L06", b"r", "refused 0" if count > k else "granted 6")
+        s.poke("words", 2, 32)
+        s.poke("words", 68 + k, 0)
+    s.dump("sound", True)
+    s.store()
+
+
+def categories_damaged():
+    s = Script("categories_damaged", "01, refusal 0, and 02, Four: a damaged state and a mapping write of over 600 bytes, or over 1,000: always 0, whatever else the write deserves.", True)
+    kinds = [("words", 0, 65), ("words", 1, 257), ("words", 2, 33), ("words", 3, 9), ("words", 0, 8), ("entries", 0, b"\x09"), ("entries", 257, b"\xff"), ("entries", 514, b"\x40"),
+             ("entries", 769, b"\x09"), ("entries", 833, b"\x40"), ("words", 68, 1), ("words", 69, HUGE), ("labels", None, 16383), ("entries", None, 841), ("words", None, 36), ("words", None, 99)]
+    for number, (part, at, value) in enumerate(kinds):
+        s.say("%s: %s" % (part, "%d of them" % value if at is None else "at %d stands %s" % (at, value if part == "words" else value[0])))
+        small_state(s)
+        if at is None:
+            s.call("resize %s %d" % (part, value), "done")
+        else:
+            s.poke(part, at, value)
+        s.dump("kind %d" % number)
+        s.mapping(to_length(b"A 9 184", 601), "refused 0")
+        s.call("mapping =" + "A" * 601, "refused 0")
+        s.mapping(b"\t" * 990 + b"A 9 65 184", "refused 0")
+        s.call("mapping =" + "A" * 1001, "refused 0")
+        s.dump("kind %d" % number)
+    s.say("One bit that is no category, and writes that deserve 1, 2, 3, 9 or nothing, from 600 bytes to 1,002.")
+    small_state(s)
+    s.poke("words", 69, 128)
+    s.dump("lengths")
+    for length, text in ((600, b"D 9 184"), (602, b"A/ 9"), (700, b"A 9 185"), (800, b"New 9 64"), (900, b"D 256"), (999, b"D 9 128"), (1000, b"D 9 129"), (1001, b"D 9 129"), (1002, b"A/")):
+        s.mapping(to_length(text, length), "refused 0")
+    s.dump("lengths")
+    s.say("Without the bit each gets what it deserves.")
+    s.poke("words", 69, 0)
+    for length, text, answer in ((602, b"A/ 9", bad(1)), (700, b"A 9 185", "refused 9"), (1001, b"D 9 129", "refused 1"), (1000, b"D 9 129", "done")):
+        s.mapping(to_length(text, length), answer)
+    s.bylabel(b"D", mapped(9, category(129), 1))
+    s.store()
+
+
+def categories_empty():
+    s = Script("categories_empty", "02, Four: sought in a table without mappings, and in a run without records: none; 9 for a bit that is no category and for a level over 255.", True)
+    sets = [0, category(1), category(64), category(65), category(128), category(129), category(184), ALL]
+    s.say("A fresh table, and one with labels and rules but no mappings; the run has no records.")
+    for more in (False, True):
+        s.fresh()
+        if more:
+            labels_to(s, 25)
+            rules_to(s, 3)
+        s.dump("%d" % more, True)
+        for level in (0, 1, 9, 250, 255):
+            for set_ in sets:
+                s.bylevel(level, set_, "none")
+                s.run(level, set_, [], "none")
+        for at, bit in enumerate(STRAYS + [255]):
+            for level in (0, 9, 255, 256):
+                for set_ in (0, sets[1 + at % 6], ALL):
+                    s.bylevel(level, set_ | bit, "refused 9")
+                    s.run(level, set_ | bit, [], "refused 9")
+        for level in (256, 257, 511, 1 << 32, 1 << 63, HUGE):
+            for set_ in (0, category(184), ALL):
+                s.bylevel(level, set_, "refused 9")
+                s.run(level, set_, [], "refused 9")
+        s.dump("%d" % more, True)
+    s.say("The first place past the count holds just what is sought: level 0 and the empty set, level 255 and all, level 9 and such a bit.")
+    for level, set_, answer in ((0, 0, "none"), (255, ALL, "none"), (9, 1, "refused 9"), (0, 128, "refused 9"), (255, EVERY_BIT, "refused 9")):
+        s.poke("entries", 800, bytes([level]))
+        s.poke_set(0, set_)
+        s.bylevel(level, set_, answer)
+    s.say("0 comes before 9.")
+    s.poke("words", 3, 9)
+    s.bylevel(9, 0, "refused 0")
+    s.bylevel(9, 1, "refused 0")
+    s.bylevel(256, 0, "refused 0")
+    s.say("One record, of label 0, level 0 and the empty set; and the same at 255.")
+    for level in (0, 255):
+        s.run(level, 0, [(0, level, 0)], "label 0")
+        s.run(255 - level, 0, [(0, level, 0)], "none")
+        s.run(level, 0, [(0, level, 1)], "none")
+        s.run(level, category(184), [(0, level, 0)], "none")
+    s.store()
+
+
+def categories_unused():
+    s = Script("categories_unused", "02, Four: a new mapping goes to a place whose three words held other bits, any: all three are written, and those of the next places stay.", True)
+    laid(s)
+    labels_to(s, 40, 32)
+    for k in range(32):
+        s.poke_set(k, sum_of((2, 66, 130)))
+    for count in (31, 12, 5, 0):
+        s.say("The mapping after %d, beside a place that held zeros; the places behind it have every bit." % count)
+        for k in range(count + 1, 32):
+            if count == 12 or k <= 12:
+                s.poke_set(k, EVERY_BIT)
+        for members in ((), (1,), (64,), (65, 128), (129,), (184,), (64, 184)):
+            name = "after %d %s" % (count, "_".join("%d" % n for n in members))
+            for held in (0, EVERY_BIT, ALL ^ sum_of(members)):
+                s.poke("words", 2, count)
+                s.poke_set(count, held)
+                s.poke("entries", 768 + count, b"\xff" if held else b"\0")
+                s.poke("entries", 800 + count, b"\x4d" if held else b"\0")
+                s.mapping(b"L39 9 " + listed(members))
+                s.dump(name, True)
+                s.bylabel(b"L39", mapped(9, sum_of(members), len(members)))
+                s.bylevel(9, sum_of(members), "label 39")
+                s.bylevel(9, ALL ^ sum_of(members), "none")
+    s.store()
+
+
+def categories_refused():
+    s = Script("categories_refused", "02, Four: a mapping write that is refused, with each of its numbers, leaves every word: also those of unused places, which hold other bits.", True)
+    laid(s)
+    labels_to(s, 64, 32)
+    for k in range(32):
+        s.poke_set(k, sum_of((64 - k, 128 - k * 5 % 64, 184 - k * 11 % 56)))
+    writes = [(b"L40 8 2 66 130" + b" " * 987, 1), (b"A" * 1001, 1), (b"L40", 2), (b"", 2), (b"L40/ 8 2 66 130", 3), (b"-L40 8 2 66 130", 3), (b"L40 8 2 66 130 185", 9),
+              (b"L40 8 2 66 130 0", 9), (b"L40 256 2 66 130", 9), (b"New 8 2 66 130 185", 9), (b"New 8 2 66 130", 6), (b"New 8", 6)]
+    for count in (32, 31, 16, 5, 1, 0):
+        s.say("%d mappings, every bit in the words behind them: 1, 2, 3, 9 and 6%s" % (count, "" if count < 32 else ", and 10"))
+        s.poke("words", 2, count)
+        for k in range(count, 32):
+            if k == count or count == 16 or k < 16:
+                s.poke_set(k, EVERY_BIT)
+        s.dump("count %d" % count, True)
+        for text, number in writes + ([] if count < 32 else [(b"L40 8 2 66 130", 10), (b"L40 8", 10)]):
+            s.call("mapping " + (w(text) if len(text) > 600 else h(text)), "refused %d" % number)
+            s.dump("count %d" % count, True)
+        if count:
+            s.mapping(b"_ 8 2 66 130 185", "refused 9")
+            s.dump("count %d" % count, True)
+        s.say("and damaged: 0")
+        damages = [("words", 0, 65, 64), ("words", 1, 257, 0), ("words", 3, 9, 0)]
+        if count:
+            damages += [("entries", 768, b"\x40", b"\0"), ("words", 68, words_of(category(184))[2] | 1, words_of(category(184))[2])]
+        for at, (part, where, value, old) in enumerate(damages):
+            s.poke(part, where, value)
+            s.dump("count %d damage %d" % (count, at), True)
+            for text in (b"L40 8 2 66 130", b"_ 8", b"L40 8 185"):
+                s.mapping(text, "refused 0")
+                s.dump("count %d damage %d" % (count, at), True)
+            s.poke(part, where, old)
+        s.dump("count %d" % count, True)
+    s.store()
+
+
+def categories_orders():
+    s = Script("categories_orders", "02, Four: the words of a stored set, or of a record's, in another order are another set: sought where it is not, none.", True)
+    one, two, three = TOP + 256, TOP // 2 + 512, 3 << 40
+    for words in ((one, two, three), (one, two, 0), (one, one, two), (one, one, 0), (one, 0, 0), (256, 512, 1024), (HUGE - 255, 0, 0)):
+        orders = sorted({tuple(words[k] for k in order) for order in ((0, 1, 2), (0, 2, 1), (1, 0, 2), (1, 2, 0), (2, 0, 1), (2, 1, 0))})
+        s.say("The words %d, %d and %d in %d orders: one of them is stored, and each is sought." % (*words, len(orders)))
+        for stored in orders:
+            s.call("fresh", "done")
+            s.mapping(b"V 9")
+            for row, word in zip((4, 36, 68), stored):
+                s.poke("words", row, word)
+            for sought in orders:
+                s.call("bylevel 9 %d:%d:%d" % sought, "label 5" if sought == stored else "none")
+                s.call("run 9 %d:%d:%d 5,9,%d:%d:%d" % (sought + stored), "label 5" if sought == stored else "none")
+        for sought in orders:
+            others = " ".join("%d,9,%d:%d:%d" % (k, *order) for k, order in enumerate(orders) if order != sought)
+            s.call("run 9 %d:%d:%d %s" % (*sought, others), "none")
+    s.say("In a full table, all of one order but for the last: at levels 0 and 255.")
+    orders = [(one, two, three), (one, three, two), (two, one, three), (two, three, one), (three, one, two), (three, two, one)]
+    for turn, (most, last) in enumerate(zip(orders, orders[1:] + orders[:1])):
+        laid(s)
+        level = 255 * (turn % 2)
+        s.poke("entries", 800, bytes([level]) * 32)
+        for k in range(32):
+            for row, word in zip((4, 36, 68), last if k == 31 else most):
+                s.poke("words", row + k, word)
+        for sought in orders:
+            s.call("bylevel %d %d:%d:%d" % (level, *sought), "label 31" if sought == last else "label 0" if sought == most else "none")
+    s.store()
+
+
+def categories_controls():
+    s = Script("categories_controls", "01 and 02, Four: past byte 600 of a mapping write too, blanks are space and tab alone. Every other byte belongs to its field: 9 in a level or category.", True)
+    s.fresh()
+    s.mapping(b"V 7 64")
+    s.dump("before", True)
+    for byte in (0, 10, 11, 12, 13, 28, 31, 127, 133, 160):
+        other = bytes([byte])
+        s.say("byte %d: alone at the end, and in a category%s; in a label it is a bad byte, 3" % (byte, ", before one, between two, in a level" if byte in (0, 11, 12, 13) else ""))
+        s.mapping(to_length(b"V 9 1", 600) + other, "refused 9")
+        texts = [b"V 9 1" + other]
+        if byte in (0, 11, 12, 13):
+            s.mapping(to_length(b"V 9 1", 999) + other, "refused 9")
+            texts += [b"V 9 " + other + b"1", b"V 9 1" + other + b"2", b"V 9" + other, b"V 9" + other + b" 1", b"V 9 1 " + other + b" 2"]
+        for text in texts:
+            s.mapping(b" " * 600 + text, "refused 9")
+        s.mapping(b" " * 600 + b"V" + other + b" 9 1", bad(601))
+        s.mapping(b" " * 600 + other + b" 9 1", bad(600))
+        s.say("behind the label, where it leaves too few fields: 2")
+        s.mapping(b" " * 600 + b"V" + other + b"9", "refused 2")
+        s.dump("before", True)
+    s.say("In writes of 1,000 bytes: categories from byte 600 on, and behind the last of them the byte.")
+    for byte in (0, 11, 12, 13):
+        text = b"V 9 " + b"\t" * 595 + b" 001" * 100
+        assert len(text) == 999
+        s.mapping(text + bytes([byte]), "refused 9")
+    s.dump("before", True)
+    s.say("Spaces and tabs at the same places part fields, and end the write.")
+    for number, blank in ((9, b" "), (8, b"\t")):
+        s.mapping(to_length(b"V %d 1" % number, 600) + blank)
+        s.bylabel(b"V", mapped(number, category(1), 1))
+        s.mapping(b" " * 600 + b"V" + blank + b"%d" % number + blank + b"1" + blank + b"184" + blank)
+        s.bylabel(b"V", mapped(number, sum_of((1, 184)), 2))
+    s.store()
+
+
+def categories_records():
+    s = Script("categories_records", "02, Four: a record with a bit that is no category matches nothing, whatever its label number and its level are; beside it, a record that matches is found.", True)
+    sets = [0, category(64), category(128), category(184), ALL]
+    turn = 0
+    for number in (0, 1, 63, MOST, MOST + 1, 1 << 63, HUGE):
+        for level in (0, 1, 9, 255):
+            s.say("label number %d, level %d" % (number, level))
+            for at, bit in enumerate(STRAYS):
+                turn += 1
+                set_ = sets[(turn + at) % 5]
+                s.run(level, set_, [(number, level, set_ | bit)], "none")
+            s.run(level, set_, [(number, level, set_ | 255)], "none")
+            s.run(level, set_, [(number, level, set_ | 1), (7, level, set_)], "label 7")
+            s.run(level, set_, [(HUGE, level, set_), (number, level, set_ | 128)], "label %d" % HUGE)
+            s.run(level, set_, [(number, level, set_)], "label %d" % number)
+    s.store()
+
+
 def categories():
     categories_each()
     categories_sets()
@@ -5015,6 +5286,15 @@ def categories():
     categories_far()
     categories_runs()
     categories_replaced()
+    categories_deep()
+    categories_lent()
+    categories_damaged()
+    categories_empty()
+    categories_unused()
+    categories_refused()
+    categories_orders()
+    categories_controls()
+    categories_records()
 
 
 # ---------------------------------------------------------------------------------------------------------------------------------------------

@@ -49,6 +49,7 @@ numbers-of-02 =
       finished = (λ old l r. refl, λ old n. refl);
       categories-and-mapping = refl;
       lent-parts = refl;
+      lent-runs = refl;
       categories = λ n. refl;
       first-and-last = refl;
       no-category = refl;

@@ -1,4 +1,4 @@
--- 01's numbers and 02's, each as it stands there, and those of the header: the refusals, the limits, and what a host gets for each case of an answer. Elsewhere they are spoken of by name; here
+-- 01's numbers and 02's, each as it stands there, and those of the lent parts: the refusals, the limits, and what a host gets for each case of an answer. Elsewhere they are spoken of by name; here
 -- a name that has another number is refused. Assumes nothing.
 use Prim.Native.Nat.{ℕ}
 use mathlib.Core.Path.{_≡_}
@@ -12,7 +12,7 @@ use Rattle.alphabet.specs.Alphabet.{labelLongest, lineLimit}
 use Rattle.numbers.specs.Categories.{levelLimit, isLevel, categoryLimit, isCategory, noCategories, withCategory}
 use Rattle.numbers.specs.declared.CategorySet.{CategorySet}
 use Rattle.cipso.specs.Cipso.{mappingLongest}
-use Rattle.store.specs.Layout.{labelsSize, entriesSize, wordsSize}
+use Rattle.store.specs.Layout.{labelsSize, entriesSize, wordsSize, objectsFrom, modesFrom, mappedFrom, levelsFrom, onlycapFrom, firstsFrom, secondsFrom, thirdsFrom}
 use Rattle.store.specs.Table.{fresh, labelLimit, ruleLimit, mappingLimit, onlycapLimit}
 use Rattle.reports.specs.Report.{countLimit, freshLoader}
 use Rattle.load.specs.Loader.{Load, ready, endAfter}
@@ -77,7 +77,8 @@ pub record NumbersOf01 : Type 0 where
 
 -- what 02 adds, request by request. One: the refusals 14 and 15; the most bytes of a label in an old record, the bytes of a label's place, and those
 -- of the record. Three: the place beside a 3, as every answer that has one shows it; a refusal is plain where its place is 0. Four: the highest category
--- and the most bytes of a mapping write; and, from the header, the sizes of the lent parts and the bits of categories at both ends of each word of a set
+-- and the most bytes of a mapping write; and, which no paper has, the sizes of the lent parts, where their runs begin, and the bits of categories at both
+-- ends of each word of a set
 pub record NumbersOf02 : Type 0 where
   pub old-records :
       (refusal.badRecord .number ∷ refusal.notInARecord .number ∷ recordLabel ∷ labelPlace ∷ recordSize ∷ []) ≡ 14 ∷ 15 ∷ 23 ∷ 24 ∷ 53 ∷ []
@@ -101,6 +102,9 @@ pub record NumbersOf02 : Type 0 where
       })
   pub categories-and-mapping : (categoryLimit ∷ mappingLongest ∷ []) ≡ 184 ∷ 1000 ∷ []
   pub lent-parts : (labelsSize ∷ entriesSize ∷ wordsSize ∷ []) ≡ 16384 ∷ 840 ∷ 100 ∷ []
+  pub lent-runs :
+      (objectsFrom ∷ modesFrom ∷ mappedFrom ∷ levelsFrom ∷ onlycapFrom ∷ firstsFrom ∷ secondsFrom ∷ thirdsFrom ∷ [])
+      ≡ 256 ∷ 512 ∷ 768 ∷ 800 ∷ 832 ∷ 4 ∷ 36 ∷ 68 ∷ []
   pub categories : (n : ℕ) → isCategory n ≡ (leb 1 n && leb n 184)
   pub first-and-last :
       foldl withCategory noCategories (1 ∷ 64 ∷ 65 ∷ 127 ∷ 128 ∷ 129 ∷ 184 ∷ [])

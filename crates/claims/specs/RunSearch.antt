@@ -1,12 +1,12 @@
 -- The search of a run: what it answers is what 01 and 02, Four, say of the records, of a run of any length and content. Assumes nothing.
-use Prim.Native.Nat.{ℕ, _+_, _*_, _<_}
+use Prim.Native.Nat.{ℕ, _+_, _*_, _<_, _≤_}
 use mathlib.Core.Bool.{true, false}
 use mathlib.Core.Path.{_≡_}
 use mathlib.Core.Logic.{_↔_}
 use mathlib.Core.List.{List}
 use lib.ListN.{length, getD}
 use Rattle.refusals.specs.Refusals.{badLevelOrCategory}
-use Rattle.numbers.specs.Categories.{knownSet}
+use Rattle.numbers.specs.Categories.{hasCategory, knownSet}
 use Rattle.numbers.specs.declared.CategorySet.{CategorySet}
 use Rattle.run.specs.declared.Record.{Record}
 use Rattle.lookups.specs.declared.Label.the-variants as label
@@ -20,6 +20,8 @@ pub record SearchesTheRun : Type 0 where
   -- none is answered exactly where none matches
   pub none : (run : List Record) (level : ℕ) (set : CategorySet) → runOf run level set ≡ label.Nothing → Unmatched run level set
   pub unmatched : (run : List Record) (level : ℕ) (set : CategorySet) → sought level set ≡ true → Unmatched run level set → runOf run level set ≡ label.Nothing
+  -- a level and a set can be searched for, in the table or in a run, exactly where the level is 0 to 255 and none of the set's bits is behind category 184
+  pub searchable : (level : ℕ) (set : CategorySet) → (sought level set ≡ true) ↔ ((level ≤ 255) × ((k : ℕ) → 184 < k → k ≤ 192 → hasCategory set k ≡ false))
   -- 9 is answered exactly where the level or the set cannot be searched for
   pub refused : (run : List Record) (level : ℕ) (set : CategorySet) → sought level set ≡ false → runOf run level set ≡ label.Refused (badLevelOrCategory .number)
   pub only-9 : (run : List Record) (level : ℕ) (set : CategorySet) (k : ℕ) → runOf run level set ≡ label.Refused k → (k ≡ badLevelOrCategory .number) × (sought level set ≡ false)

@@ -2,14 +2,16 @@
 use mathlib.Core.Path.{_≡_, sym, ap, _∙_}
 use mathlib.Core.Bool.{Bool, true}
 use mathlib.Core.List.{List}
-use Prim.Native.Nat.{ℕ, _+_, _%_, _<_}
+use Prim.Native.Nat.{ℕ, _+_, _<_}
 use lib.Dec.{ltb}
 use lib.ListN.{length, getD}
-use borrow.Author.Tests.{eqb-true, eq-eqb, ltb-true, lt-ltb}
+use borrow.Author.Tests.{ltb-true, lt-ltb}
 use Rattle.search.specs.Search.{all, entries}
 use Rattle.search.proofs.Laws.{and-both, all-at, entries-length, entries-at}
+use Rattle.numbers.specs.Categories.{knownSet}
+use Rattle.numbers.proofs.Sets.{category-sets}
 use Rattle.store.specs.Table.{soundRule, soundMapping, soundTable}
-use Rattle.store.specs.Layout.{Store, ruleAt, mappingAt, onlycapAt, tableOf, undamagedOf}
+use Rattle.store.specs.Layout.{Store, ruleAt, setAt, mappingAt, onlycapAt, tableOf, undamagedOf}
 use Rattle.store.proofs.Laws.{undamaged-is, is-undamaged}
 use Rattle.damage.specs.Undamaged.{Undamaged, WhatUndamagedIs}
 use Rattle.damage.proofs.Laws.{all-entries}
@@ -31,9 +33,9 @@ rule-passes n e k q =
     let b = and-both _ _ (a .0) in
     (ltb-true _ _ (b .0), ltb-true _ _ (b .1), ltb-true _ _ (a .1))
 
-mapping-passes : (n : ℕ) (e w : List ℕ) (k : ℕ) → soundMapping n (mappingAt e w k) ≡ true → (getD e (768 + k) 0 < n) × (getD w (68 + k) 0 % 256 ≡ 0)
+mapping-passes : (n : ℕ) (e w : List ℕ) (k : ℕ) → soundMapping n (mappingAt e w k) ≡ true → (getD e (768 + k) 0 < n) × (knownSet (setAt w k) ≡ true)
 unfolding soundMapping mappingAt
-mapping-passes n e w k q = let a = and-both _ _ q in (ltb-true _ _ (a .0), eqb-true _ _ (a .1))
+mapping-passes n e w k q = let a = and-both _ _ q in (ltb-true _ _ (a .0), a .1)
 
 onlycap-passes : (n : ℕ) (e : List ℕ) (k : ℕ) → ltb (onlycapAt e k) n ≡ true → getD e (832 + k) 0 < n
 unfolding onlycapAt
@@ -63,7 +65,7 @@ module _ (s : Store) where
         mapped = λ k h. mapping-passes n (s .entries) (s .words) k (mappings k h) .0;
         onlycap = λ k h. onlycap-passes n (s .entries) k (listed k h);
         modes = λ k h. rule-passes n (s .entries) k (rules k h) .2;
-        sets = λ k h. mapping-passes n (s .entries) (s .words) k (mappings k h) .1;
+        sets = λ k h. category-sets .known (setAt (s .words) k) .0 (mapping-passes n (s .entries) (s .words) k (mappings k h) .1);
       }
 
   sound-by : Undamaged s → soundTable (getD (s .words) 0 0) (tableOf s) ≡ true
@@ -73,7 +75,7 @@ module _ (s : Store) where
         all-entries (soundRule (getD (s .words) 0 0)) (ruleAt (s .entries)) (getD (s .words) 1 0)
             (λ k h. rw (lt-ltb _ _ (u .subjects k h), lt-ltb _ _ (u .objects k h), lt-ltb _ _ (u .modes k h))),
         all-entries (soundMapping (getD (s .words) 0 0)) (mappingAt (s .entries) (s .words)) (getD (s .words) 2 0)
-            (λ k h. rw (lt-ltb _ _ (u .mapped k h), eq-eqb _ _ (u .sets k h))),
+            (λ k h. rw (lt-ltb _ _ (u .mapped k h), category-sets .known (setAt (s .words) k) .1 (u .sets k h))),
         all-entries (λ (k : ℕ). ltb k (getD (s .words) 0 0)) (onlycapAt (s .entries)) (getD (s .words) 3 0)
             (λ k h. lt-ltb _ _ (u .onlycap k h)),
       )

@@ -1,11 +1,12 @@
 -- 01, the tables' part of refusal 0: what an undamaged state is, said of the lent slices place by place, without the tables that they hold and without
 -- the test of store/specs/Layout. (A label's length is a byte, so none is over 255.) Assumes nothing.
-use Prim.Native.Nat.{ℕ, _+_, _%_, _<_, _≤_}
+use Prim.Native.Nat.{ℕ, _+_, _<_, _≤_}
 use mathlib.Core.Path.{_≡_}
-use mathlib.Core.Bool.{true}
+use mathlib.Core.Bool.{true, false}
 use mathlib.Core.Logic.{_↔_}
 use lib.ListN.{length, getD}
-use Rattle.store.specs.Layout.{Store, labelsSize, entriesSize, wordsSize, objectsFrom, modesFrom, mappedFrom, onlycapFrom, thirdsFrom, undamagedOf}
+use Rattle.numbers.specs.Categories.{hasCategory}
+use Rattle.store.specs.Layout.{Store, labelsSize, entriesSize, wordsSize, objectsFrom, modesFrom, mappedFrom, onlycapFrom, setAt, undamagedOf}
 
 -- the counts of labels, rules, mappings and onlycap labels are words 0 to 3
 pub record Undamaged (s : Store) : Type 0 where
@@ -25,8 +26,8 @@ pub record Undamaged (s : Store) : Type 0 where
   pub onlycap : (k : ℕ) → k < getD (s .words) 3 0 → getD (s .entries) (onlycapFrom + k) 0 < getD (s .words) 0 0
   -- no mode bit is unknown: the six known ones are the lowest
   pub modes : (k : ℕ) → k < getD (s .words) 1 0 → getD (s .entries) (modesFrom + k) 0 < 64
-  -- no category bit is unknown: the eight lowest of a set's third word are no category, and all others are
-  pub sets : (k : ℕ) → k < getD (s .words) 2 0 → getD (s .words) (thirdsFrom + k) 0 % 256 ≡ 0
+  -- no category bit is unknown: of the 192 bits of a set, those behind the last category are none
+  pub sets : (k : ℕ) → k < getD (s .words) 2 0 → (n : ℕ) → 184 < n → n ≤ 192 → hasCategory (setAt (s .words) k) n ≡ false
 
 -- a state passes the test exactly where it is as 01 says
 abbrev pub WhatUndamagedIs : Type 0

@@ -4,7 +4,7 @@ use mathlib.Core.Bool.{Bool, true, false, cond, _&&_, _||_}
 use mathlib.Core.Logic.{_↔_, _⊎_, inl, inr, ⊎-elim}
 use mathlib.Core.List.{List, [], _∷_, _++_, foldl, List·Memᴰ, List·Memᴰ·head, List·Memᴰ·tail, List·Memᴰ·not-nil, List·Memᴰ·cases-cons}
 use Prim.Native.Nat.{ℕ, zero, suc, _+_, _-_, _*_, _/_, _%_, _^_, _<_, _≤_, max}
-use native.Mathlib.Nat.{le-of-suc-le-suc, pow-suc, mod-lt, mul-mod-left, mod-eq-of-lt, one-mul, mul-div-cancel, div-self, div-eq-of-lt, mul-assoc, mul-add-div-right, suc-mul, mul-le-mul-right, add-zero, zero-add, zero-mul}
+use native.Mathlib.Nat.{le-of-suc-le-suc, pow-suc, mod-lt, mul-mod-left, mod-eq-of-lt, one-mul, mul-div-cancel, div-self, div-eq-of-lt, div-one, mul-assoc, mul-add-div-right, suc-mul, mul-le-mul-right, add-zero, zero-add, zero-mul}
 use native.Mathlib.Numerals.{add-one}
 use native.Mathlib.Omega.{arith}
 use lib.Dec.{eqb, leb, ltb}
@@ -601,4 +601,6 @@ category-sets =
       in-second = in-second;
       in-third = in-third;
       in-byte = in-byte;
+      byte = λ s i. mod-lt _ (omega arith);
+      last-byte = λ s k. ap (λ (x : ℕ). x % 256) (div-one (value s)) ∙ value-low s ∙ eqb-true _ _ k;
     }

@@ -104,8 +104,10 @@ pub record CategorySets : Type 0 where
   -- a known set is made of its categories
   pub made : (s : CategorySet) → InWords s → knownSet s ≡ true → foldl withCategory noCategories (categories s) ≡ s
   -- where a category lies: in which word, and at which bit of it, as the header's two macros have it; and in the bytes, category 1 first and highest, of
-  -- which 23 hold them all
+  -- which 23 hold them all: each is a byte, and of a known set the one behind them is 0
   pub in-first : (s : CategorySet) (n : ℕ) → InWords s → 1 ≤ n → n ≤ 64 → hasCategory s n ≡ eqb (s .first / 2 ^ (64 - n) % 2) 1
   pub in-second : (s : CategorySet) (n : ℕ) → InWords s → 64 < n → n ≤ 128 → hasCategory s n ≡ eqb (s .second / 2 ^ (128 - n) % 2) 1
   pub in-third : (s : CategorySet) (n : ℕ) → 128 < n → n ≤ categoryLimit → hasCategory s n ≡ eqb (s .third / 2 ^ (192 - n) % 2) 1
   pub in-byte : (s : CategorySet) (i j : ℕ) → i < 23 → j < 8 → hasCategory s (8 * i + j + 1) ≡ eqb (byteOf s i / 2 ^ (7 - j) % 2) 1
+  pub byte : (s : CategorySet) (i : ℕ) → byteOf s i < 256
+  pub last-byte : (s : CategorySet) → knownSet s ≡ true → byteOf s 23 ≡ 0
