@@ -26,7 +26,7 @@ pub record Undamaged (s : Store) : Type 0 where
   pub onlycap : (k : ℕ) → k < getD (s .words) 3 0 → getD (s .entries) (onlycapFrom + k) 0 < getD (s .words) 0 0
   -- no mode bit is unknown: the six known ones are the lowest
   pub modes : (k : ℕ) → k < getD (s .words) 1 0 → getD (s .entries) (modesFrom + k) 0 < 64
-  -- no category bit is unknown: of the 192 bits of a set, those behind the last category are none
+  -- no category bit is unknown: of the 192 bits of a set, those behind category 184 are 0
   pub sets : (k : ℕ) → k < getD (s .words) 2 0 → (n : ℕ) → 184 < n → n ≤ 192 → hasCategory (setAt (s .words) k) n ≡ false
 
 -- a state passes the test exactly where it is as 01 says

@@ -1,10 +1,10 @@
--- Each is a law of the crate run, but for what can be searched for: by what a known set is. Assumes nothing.
+-- Each is a law of the crate run; what can be searched for, and what matches nothing, by what a known set is. Assumes nothing.
 use Prim.Native.Nat.{ℕ, _<_, _≤_}
-use mathlib.Core.Path.{_≡_}
-use mathlib.Core.Bool.{true, false}
+use mathlib.Core.Path.{_≡_, refl, sym, _∙_}
+use mathlib.Core.Bool.{Bool, true, false}
 use mathlib.Core.Logic.{_↔_}
 use borrow.Author.Tests.{leb-true, le-leb}
-use Rattle.search.proofs.Laws.{and-both}
+use Rattle.search.proofs.Laws.{no, and-both}
 use Rattle.numbers.specs.Categories.{isLevel, hasCategory, knownSet}
 use Rattle.numbers.specs.declared.CategorySet.{CategorySet}
 use Rattle.numbers.proofs.Sets.{category-sets}
@@ -20,6 +20,14 @@ searchable level set = (
   λ h. rw (le-leb level 255 (h .0), category-sets .known set .1 (h .1)),
 )
 
+-- a set with such a bit is not known
+unknown : (s : CategorySet) (k : ℕ) → 184 < k → k ≤ 192 → hasCategory s k ≡ true → knownSet s ≡ false
+unknown s k l m e = by-test (knownSet s) refl
+  where
+    by-test : (t : Bool) → knownSet s ≡ t → t ≡ false
+    by-test true q = absurd (no (sym (category-sets .known s .0 q k l m) ∙ e))
+    by-test false q = refl
+
 returns : tie.Need-returns
 returns c =
     record {
@@ -29,7 +37,7 @@ returns c =
       searchable = searchable;
       refused = λ run level set h. run-refused run level set h;
       only-9 = λ run level set k e. run-refused-9 run level set k e;
-      no-set = unknown-unmatched;
+      no-set = λ r level set h k l m e. unknown-unmatched r level set h (unknown (r .set) k l m e);
       as-many = records-many;
       each = records-at;
     }
