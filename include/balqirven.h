@@ -218,6 +218,14 @@ typedef struct {
     size_t length;
 } bq_part;
 
+/* What the option's reader answers: the label's length and its bytes. The bytes behind it are 0; on a refusal the length and all bytes are. */
+typedef struct {
+    bool refused;
+    uint8_t number;
+    size_t length;
+    uint8_t bytes[255];
+} bq_peer;
+
 /* ---- a fresh table and a fresh loader */
 
 /* Makes a fresh table, the labels _ ^ * ? @ alone, of three parts with any contents. Bytes that no entry holds stay as they were.
@@ -318,6 +326,16 @@ bq_length bq_record_to_line(const uint8_t *record, size_t record_len, uint8_t *o
  * cut: one over 23 bytes is refused with 15, and so is a b. The record, turned back by bq_record_to_line, is the listing's form of the line.
  * Refusals: 1 2 3 4 5 15 12. */
 bq_length bq_line_to_record(const uint8_t *line, size_t line_len, uint8_t *out, size_t out_len);
+
+/* ---- the packet option */
+
+/* The option of a label, at the front of `out`: 10 to 34 bytes. Refusals: 0 3 19 12. */
+bq_length bq_write_option(const uint8_t *labels, size_t labels_len, const uint8_t *entries, size_t entries_len, const uint64_t *words,
+                          size_t words_len, const uint8_t *label, size_t label_len, uint8_t *out, size_t out_len);
+
+/* The label that an option says. Refusals: 0 16 17 18 3 21. */
+bq_peer bq_read_option(const uint8_t *labels, size_t labels_len, const uint8_t *entries, size_t entries_len, const uint64_t *words,
+                       size_t words_len, const uint8_t *option, size_t option_len);
 
 #ifdef __cplusplus
 }

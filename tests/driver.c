@@ -10,6 +10,7 @@
  *   astray    a label's part does not lie where label k's place in the lent store is
  *   stray     a field of an answer is not 0 where the header says that it is
  *   place P   the same of the place: it is P beside an answer that is no refusal with 3
+ *   long N    the label that is read of an option has N bytes, over the 255 that there is room for
  *   touched   a call wrote into text, labels or records that it was lent to read
  *   against   bq_lowest_in_run and bq_lowest_of disagree, or bq_label_check and bq_label; both answers are given
  *   moved     a refused piece or end call handed back another loader than it was given
@@ -295,6 +296,8 @@ static void read_only(text *t) {
 
 /* ---- answers */
 
+_Static_assert(sizeof(bq_peer) == 272, "an option's reader answers 272 bytes");
+
 static void put_refused(uint8_t number) { put_word_number("refused", number); }
 
 /* The place of an answer, behind all else of it: it belongs to the number 3 alone. */
@@ -391,6 +394,24 @@ static void put_decision(bq_decision d) {
     put_word_number(kinds[d.kind], d.number);
     if (d.bringup) put(d.kind == BQ_GRANTED ? " b" : " stray");
     put_place(d.kind == BQ_REFUSED, d.number, d.place);
+}
+
+/* The label that an option says. The bytes behind it are 0; on a refusal they all are, and the length. */
+static void put_peer(const bq_peer *p) {
+    size_t used = 0;
+    if (p->refused) {
+        put_refused(p->number);
+    } else if (p->length > sizeof p->bytes) {
+        put_word_number("peer long", p->length);
+        used = sizeof p->bytes;
+    } else {
+        put("peer ");
+        put_hex(p->bytes, p->length);
+        used = p->length;
+    }
+    bool stray = p->refused ? p->length != 0 : p->number != 0;
+    for (size_t i = used; i < sizeof p->bytes; i++) stray |= p->bytes[i] != 0;
+    if (stray) put(" stray");
 }
 
 /* How many bytes were written to a lent output, and the whole output afterwards. */
@@ -617,6 +638,13 @@ static bool call(const char *at, const char *end) {
         call_label(number);
         return true;
     }
+    if (given == 1 && is(name, "readoption")) {
+        if (!read_hex(a, &t)) return false;
+        bq_peer peer = bq_read_option(TABLES, t.bytes, t.length);
+        put_peer(&peer);
+        read_only(&t);
+        return true;
+    }
     if (given == 1) {
         if (!is(name, "piece") && !is(name, "change") && !is(name, "revoke") && !is(name, "override") && !is(name, "mapping") &&
             !is(name, "bylabel"))
@@ -658,6 +686,16 @@ static bool call(const char *at, const char *end) {
     if (given == 2 && is(name, "list")) {
         if (!read_number(a, &number) || !read_hex(b, &t)) return false;
         put_length(bq_list_rule(TABLES, number, t.bytes, t.length), &t);
+        return true;
+    }
+    if (given == 2 && is(name, "writeoption")) {
+        if (!read_hex(a, &t)) return false;
+        if (!read_hex(b, &out)) {
+            give_back(&t);
+            return false;
+        }
+        put_length(bq_write_option(TABLES, t.bytes, t.length, out.bytes, out.length), &out);
+        read_only(&t);
         return true;
     }
     if (given == 2 && (is(name, "recordtoline") || is(name, "linetorecord"))) {

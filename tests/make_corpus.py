@@ -4,8 +4,8 @@ the second implementation the outputs that go with them (NAME.out, NAME.answers)
 
   tests/make_corpus.py
 
-The order is that of 01, the scope paper; then come the old fixed records of 02, request One, how labels and pairs are found, request Two, the places of bad bytes, request Three, and the categories up to 184, request Four. What the paper says of a
-call stands before the call as a comment line that tests/corpus_check holds the answers to:
+The order is that of 01, the scope paper; then come the old fixed records of 02, request One, how labels and pairs are found, request Two, the places of bad bytes, request Three, the
+categories up to 184, request Four, and the packet option, request Five. What the paper says of a call stands before the call as a comment line that tests/corpus_check holds the answers to:
 
   # expect: ANSWER              the next call answers exactly this
   # expect: same NAME           the next call answers what the first call so marked in this script answered
@@ -13,7 +13,8 @@ call stands before the call as a comment line that tests/corpus_check holds the 
   # expect from here: ANSWER    each call answers this, up to the line `# expect from here: any`
 
 These lines are written here from the papers, not taken from a program. Where a call is expected to be refused with 3, the place beside it is worked out from its bytes by the short functions
-below, which say what 02, Three, says; the scripts places_* give most places by hand. What the program says to a small input is given here too, and tested as the corpus
+below, which say what 02, Three, says; the scripts places_* give most places by hand. The packet options that a loop makes, and what is read of them, are worked out by short functions at the head of
+that group, which say 02, Five, category by category; others stand as numbers. What the program says to a small input is given here too, and tested as the corpus
 is written. The scripts kernel_*.calls are made of recordings of a running kernel, from the folder named by KERNEL_VECTORS; without it those that are stored
 stay as they are.
 """
@@ -113,7 +114,7 @@ class Script:
 
     def call(self, text, expect=None):
         """`expect` may be `refused 3` without the place: then it is worked out."""
-        if expect == "refused 3":
+        if expect == "refused 3" and place_said(text) is not None:
             expect += " %d" % place_said(text)
         if expect is not None:
             self.lines.append("# expect: " + expect)
@@ -177,6 +178,16 @@ class Script:
     def to_record(self, line, expect, out=b"\xee" * 56):
         """`expect` is the record that is written, or the number of a refusal."""
         self.call("linetorecord %s %s" % (h(line), h(out)), output_says(expect, out))
+
+    def write_option(self, label, expect, out=None):
+        """`expect` is the option that is written, or the number of a refusal. The output is two bytes longer than the option, or of 40 bytes, where it is not given."""
+        if out is None:
+            out = b"\xee" * (len(expect) + 2 if isinstance(expect, bytes) else 40)
+        self.call("writeoption %s %s" % (w(label), h(out)), output_says(expect, out))
+
+    def read_option(self, option, expect):
+        """`expect` is the label that is answered, or the number of a refusal, which has no place beside it."""
+        self.call("readoption " + h(option), "peer " + h(expect) if isinstance(expect, bytes) else "refused %d" % expect)
 
     def label(self, k, expect):
         self.call("label %d" % k, "done " + h(expect) if isinstance(expect, bytes) else "refused %d -" % expect)
@@ -790,7 +801,13 @@ def refusals():
 # Each call twice: once with nothing else to refuse, once deserving another number.
 TABLE_CALLS = ["piece " + h(b"A B w\n"), "piece -", "end", "change " + h(b"A B w -"), "change " + h(b"A B" + b" " * 600), "revoke " + h(b"A"), "revoke -", "override " + h(b"A"),
                "override -", "mapping " + h(b"A 9"), "mapping " + h(b"A"), "bylabel " + h(b"A"), "bylabel -", "bylevel 9 0:0:0", "bylevel 256 0:0:1",
-               "question " + " ".join([h(b"A"), h(b"B"), h(b"r"), "0"]), "question - - - 1", "question " + " ".join([h(b"*"), h(b"*"), h(b"r"), "1"])]
+               "question " + " ".join([h(b"A"), h(b"B"), h(b"r"), "0"]), "question - - - 1", "question " + " ".join([h(b"*"), h(b"*"), h(b"r"), "1"]),
+               "writeoption " + h(b"A") + " " + "ee" * 20, "writeoption - -", "readoption 860c00000003010600fa2080", "readoption -"]
+
+
+def under_damage(call):
+    """What such a call answers in a damaged state. The output of a `writeoption` stays, and stands behind the number."""
+    return "refused 0 " + call.split(" ")[2] if call.startswith("writeoption ") else "refused 0"
 
 
 def small_state(s):
@@ -805,7 +822,7 @@ def small_state(s):
 def refused_by_all(s):
     s.from_here("refused 0")
     for call in TABLE_CALLS:
-        s.call(call)
+        s.call(call, None if under_damage(call) == "refused 0" else under_damage(call))
     s.from_here("any")
     s.list(0, 0)
     s.list(999, 0, b"")
@@ -1452,7 +1469,7 @@ def says_mapping(text):
         return "refused 2"
     if not is_label(f[0]):
         return "refused 3"
-    return "done" if is_number(f[1], 0, 255) and all(is_number(c, 1, 184) for c in f[2:]) else "refused 9"
+    return "done" if is_number(f[1], 0, 255) and int(f[1]) != 250 and all(is_number(c, 1, 184) for c in f[2:]) else "refused 9"
 
 
 def says_revoke(text, rules):
@@ -1566,7 +1583,7 @@ def ranges_writes():
         text = b"V %d" % n
         s.mapping(text, says_mapping(text))
         if n < 256:
-            s.bylabel(b"V", mapped(n, 0, 0))
+            s.bylabel(b"V", mapped(249 if n == 250 else n, 0, 0))
         if n < 100 and n % 7 < 2:
             s.mapping(b"V %03d" % n)
             s.mapping(b"V %04d" % n, "refused 9")
@@ -1945,7 +1962,13 @@ def ranges_look_ups():
             s.run(other, 0, [(5, other, 0)], "label 5" if other < 256 else "refused 9")
             s.run(level, 0, [(5, other, 0), (6, other, 0)], "none")
     for level in range(256):
-        s.mapping(b"A %d" % level)
+        if level == 250:
+            s.say("A mapping write at level 250 is refused by 02, Five; a lent table may hold one, and the look-up finds it.")
+            s.mapping(b"A 250", "refused 9")
+            s.bylevel(250, 0, "none")
+            s.poke("entries", 800, b"\xfa")
+        else:
+            s.mapping(b"A %d" % level)
         s.bylevel(level, 0, "label 5")
         s.bylevel(255 - level, 0, "none")
         s.bylevel(256 + level, 0, "refused 9")
@@ -1973,7 +1996,7 @@ def ranges_look_ups():
 def ranges_damage():
     s = Script("damage_places", "01, refusal 0: each stored place damaged once, all places stored; each count with each bit.", True)
     calls = [c if len(c) < 100 else "change " + h(b"A B") for c in TABLE_CALLS] + ["list 0 " + "ee" * 20, "list 999 -", "label 5", "label 999"]
-    answers = ["refused 0"] * len(TABLE_CALLS) + ["refused 0 " + "ee" * 20, "refused 0 -", "refused 0 -", "refused 0 -"]
+    answers = [under_damage(c) for c in TABLE_CALLS] + ["refused 0 " + "ee" * 20, "refused 0 -", "refused 0 -", "refused 0 -"]
     turn = 0
 
     def refused(times=1):
@@ -4314,8 +4337,8 @@ def categories_numbers():
     for n in range(1000):
         if n % 5 == 0 or n < 12 or 180 <= n <= 260:
             s.mapping(b"V 9 %d" % n, "done" if 1 <= n <= 184 else "refused 9")
-    s.say("A level is 0 to 255, whatever the categories; 184 is no limit of it.")
-    for field, level in ((b"0", 0), (b"63", 63), (b"64", 64), (b"184", 184), (b"185", 185), (b"250", 250), (b"255", 255), (b"256", None), (b"440", None), (b"999", None)):
+    s.say("A level is 0 to 255, whatever the categories; 184 is no limit of it. 250 is none in a write, by 02, Five.")
+    for field, level in ((b"0", 0), (b"63", 63), (b"64", 64), (b"184", 184), (b"185", 185), (b"249", 249), (b"250", None), (b"251", 251), (b"255", 255), (b"256", None), (b"440", None), (b"999", None)):
         s.mapping(b"V " + field + b" 184", "refused 9" if level is None else "done")
         if level is not None:
             s.bylabel(b"V", mapped(level, category(184), 1))
@@ -4338,7 +4361,7 @@ def categories_unknown():
             s.dump("mapping %d bit %d" % (k, bit))
             s.from_here("refused 0")
             for call in TABLE_CALLS if bit == 1 else [c for c in TABLE_CALLS if len(c) < 100]:
-                s.call(call)
+                s.call(call, None if under_damage(call) == "refused 0" else under_damage(call))
             s.from_here("any")
             s.list(0, 0, b"\xee" * 8)
             s.label(5, 0)
@@ -5028,7 +5051,7 @@ def categories_lent():
             s.dump("mapping %d bit %d" % (k, bit), True)
             for call in TABLE_CALLS:
                 if len(call) < 100:
-                    s.call(call, "refused 0")
+                    s.call(call, under_damage(call))
             for number, buffer in ((0, s.buffer), (0, b""), (1, s.buffer)):
                 s.list(number, 0, buffer)
             for number in (0, 5, 31, 32, 999):
@@ -5298,6 +5321,1353 @@ def categories():
 
 
 # ---------------------------------------------------------------------------------------------------------------------------------------------
+# The packet option: request Five of 02
+# ---------------------------------------------------------------------------------------------------------------------------------------------
+
+# Bitmaps worked out by hand: category n is bit 0x80 shifted right by n mod 8, in bitmap byte n/8 rounded down; no trailing zero bytes.
+BITMAPS = [((), ""), ((1,), "40"), ((2,), "20"), ((3,), "10"), ((4,), "08"), ((5,), "04"), ((6,), "02"), ((7,), "01"), ((8,), "0080"), ((9,), "0040"), ((14,), "0002"), ((15,), "0001"),
+           ((16,), "000080"), ((17,), "000040"), ((23,), "000001"), ((24,), "00000080"), ((63,), "0000000000000001"), ((64,), "000000000000000080"), ((65,), "000000000000000040"),
+           ((71,), "000000000000000001"), ((72,), "00000000000000000080"), ((100,), "00000000000000000000000008"), ((127,), "00000000000000000000000000000001"),
+           ((128,), "0000000000000000000000000000000080"), ((175,), "00000000000000000000000000000000000000000001"), ((176,), "0000000000000000000000000000000000000000000080"),
+           ((177,), "0000000000000000000000000000000000000000000040"), ((183,), "0000000000000000000000000000000000000000000001"), ((184,), "000000000000000000000000000000000000000000000080"),
+           ((1, 63), "4000000000000001"), ((2, 4, 6), "2a"), ((2, 8), "2080"), ((1, 2, 3), "70"), ((7, 8), "0180"), ((7, 8, 9), "01c0"), ((15, 16), "000180"), ((1, 184), "400000000000000000000000000000000000000000000080"),
+           ((183, 184), "000000000000000000000000000000000000000000000180"), ((100, 184), "000000000000000000000000080000000000000000000080"), (tuple(range(1, 8)), "7f"), (tuple(range(1, 9)), "7f80"),
+           (tuple(range(8, 16)), "00ff"), (tuple(range(1, 25)), "7fffff80"), (tuple(range(1, 184)), "7fffffffffffffffffffffffffffffffffffffffffffff"),
+           (tuple(range(1, 185)), "7fffffffffffffffffffffffffffffffffffffffffffff80")]
+LONGEST = b"Label_of_just_23_bytes+"  # its last bit is category 184
+SHORTER = b"Label_of_just_23_bytes*"  # its last bit is category 183
+# Labels as their own bits, by hand: category 8i+j+1 is one place behind bit j of byte i, so the label's bits stand one place to the right.
+OWN = [(b"A", "2080"), (b"B", "21"), (b"a", "3080"), (b"0", "18"), (b"~", "3f"), (b"!", "1080"), (b"#", "1180"), (b"_", "2f80"), (b"^", "2f"), (b"*", "15"), (b"?", "1f80"), (b"@", "20"), (b"`", "30"), (b"p", "38"),
+       (b"AB", "20a1"), (b"BA", "212080"), (b"@@", "2020"), (b"Aa", "20b080"), (b"Air", "20b4b9"), (b"a-r", "3096b9"), (b"A--", "20969680"), (b"AAA", "20a0a080"), (b"BBB", "212121"), (b"Probe3", "283937b1329980"),
+       (b"~" * 23, "3f" * 23), (b"p" * 23, "38" * 23), (b"A" * 22, "20" + "a0" * 21 + "80"), (b"A" * 23, "20" + "a0" * 22 + "80"), (b"A" * 22 + b"B", "20" + "a0" * 21 + "a1"), (b"B" * 22 + b"A", "21" * 22 + "2080"),
+       (LONGEST, "2630b132b62fb7b32fb53ab9ba2f9919afb13cba32b99580"), (SHORTER, "2630b132b62fb7b32fb53ab9ba2f9919afb13cba32b995")]
+
+
+def in_option(level, bitmap):
+    """02: byte 134, total length, four bytes of DOI (always 3, high byte first), 1, tag length, 0, level, bitmap. Both lengths are of a whole slice: 10 and 4, and the bitmap."""
+    return bytes([134, (10 + len(bitmap)) % 256, 0, 0, 0, 3, 1, (4 + len(bitmap)) % 256, 0, level]) + bitmap
+
+
+def bitmap_of(categories):
+    """02: category n is bit 0x80 shifted right by n mod 8, in bitmap byte n/8 rounded down. No trailing zero bytes."""
+    bitmap = bytearray(max(categories) // 8 + 1 if categories else 0)
+    for n in categories:
+        bitmap[n // 8] |= 0x80 >> n % 8
+    return bytes(bitmap)
+
+
+def bits_in(bitmap):
+    """The numbers of a bitmap's bits; the same sentence, read."""
+    return [n for n in range(8 * len(bitmap)) if bitmap[n // 8] & 0x80 >> n % 8]
+
+
+def own_categories(label):
+    """02: bit j, from the top, of byte i is category 8i+j+1."""
+    return [8 * i + j + 1 for i, byte in enumerate(label) for j in range(8) if byte & 0x80 >> j]
+
+
+def rebuilt(categories):
+    """The same sentence, read: 23 bytes, of which trailing zero bytes are dropped."""
+    label = bytearray(23)
+    for i in range(23):
+        for j in range(8):
+            if 8 * i + j + 1 in categories:
+                label[i] |= 0x80 >> j
+    return bytes(label).rstrip(b"\0")
+
+
+def option_of(level, categories):
+    return in_option(level, bitmap_of(categories))
+
+
+def own_option(label):
+    return option_of(250, own_categories(label))
+
+
+def says_option(option, stored=None):
+    """What the reader answers to an option that a loop made: a label, or the number of a refusal. `stored`: the label of each level and set, by their numbers."""
+    if not 10 <= len(option) <= 40 or option[0] != 134 or option[1] != len(option) or option[6] != 1 or option[7] != len(option) - 6 or option[8] != 0:
+        return 16
+    if option[2:6] != bytes([0, 0, 0, 3]):
+        return 17
+    bits = bits_in(option[10:])
+    if any(n < 1 or n > 184 for n in bits):
+        return 18
+    if option[9] == 250:
+        return rebuilt(bits) if is_label(rebuilt(bits)) else 3
+    return (stored or {}).get((option[9], tuple(bits)), 21)
+
+
+def there_and_back(s, label, option):
+    """A label is written, and what was written is read."""
+    s.write_option(label, option)
+    s.read_option(option, label)
+
+
+def options_sentences():
+    s = Script("options_sentences", "02, Five: sentence by sentence, in numbers by hand.")
+    s.say("So A is 134 12 0 0 0 3 1 6 0 250 32 128.")
+    example = bytes([134, 12, 0, 0, 0, 3, 1, 6, 0, 250, 32, 128])
+    s.call("writeoption =A eeeeeeeeeeeeeeeeeeeeeeee", "length 12 860c00000003010600fa2080")
+    s.call("writeoption 41 eeeeeeeeeeeeeeeeeeeeeeeeeeee", "length 12 860c00000003010600fa2080eeee")
+    s.call("readoption 860c00000003010600fa2080", "peer 41")
+    there_and_back(s, b"A", example)
+    s.say("It stores nothing: A is in no table, and neither is a label that was read.")
+    s.label(5, 13)
+    s.bylabel(b"A", "none")
+    s.say("Category n is bit 0x80 shifted right by n mod 8, in bitmap byte n/8 rounded down. We write no trailing zero bytes; the total is 10 and the bitmap's bytes, the tag length 4 and these.")
+    for members, bitmap in BITMAPS:
+        bytes_ = bytes.fromhex(bitmap)
+        s.mapping(b"V 9 " + listed(members))
+        there_and_back(s, b"V", bytes([134, 10 + len(bytes_), 0, 0, 0, 3, 1, 4 + len(bytes_), 0, 9]) + bytes_)
+        s.write_option(b"V", 12, b"\xee" * (9 + len(bytes_)))
+    s.say("Each level but 250, without a category: 10 bytes.")
+    for level in (0, 1, 2, 9, 127, 128, 249, 251, 254, 255):
+        s.mapping(b"V %d" % level)
+        there_and_back(s, b"V", bytes([134, 10, 0, 0, 0, 3, 1, 4, 0, level]))
+        s.read_option(bytes([134, 10, 0, 0, 0, 3, 1, 4, 0, level ^ 8]), 21)
+    s.say("The reader takes trailing zero bytes, up to 30 bitmap bytes.")
+    for more in range(31):
+        s.read_option(bytes([134, 10 + more, 0, 0, 0, 3, 1, 4 + more, 0, 255]) + b"\0" * more, b"V")
+    s.read_option(bytes([134, 41, 0, 0, 0, 3, 1, 35, 0, 255]) + b"\0" * 31, 16)
+    s.say("An unmapped label of at most 23 bytes goes at level 250 as its own bits: bit j, from the top, of byte i is category 8i+j+1. At level 250 the reader rebuilds the label.")
+    for label, bitmap in OWN:
+        bytes_ = bytes.fromhex(bitmap)
+        there_and_back(s, label, bytes([134, 10 + len(bytes_), 0, 0, 0, 3, 1, 4 + len(bytes_), 0, 250]) + bytes_)
+    s.say("dropping trailing zero bytes")
+    for zeros in (1, 2, 20, 28):
+        s.read_option(bytes([134, 12 + zeros, 0, 0, 0, 3, 1, 6 + zeros, 0, 250, 32, 128]) + b"\0" * zeros, b"A")
+    s.read_option(bytes([134, 41, 0, 0, 0, 3, 1, 35, 0, 250, 32, 128]) + b"\0" * 29, 16)
+    s.say("A mapped label uses its mapping, whatever its length; in the table and unmapped it goes as its own bits, and 24 bytes are 19.")
+    for label in (b"A", b"_", b"*", LONGEST, LONGEST + b"4", b"L" * 254, b"L" * 255):
+        s.fresh()
+        s.override(label)
+        if len(label) < 24:
+            bytes_ = bytes.fromhex(dict(OWN)[label])
+            s.write_option(label, bytes([134, 10 + len(bytes_), 0, 0, 0, 3, 1, 4 + len(bytes_), 0, 250]) + bytes_)
+        else:
+            s.write_option(label, 19)
+        s.mapping(label + b" 7 3 184")
+        there_and_back(s, label, bytes([134, 34, 0, 0, 0, 3, 1, 28, 0, 7, 16]) + b"\0" * 22 + b"\x80")
+        s.mapping(label + b" 7 3")
+        there_and_back(s, label, bytes([134, 11, 0, 0, 0, 3, 1, 5, 0, 7, 16]))
+        s.read_option(bytes([134, 34, 0, 0, 0, 3, 1, 28, 0, 7, 16]) + b"\0" * 22 + b"\x80", 21)
+    s.say("Reading what was written gives the label back, unless a lower-numbered label has the same mapping.")
+    s.fresh()
+    s.override(b"Low High")
+    s.mapping(b"High 9 1")
+    option = bytes([134, 11, 0, 0, 0, 3, 1, 5, 0, 9, 64])
+    there_and_back(s, b"High", option)
+    s.mapping(b"Low 9 1")
+    there_and_back(s, b"Low", option)
+    s.write_option(b"High", option)
+    s.say("A mapping write at level 250 gets 9.")
+    s.mapping(b"Low 250", "refused 9")
+    s.mapping(b"New 250 1", "refused 9")
+    there_and_back(s, b"Low", option)
+    s.label(7, 13)
+    s.say("The reader: 16 for any other layout, then 17 for another DOI, then 18 for category 0 or above 184, then 3 where level 250 doesn't rebuild a label, else 21 where no mapping matches.")
+    s.read_option(bytes([133, 12, 0, 0, 0, 3, 1, 6, 0, 250, 32, 128]), 16)
+    s.read_option(bytes([134, 12, 0, 0, 0, 4, 1, 6, 0, 250, 32, 128]), 17)
+    s.read_option(bytes([134, 12, 0, 0, 0, 3, 1, 6, 0, 250, 160, 128]), 18)
+    s.read_option(bytes([134, 34, 0, 0, 0, 3, 1, 28, 0, 250, 32, 128]) + b"\0" * 21 + b"\x40", 18)
+    s.read_option(bytes([134, 12, 0, 0, 0, 3, 1, 6, 0, 250, 64, 128]), 3)
+    s.read_option(bytes([134, 12, 0, 0, 0, 3, 1, 6, 0, 249, 32, 128]), 21)
+    s.read_option(bytes([134, 11, 0, 0, 0, 3, 1, 5, 0, 8, 64]), 21)
+    s.say("The writer: 3, then 19 for an unmapped label over 23 bytes, then 12. On a refusal all of the output stays.")
+    s.write_option(b"A/", 3)
+    s.write_option(b"", 3)
+    s.write_option(b"L" * 24, 19)
+    s.write_option(b"A", 12, b"\xee" * 11)
+    s.store()
+
+
+def options_bytes():
+    for name, label, categories, writes, text in (
+            ("own", b"A", None, ((b"M", 9, (2, 8)), (b"N", 0, (2, 8)), (b"O", 255, (2, 8)), (b"P", 249, (2, 8)), (b"Q", 251, (2, 8))), "one of level 250, of the label A"),
+            ("mapped", b"V", (1, 15), ((b"V", 9, (1, 15)), (b"M", 8, (1, 15)), (b"N", 9, (1, 14)), (b"O", 9, (15,)), (b"P", 9, (2, 15)), (b"Q", 9, (1,)), (b"R", 9, (1, 2, 3, 4, 5, 6, 7, 15))), "one of a mapped label")):
+        s = Script("options_bytes_" + name, "02, Five: every byte of a good option set to every value: %s. All that else is mapped is near it." % text, True)
+        stored = {}
+        for other, level, members in writes:
+            s.mapping(b"%s %d " % (other, level) + listed(members))
+            stored[level, members] = other
+        good = own_option(label) if categories is None else option_of(9, categories)
+        assert len(good) == 12
+        there_and_back(s, label, good)
+        s.dump("before")
+        for at in range(len(good)):
+            s.say("byte %d of the option" % at)
+            for b in range(256):
+                option = good[:at] + bytes([b]) + good[at + 1:]
+                s.read_option(option, says_option(option, stored))
+        s.dump("before")
+        s.store()
+
+
+def options_lengths():
+    s = Script("options_lengths", "02, Five: options of every length from 0 to 60, cut and extended, with the total and the tag length as they were and made to fit, both or one; and longer.", True)
+    s.mapping(b"V 9 1 15")
+    s.mapping(b"W 9 1")
+    s.mapping(b"X 9")
+    s.mapping(b"Y 9 1 15 23")
+    stored = {(9, (1, 15)): b"V", (9, (1,)): b"W", (9, ()): b"X", (9, (1, 15, 23)): b"Y"}
+    for good, fills in ((own_option(b"A"), (b"\0", b"\x01", b"\xff")), (option_of(9, (1, 15)), (b"\0", b"\x01")), (own_option(LONGEST), (b"\0", b"\x80"))):
+        for fill in fills:
+            s.say("an option of %d bytes, cut; and extended by bytes of %d" % (len(good), fill[0]))
+            for length in range(61):
+                if fill != b"\0" and length <= len(good):
+                    continue
+                for total, tag in ((False, False), (True, True), (True, False), (False, True))[:4 if fill == b"\0" else 2]:
+                    option = bytearray((good + fill * 60)[:length])
+                    if total and length > 1:
+                        option[1] = length
+                    if tag and length > 7:
+                        option[7] = length - 6
+                    s.read_option(bytes(option), says_option(bytes(option), stored))
+    s.say("By hand: made to fit, A is read from 12 bytes to 40; of 11 its first byte is left, @; of 10 there is no label; shorter or longer is no option.")
+    for length in range(61):
+        option = (bytes([134, length, 0, 0, 0, 3, 1, max(0, length - 6), 0, 250, 32, 128]) + b"\0" * 60)[:length]
+        s.read_option(option, 16 if length < 10 or length > 40 else 3 if length == 10 else b"@" if length == 11 else b"A")
+    s.say("By hand: the same of a mapped label; with no byte of its bitmap it is another mapping, and so it is with one.")
+    for length in range(61):
+        option = (bytes([134, length, 0, 0, 0, 3, 1, max(0, length - 6), 0, 9, 64, 1]) + b"\0" * 60)[:length]
+        s.read_option(option, 16 if length < 10 or length > 40 else b"X" if length == 10 else b"W" if length == 11 else b"V")
+    s.say("One length by one too small or too large, the other one right: 16.")
+    for good in (own_option(b"A"), option_of(9, ()), option_of(9, (1, 15)), own_option(LONGEST)):
+        for at in (1, 7):
+            for other in (-12, -6, -2, -1, 1, 2, 6):
+                s.read_option(good[:at] + bytes([(good[at] + other) % 256]) + good[at + 1:], 16)
+        s.say("both too small or too large alike")
+        for other in (-1, 1, 2):
+            s.read_option(good[:1] + bytes([good[1] + other]) + good[2:7] + bytes([good[7] + other]) + good[8:], 16)
+    s.say("Padding is no part of the option: zero bytes, an end byte, a no-operation byte behind it, or before it.")
+    for good in (own_option(b"A"), own_option(b"B"), option_of(9, (1, 15))):
+        for more in (b"\0", b"\0\0", b"\0\0\0", b"\x01", b"\x01\0", b"\0" * 28):
+            s.read_option(good + more, 16)
+            s.read_option(more + good, 16)
+    s.say("A second tag, of either option, and of another type: 16, also where the total is made to fit.")
+    for good in (own_option(b"A"), option_of(9, (1, 15)), option_of(9, ())):
+        for tag in (good[6:], b"\x02\x04\0\x09", b"\x05\x04\0\x09", b"\x01\x04\0\x09"):
+            both = good + tag
+            s.read_option(both, 16)
+            s.read_option(both[:1] + bytes([len(both)]) + both[2:], 16)
+    s.say("No tag at all; a tag without its level; and two options.")
+    for option in (b"", b"\x86", b"\x86\x02", b"\x86\x06\0\0\0\x03", b"\x86\x08\0\0\0\x03\x01\x02", b"\x86\x09\0\0\0\x03\x01\x03\0", own_option(b"A") * 2, own_option(b"A") + own_option(b"B"), own_option(b"A") * 3):
+        s.read_option(option, 16)
+    s.say("Lengths that fit in their low bits only.")
+    for length in (255, 256, 257, 262, 266, 267, 268, 289, 296, 512, 522, 524, 552):
+        for level in (250, 9):
+            s.read_option(in_option(level, (b"\x20\x80" if level == 250 else b"\x40\x01") + b"\0" * (length - 12)), 16)
+    for good in (own_option(b"A"), option_of(9, (1, 15))):
+        s.read_option(good + b"\0" * 256, 16)
+        s.read_option(good + b"\0" * 512, 16)
+    s.call("readoption " + h(own_option(b"A") + b"\0" * 65536), "refused 16")
+    s.store()
+
+
+def options_bits():
+    s = Script("options_bits", "02, Five: each of the 240 bits of 30 bitmap bytes, alone and beside others, at level 250 and at a mapped level. Bit 0 and those from 185 on are 18.", True)
+    zeros = bytes(30)
+
+    def with_bit(bitmap, n):
+        return bitmap[:n // 8] + bytes([bitmap[n // 8] ^ 0x80 >> n % 8]) + bitmap[n // 8 + 1:]
+    s.say("Level 250, the bit alone: bit 2 is @, which is 64; every other is no label.")
+    for n in range(240):
+        s.read_option(in_option(250, with_bit(zeros, n)), 18 if n == 0 or n > 184 else b"@" if n == 2 else 3)
+    s.say("A mapped level, the bit alone, in 30 bytes and in as few as hold it; the same without the bit matches nothing.")
+    for n in range(240):
+        option = in_option(9, with_bit(zeros, n))
+        if 1 <= n <= 184:
+            s.mapping(b"V 9 %d" % n)
+            s.read_option(option, b"V")
+            s.read_option(option_of(9, (n,)), b"V")
+            if n % 8 < 2:
+                s.read_option(in_option(9, with_bit(zeros, n - 1)), 18 if n == 1 else 21)
+                s.read_option(in_option(9, with_bit(zeros, n + 1)), 18 if n == 184 else 21)
+                s.read_option(in_option(9, zeros), 21)
+        else:
+            s.read_option(option, 18)
+            s.read_option(option[:1] + bytes([11 + n // 8]) + option[2:7] + bytes([5 + n // 8]) + option[8:11 + n // 8], 18)
+    s.say("Level 250, a label of 23 bytes, each bit turned: another label, or none.")
+    base = bitmap_of(own_categories(LONGEST)) + bytes(6)
+    for n in range(240):
+        bitmap = with_bit(base, n)
+        s.read_option(in_option(250, bitmap), says_option(in_option(250, bitmap)))
+    s.say("All 184 but one; all and one more.")
+    s.mapping(b"V 9 " + listed(range(1, 185)))
+    full_map = bitmap_of(range(1, 185)) + bytes(6)
+    s.read_option(in_option(9, full_map), b"V")
+    for n in range(240):
+        s.read_option(in_option(9, with_bit(full_map, n)), 21 if 1 <= n <= 184 else 18)
+    s.say("18 beside a set that is mapped, and beside a good label: each of the 56 bits, and every value of each byte that has them.")
+    s.mapping(b"V 9 1")
+    good = bitmap_of(own_categories(b"A")) + bytes(28)
+    for n in [0, *range(185, 240)]:
+        s.read_option(in_option(250, with_bit(good, n)), 18)
+        s.read_option(in_option(9, with_bit(with_bit(zeros, 1), n)), 18)
+    for at in (23, 24, 29):
+        for b in range(0, 256, 1 if at == 23 else 17):
+            bitmap = b"\x20\x80" + bytes(at - 2) + bytes([b])
+            s.read_option(in_option(250, bitmap), says_option(in_option(250, bitmap)))
+            if b % 4 == 0 or b % 17 == 0:
+                bitmap = b"\x40" + bytes(at - 1) + bytes([b])
+                s.read_option(in_option(9, bitmap), says_option(in_option(9, bitmap), {(9, (1,)): b"V"}))
+    s.say("Every bit set, in bitmaps of 0 to 31 bytes.")
+    for count in range(32):
+        for level in (9, 250):
+            s.read_option(in_option(level, b"\xff" * count), 16 if count == 31 else 18 if count else (3 if level == 250 else 21))
+    s.store()
+
+
+def options_zeros():
+    s = Script("options_zeros", "02, Five: trailing zero bytes are taken, up to 30 bitmap bytes; 31 are 16. Zero bytes that are not at a label's end are 3, never a shorter label.", True)
+    s.say("Level 250: labels whose own bits take 1, 2, 3, 22, 23 and 24 bytes.")
+    for label in (b"B", b"A", b"BA", SHORTER[1:], SHORTER, LONGEST):
+        bitmap = bitmap_of(own_categories(label))
+        for count in range(len(bitmap), 32):
+            s.read_option(in_option(250, bitmap.ljust(count, b"\0")), label if count < 31 else 16)
+    s.say("Mapped: sets whose bitmaps take 0, 1, 2, 23 and 24 bytes.")
+    for members, fewest in (((), 0), ((7,), 1), ((8,), 2), ((1, 183), 23), ((184,), 24), (tuple(range(1, 185)), 24)):
+        s.mapping(b"V 9 " + listed(members))
+        bitmap = bitmap_of(members)
+        assert len(bitmap) == fewest
+        for count in range(fewest, 32):
+            s.read_option(in_option(9, bitmap.ljust(count, b"\0")), b"V" if count < 31 else 16)
+        s.write_option(b"V", in_option(9, bitmap))
+    s.say("Level 250 and no bit: no label, in 0 to 30 bytes.")
+    for count in range(32):
+        s.read_option(in_option(250, bytes(count)), 3 if count < 31 else 16)
+    s.say("One byte of a label is zero, at each place of labels of 1 to 23 bytes: at the end it is dropped; any other is 3.")
+    for length in range(1, 24):
+        for at in range(length):
+            label = LONGEST[:at] + b"\0" + LONGEST[at + 1:length]
+            s.read_option(own_option(label), LONGEST[:at] if at == length - 1 and at else 3)
+    s.say("The front of a label, and zeros up to 23 bytes; and with one letter more at the end: 3.")
+    for length in range(1, 23):
+        front = LONGEST[:length]
+        s.read_option(in_option(250, bitmap_of(own_categories(front)).ljust(24, b"\0")), front)
+        if length < 22:
+            s.read_option(own_option(front + bytes(22 - length) + b"A"), 3)
+            s.read_option(own_option(front + bytes(22 - length) + b"B"), 3)
+    s.say("Zeros before the label, and between its letters.")
+    for label in (b"\0A", b"\0\0A", b"\0" * 22 + b"A", b"A\0A", b"A\0\0A", b"A\0B\0C", b"\0A\0", b"A\0A\0"):
+        s.read_option(own_option(label), 3)
+        s.read_option(in_option(250, bitmap_of(own_categories(label)).ljust(30, b"\0")), 3)
+    s.say("A last letter of 64 has its one bit in the byte of its place; one of 33 has another in the next. Cut there, another letter is left.")
+    for label, cut_label in ((b"A", b"@"), (b"!", b" "), (b"c", b"b"), (b"AA", b"A@"), (b"AC", b"AB"), (LONGEST, SHORTER)):
+        bitmap = bitmap_of(own_categories(label))
+        assert bitmap[-1] == 0x80 and len(bitmap) == len(label) + 1
+        s.read_option(in_option(250, bitmap), label)
+        s.read_option(in_option(250, bitmap[:-1]), cut_label if cut_label != b" " else 3)
+        s.write_option(label, in_option(250, bitmap))
+        if cut_label != b" ":
+            s.write_option(cut_label, in_option(250, bitmap[:-1]))
+    s.store()
+
+
+def options_labels():
+    s = Script("options_labels", "02, Five: labels of 1 to 24 bytes and more, unmapped and mapped, in the table and not; one of each allowed byte, written and read back.", True)
+    s.say("Unmapped, not in the table and then in it.")
+    for length in range(1, 28):
+        for label in ((b"B" * 30)[:length], (LONGEST * 2)[:length], (b"A" * 30)[:length])[:2 if length % 2 else 3]:
+            s.call("fresh", "done")
+            for known in (False, True):
+                if known:
+                    s.override(label)
+                if length < 24:
+                    there_and_back(s, label, own_option(label))
+                else:
+                    s.write_option(label, 19)
+    s.say("The own bits of B, BB, .. take as many bytes as the label has, those of A, AA, .. one more: the longest options have 33 and 34 bytes.")
+    for length in range(1, 24):
+        s.call("writeoption =%s %s" % ("B" * length, "ee" * 34), "length %d %s" % (10 + length, "86%02x0000000301%02x00fa" % (10 + length, 4 + length) + "21" * length + "ee" * (24 - length)))
+        s.call("writeoption =%s %s" % ("A" * length, "ee" * 34), "length %d %s" % (11 + length, "86%02x0000000301%02x00fa20" % (11 + length, 5 + length) + "a0" * (length - 1) + "80" + "ee" * (23 - length)))
+    s.say("24 bytes and more, unmapped: 19, up to 255; 256 and more: 3.")
+    for known in (False, True):
+        for length in (24, 25, 31, 32, 33, 46, 47, 48, 100, 127, 128, 200, 253, 254, 255, 256, 257, 258, 279, 280, 300, 512, 535, 600):
+            if known and length < 256:
+                s.call("fresh", "done")
+                s.override(spoilt(length))
+            s.write_option(spoilt(length), 19 if length < 256 else 3, b"\xee" * (34 if known else 40))
+    for length in (601, 1000, 1001, 65536 + 23):
+        s.write_option(b"L" * length, 3)
+    s.say("Mapped, of any length: the mapping goes, at each level.")
+    for length in (1, 2, 22, 23, 24, 25, 64, 128, 254, 255):
+        s.call("fresh", "done")
+        label = spoilt(length)
+        for level, members in ((9, ()), (0, (1,)), (255, (184,)), (249, (2, 8)), (251, tuple(range(1, 185, 9)))):
+            s.mapping(b"%s %d " % (label, level) + listed(members))
+            there_and_back(s, label, option_of(level, members))
+        s.write_option(label[:-1] + b"+", own_option(label[:-1] + b"+") if length < 24 else 19)
+        s.write_option(label, option_of(251, range(1, 185, 9)), b"\xee" * 34)
+        s.write_option(label + b"+", own_option(label + b"+") if length < 23 else 19 if length < 255 else 3)
+    s.say("Two labels of 255 bytes that differ in the last one: one is mapped.")
+    s.call("fresh", "done")
+    s.mapping(b"L" * 254 + b"1 9 1")
+    there_and_back(s, b"L" * 254 + b"1", option_of(9, (1,)))
+    s.write_option(b"L" * 254 + b"2", 19)
+    s.mapping(b"L" * 254 + b"2 9 2")
+    there_and_back(s, b"L" * 254 + b"2", option_of(9, (2,)))
+    there_and_back(s, b"L" * 254 + b"1", option_of(9, (1,)))
+    s.say("Case counts.")
+    s.mapping(b"air 9 3")
+    there_and_back(s, b"air", option_of(9, (3,)))
+    there_and_back(s, b"Air", bytes([134, 13, 0, 0, 0, 3, 1, 7, 0, 250, 0x20, 0xb4, 0xb9]))
+    s.say("A label of one byte, of each allowed value but the dash, which may not be the first; behind a letter; some behind a letter 22 times.")
+    s.call("fresh", "done")
+    for b in LABEL_BYTES:
+        if b != 45:
+            there_and_back(s, bytes([b]), in_option(250, bytes([b >> 1, 0x80]) if b % 2 else bytes([b >> 1])))
+        there_and_back(s, b"B" + bytes([b]), in_option(250, bytes([0x21, b >> 1, 0x80]) if b % 2 else bytes([0x21, b >> 1])))
+        if b % 3 == 0:
+            there_and_back(s, b"K" + bytes([b]) * 22, own_option(b"K" + bytes([b]) * 22))
+    s.say("Fronts and ends of one label: none is taken for another.")
+    s.call("fresh", "done")
+    for length in range(1, 24):
+        if length % 2:
+            s.override(LONGEST[:length])
+        there_and_back(s, LONGEST[:length], own_option(LONGEST[:length]))
+    s.store()
+
+
+def options_rebuilt():
+    s = Script("options_rebuilt", "02, Five: at level 250 every byte value at each place of a label: the reader's 3, or the label, which is in no table.", True)
+    borders = b"\0\x01\t\n \x1f!\"#&'(,-./0[\\]~\x7f\x80\xa0\xc1\xff"
+    for length in (8, 23):
+        for at in range(length):
+            s.say("byte %d of a label of %d bytes" % (at, length))
+            for b in range(256) if length == 8 or at in (0, 11, 22) else borders:
+                label = LONGEST[:at] + bytes([b]) + LONGEST[at + 1:length]
+                s.read_option(own_option(label), label if is_label(label) else label[:at] if b == 0 and at == length - 1 else 3)
+    s.store()
+
+    s = Script("options_short", "02, Five: at level 250 every byte value as the label, as the first and the second of two, and behind a dash; leading dashes.", True)
+    for b in range(256):
+        one = bytes([b])
+        good = b in LABEL_BYTES
+        s.read_option(own_option(one), one if good and b != 45 else 3)
+        s.read_option(own_option(one + b"A"), one + b"A" if good and b != 45 else 3)
+        s.read_option(own_option(b"A" + one), b"A" + one if good else b"A" if b == 0 else 3)
+        if b % 8 == 1:
+            s.read_option(own_option(b"-" + one), 3)
+    for length in range(1, 24):
+        s.read_option(own_option(b"-" * length), 3)
+        s.read_option(own_option((b"-" + LONGEST)[:length]), 3)
+        if length > 1:
+            s.read_option(own_option(b"A" + b"-" * (length - 1)), b"A" + b"-" * (length - 1))
+    s.say("A bad byte at each place of labels of 1 to 23 bytes: a slash, a blank, a newline, 127, 128, 255.")
+    for length in range(1, 24):
+        for at in range(length):
+            b = b"/ \n\x7f\x80\xff"[(length + at) % 6]
+            s.read_option(own_option(LONGEST[:at] + bytes([b]) + LONGEST[at + 1:length]), 3)
+    s.store()
+
+
+def options_formed():
+    s = Script("options_formed", "02, Five: the writer's label has to be well formed, whatever its length: 3, without a place. Then 19 and 12. The label is not stored.", True)
+    s.dump("fresh")
+    s.say("Every byte value: alone and behind a letter; many before one, and as the last of 23, of 24, of 255 and of 256 bytes.")
+    for b in range(256):
+        one = bytes([b])
+        good = b in LABEL_BYTES
+        s.write_option(one, own_option(one) if good and b != 45 else 3, b"\xee" * 12)
+        s.write_option(b"A" + one, own_option(b"A" + one) if good else 3, b"\xee" * 13)
+        if b % 2 or b < 64:
+            s.write_option(one + b"A", own_option(one + b"A") if good and b != 45 else 3, b"\xee" * 13)
+        if b < 128 or b % 8 == 0:
+            s.write_option(LONGEST[:22] + one, own_option(LONGEST[:22] + one) if good else 3, b"\xee" * 34)
+            s.write_option(LONGEST + one, 19 if good else 3, b"")
+    for b in list(range(0, 256, 16)) + list(b" /'\"\\-~\x7f"):
+        one = bytes([b])
+        s.write_option(spoilt(254) + one, 19 if b in LABEL_BYTES else 3, b"\xee")
+        s.write_option(spoilt(255) + one, 3, b"\xee")
+    s.say("Labels and their faults.")
+    for label, where in SPOILT:
+        s.write_option(label, (own_option(label) if len(label) < 24 else 19) if where is None else 3)
+    s.say("A bad byte at each place of 23 bytes, and at some of 24 to 300: 3 before 19.")
+    for at in range(23):
+        b = b"/ \n\x00\x7f\xff"[at % 6]
+        s.write_option(LONGEST[:at] + bytes([b]) + LONGEST[at + 1:], 3)
+    for length in (24, 25, 100, 255, 256, 300):
+        for at in sorted({0, 1, 22, 23, length // 2, length - 1}):
+            s.write_option(spoilt(length, (at, b"/")), 3)
+            s.write_option(spoilt(length, (at, b" ")), 3, b"")
+        s.write_option(b"-" * length, 3)
+    s.say("A label with a blank or a newline about it is no label; the whole of what is lent is the label.")
+    for label in (b" A", b"A ", b"A\n", b"\nA", b"A\t", b"A B", b"A\0", b"\0A", b"A\r\n"):
+        s.write_option(label, 3)
+    s.dump("fresh")
+    s.store()
+
+
+def options_mapped():
+    s = Script("options_mapped", "02, Five: labels mapped alike, in both orders of entry and of mapping; mappings replaced; whom the reader answers.", True)
+    for level, members in ((9, ()), (9, (1,)), (0, (184,)), (255, (7, 8, 63, 64, 65)), (249, tuple(range(1, 185)))):
+        option, text = option_of(level, members), b" %d " % level + listed(members)
+        for order in ((b"A", b"B"), (b"B", b"A")):
+            for entered in (b"A B", b"B A"):
+                s.call("fresh", "done")
+                s.override(entered)
+                low, high = entered.split(b" ")
+                s.mapping(order[0] + text)
+                there_and_back(s, order[0], option)
+                s.mapping(order[1] + text)
+                s.write_option(low, option)
+                s.write_option(high, option)
+                s.read_option(option, low)
+                s.say("the lower one is mapped to something else, and back")
+                s.mapping(low + b" 3 2")
+                s.read_option(option, high)
+                there_and_back(s, low, option_of(3, (2,)))
+                s.mapping(low + text)
+                s.read_option(option, low)
+                s.mapping(high + b" 3 2")
+                s.read_option(option, low)
+                there_and_back(s, high, option_of(3, (2,)))
+    s.say("The order of entry is that of the mapping writes themselves.")
+    for one, two in ((b"A", b"B"), (b"B", b"A"), (b"A", b"_"), (b"_", b"A"), (b"@", b"*")):
+        s.call("fresh", "done")
+        s.mapping(one + b" 9 5")
+        s.mapping(two + b" 9 5")
+        s.write_option(one, option_of(9, (5,)))
+        s.write_option(two, option_of(9, (5,)))
+        s.read_option(option_of(9, (5,)), {b"AB": b"A", b"BA": b"B", b"A_": b"_", b"_A": b"_", b"@*": b"*"}[one + two])
+    s.say("Three labels, in each order of mapping.")
+    for order in ((0, 1, 2), (0, 2, 1), (1, 0, 2), (1, 2, 0), (2, 0, 1), (2, 1, 0)):
+        s.call("fresh", "done")
+        s.override(b"X Y Z")
+        names = (b"X", b"Y", b"Z")
+        for count in range(3):
+            s.mapping(names[order[count]] + b" 9 100")
+            s.read_option(option_of(9, (100,)), names[min(order[:count + 1])])
+        for name in names:
+            s.write_option(name, option_of(9, (100,)))
+        s.mapping(names[0] + b" 9 101")
+        s.read_option(option_of(9, (100,)), b"Y")
+        s.mapping(names[1] + b" 8 100")
+        s.read_option(option_of(9, (100,)), b"Z")
+        s.mapping(names[2] + b" 9")
+        s.read_option(option_of(9, (100,)), 21)
+        for name, level, members in ((b"X", 9, (101,)), (b"Y", 8, (100,)), (b"Z", 9, ())):
+            there_and_back(s, name, option_of(level, members))
+    s.say("Nearly alike: another level, one category more, one less, one other.")
+    s.call("fresh", "done")
+    near = [(9, (1, 15)), (8, (1, 15)), (9, (1,)), (9, (1, 14)), (9, (1, 16)), (9, (2, 15)), (9, (1, 15, 184)), (9, ()), (251, (1, 15)), (0, ()), (255, ()), (9, (7,)), (9, (8,)), (9, (9,))]
+    for k, (level, members) in enumerate(near):
+        s.mapping(b"N%02d %d " % (k, level) + listed(members))
+    for k, (level, members) in enumerate(near):
+        there_and_back(s, b"N%02d" % k, option_of(level, members))
+    for level, members in ((10, (1, 15)), (9, (15,)), (9, (1, 15, 16)), (0, (1,)), (255, (184,)), (249, ())):
+        s.read_option(option_of(level, members), 21)
+    s.say("A mapping replaced many times: what was written before matches no more.")
+    s.call("fresh", "done")
+    before = option_of(10, ())
+    for level, members in ((9, ()), (9, (1,)), (8, (1,)), (8, (1, 2)), (8, (2,)), (255, tuple(range(1, 185))), (255, tuple(range(2, 185))), (255, tuple(range(1, 184))), (0, ()), (249, (2, 8)), (9, (9, 10))):
+        s.mapping(b"V %d " % level + listed(members))
+        there_and_back(s, b"V", option_of(level, members))
+        s.read_option(before, 21)
+        before = option_of(level, members)
+    s.say("The same mapping once more; repeats and leading zeros; any order.")
+    for text in (b"V 9 9 10", b"V 009 010 009", b"V 9 10 9 10 9 10", b"V\t09  10\t9 "):
+        s.mapping(text)
+        there_and_back(s, b"V", option_of(9, (9, 10)))
+    s.say("A mapping whose set is a label's own bits, at another level: it is no such label.")
+    s.mapping(b"V 249 2 8")
+    there_and_back(s, b"V", bytes([134, 12, 0, 0, 0, 3, 1, 6, 0, 249, 32, 128]))
+    there_and_back(s, b"A", bytes([134, 12, 0, 0, 0, 3, 1, 6, 0, 250, 32, 128]))
+    s.mapping(b"V 251 2 8")
+    there_and_back(s, b"V", bytes([134, 12, 0, 0, 0, 3, 1, 6, 0, 251, 32, 128]))
+    there_and_back(s, b"A", bytes([134, 12, 0, 0, 0, 3, 1, 6, 0, 250, 32, 128]))
+    s.say("A mapped label read at level 250 by its own bits is that label all the same: the mapping is not asked.")
+    s.mapping(b"A 9 3")
+    there_and_back(s, b"A", bytes([134, 11, 0, 0, 0, 3, 1, 5, 0, 9, 16]))
+    s.read_option(bytes([134, 12, 0, 0, 0, 3, 1, 6, 0, 250, 32, 128]), b"A")
+    s.store()
+
+
+def options_level():
+    s = Script("options_level", "02, Five: a mapping write at level 250 gets 9, in the place that 9 has: 0 1 2 3 9 6 10. It changes nothing. Look-ups and runs at 250 are not refused.")
+    s.fresh()
+    s.mapping(b"V 9 1")
+    s.dump("one")
+    option = bytes([134, 11, 0, 0, 0, 3, 1, 5, 0, 9, 64])
+    for text in (b"V 250", b"V 250 1", b"V 250 184", b"V 250 1 2 3", b"V 250 " + listed(range(1, 185)), b"V 250 0", b"V 250 185", b"V 250 x", b"V 250 1 0", b"V 250 250", b"\tV\t250\t", b" V  250  1 ", b"New 250", b"New 250 1",
+                 b"New 250 185", b"_ 250", b"* 250 8", to_length(b"V 250", 600), to_length(b"V 250 1", 601), to_length(b"V 250 1", 1000), b"V 0250", b"V +250", b"V 250.", b"V 9 250", b"V 250\n", LONGEST + b" 250",
+                 b"L" * 255 + b" 250 1"):
+        s.mapping(text, "refused 9")
+        s.dump("one")
+        there_and_back(s, b"V", option)
+        s.bylabel(b"V", mapped(9, category(1), 1))
+    s.label(6, 13)
+    s.write_option(b"New", own_option(b"New"))
+    s.say("Before 9: 1, 2 and 3.")
+    s.mapping(to_length(b"V 250", 1001), "refused 1")
+    s.mapping(b"250", "refused 2")
+    s.mapping(b"V250", "refused 2")
+    s.mapping(b"V/ 250", "refused 3")
+    s.mapping(b"-V 250 185", "refused 3")
+    s.mapping(b"  V\x00 250", "refused 3")
+    s.dump("one")
+    s.say("The levels beside it, and numbers that are near it by their digits.")
+    for text, level in ((b"249", 249), (b"251", 251), (b"25", 25), (b"025", 25), (b"050", 50), (b"50", 50), (b"205", 205), (b"52", 52), (b"052", 52), (b"240", 240), (b"150", 150), (b"122", 122), (b"200", 200), (b"2", 2), (b"248", 248), (b"252", 252),
+                        (b"254", 254), (b"255", 255), (b"000", 0), (b"5", 5), (b"186", 186), (b"218", 218), (b"234", 234), (b"242", 242)):
+        s.mapping(b"V " + text + b" 2 8")
+        s.bylabel(b"V", mapped(level, category(2) | category(8), 2))
+        there_and_back(s, b"V", bytes([134, 12, 0, 0, 0, 3, 1, 6, 0, level, 32, 128]))
+        s.mapping(b"V 250 2 8", "refused 9")
+        s.bylabel(b"V", mapped(level, category(2) | category(8), 2))
+    for text in (b"256", b"506", b"350", b"260", b"2500", b"0250", b"0xfa", b"fa", b"-250", b"250-"):
+        s.mapping(b"V " + text, "refused 9")
+    s.say("250 may be a label.")
+    s.mapping(b"250 9 25")
+    there_and_back(s, b"250", bytes([134, 14, 0, 0, 0, 3, 1, 8, 0, 9, 0, 0, 0, 64]))
+    s.mapping(b"250 250", "refused 9")
+    s.say("9 comes before 6 and before 10: full tables, one of both, and both.")
+    full(s, 64, 0, 32)
+    s.dump("full")
+    for text, number in ((b"New 250", 9), (b"New 250 1", 9), (b"New 9", 6), (b"L40 250", 9), (b"L40 250 1", 9), (b"L40 9", 10), (b"L05 250", 9), (b"L05 250 1 63", 9), (b"_ 250", 9)):
+        s.mapping(text, "refused %d" % number)
+        s.dump("full")
+    full(s, 63, 0, 32)
+    s.dump("63")
+    s.mapping(b"New 250", "refused 9")
+    s.mapping(b"New 249", "refused 10")
+    s.label(63, 13)
+    s.dump("63")
+    full(s, 64, 0, 31)
+    s.dump("31")
+    s.mapping(b"New 250", "refused 9")
+    s.mapping(b"New 251", "refused 6")
+    s.mapping(b"L40 250", "refused 9")
+    s.dump("31")
+    s.mapping(b"L40 251")
+    there_and_back(s, b"L40", bytes([134, 10, 0, 0, 0, 3, 1, 4, 0, 251]))
+    s.say("0 comes before 9.")
+    s.poke("words", 1, 257)
+    s.mapping(b"L40 250", "refused 0")
+    s.poke("words", 1, 0)
+    s.say("Look-ups and runs at level 250 are not refused: none, or a match.")
+    s.fresh()
+    for set_ in (0, category(1), category(2) | category(8), ALL):
+        s.bylevel(250, set_, "none")
+        s.run(250, set_, [], "none")
+        s.run(250, set_, [(7, 250, set_), (3, 250, set_)], "label 3")
+        s.run(250, set_, [(7, 249, set_), (6, 251, set_)], "none")
+    s.bylevel(250, 1, "refused 9")
+    s.run(250, 1, [], "refused 9")
+    s.mapping(b"V 9 1")
+    s.bylevel(250, category(1), "none")
+    s.poke("entries", 800, b"\xfa")
+    s.bylevel(250, category(1), "label 5")
+    s.bylabel(b"V", mapped(250, category(1), 1))
+    s.say("In a lent table that holds one at 250, it can be replaced, and not written again.")
+    s.mapping(b"V 250 1", "refused 9")
+    s.bylabel(b"V", mapped(250, category(1), 1))
+    s.mapping(b"V 8 1")
+    s.bylabel(b"V", mapped(8, category(1), 1))
+    s.bylevel(250, category(1), "none")
+    s.store()
+
+
+def options_lent():
+    s = Script("options_lent", "02, Five, over lent tables that hold a mapping at level 250, which no grown one does: no damage. The writer writes it as any mapping; at level 250 the reader asks no table.", True)
+    for number, (members, back) in enumerate((((2, 8), b"A"), ((), 3), ((1,), 3), ((2,), b"@"), ((184,), 3), (tuple(range(1, 185)), 3), (tuple(own_categories(b"Air")), b"Air"), (tuple(own_categories(LONGEST)), LONGEST), (tuple(own_categories(b"V")), b"V"),
+                                              (tuple(own_categories(b"-")), 3), (tuple(own_categories(b"A/")), 3), (tuple(own_categories(b"A\0B")), 3))):
+        s.say("V is mapped at level 250 to %s; A is in the table and unmapped" % (" ".join("%d" % n for n in members) if len(members) < 20 else "%d categories" % len(members) if members else "no category"))
+        s.fresh()
+        s.override(b"A V")
+        s.mapping(b"V 9 " + listed(members))
+        there_and_back(s, b"V", option_of(9, members))
+        s.poke("entries", 800, b"\xfa")
+        s.dump("lent %d" % number)
+        s.write_option(b"V", option_of(250, members))
+        s.read_option(option_of(250, members), back)
+        there_and_back(s, b"A", bytes([134, 12, 0, 0, 0, 3, 1, 6, 0, 250, 32, 128]))
+        s.read_option(option_of(9, members), 21)
+        s.read_option(own_option(b"V"), b"V")
+        s.bylevel(250, sum_of(members), "label 6")
+        s.dump("lent %d" % number)
+    s.say("A label mapped to the very bits of another: both are written alike, and the bits are read.")
+    s.fresh()
+    s.override(b"A V W")
+    for label, members in ((b"V", (2, 8)), (b"W", (2, 8)), (b"A", (2, 7))):
+        s.mapping(label + b" 9 " + listed(members))
+    s.poke("entries", 800, b"\xfa\xfa\xfa")
+    for label in (b"V", b"W"):
+        s.write_option(label, bytes([134, 12, 0, 0, 0, 3, 1, 6, 0, 250, 32, 128]))
+    s.write_option(b"A", bytes([134, 11, 0, 0, 0, 3, 1, 5, 0, 250, 33]))
+    s.write_option(b"B", bytes([134, 11, 0, 0, 0, 3, 1, 5, 0, 250, 33]))
+    s.read_option(bytes([134, 12, 0, 0, 0, 3, 1, 6, 0, 250, 32, 128]), b"A")
+    s.read_option(bytes([134, 11, 0, 0, 0, 3, 1, 5, 0, 250, 33]), b"B")
+    s.say("A label of 24 or 255 bytes mapped at 250: it is mapped, so not 19.")
+    for length in (24, 255):
+        s.fresh()
+        label = spoilt(length)
+        s.mapping(label + b" 9 2 8 184")
+        s.poke("entries", 800, b"\xfa")
+        option = bytes([134, 34, 0, 0, 0, 3, 1, 28, 0, 250, 32, 128]) + bytes(21) + b"\x80"
+        s.write_option(label, option)
+        s.read_option(option, 3)
+        s.write_option(label, 12, b"\xee" * 33)
+    s.say("Levels of every kind in a lent table.")
+    s.fresh()
+    s.mapping(b"V 9 2 8")
+    for level in [*range(0, 244, 4), *range(244, 256)]:
+        s.poke("entries", 800, bytes([level]))
+        s.write_option(b"V", bytes([134, 12, 0, 0, 0, 3, 1, 6, 0, level, 32, 128]))
+        s.read_option(bytes([134, 12, 0, 0, 0, 3, 1, 6, 0, level, 32, 128]), b"A" if level == 250 else b"V")
+        if level % 4 == 0 or level > 248:
+            s.read_option(bytes([134, 12, 0, 0, 0, 3, 1, 6, 0, level ^ 1, 32, 128]), b"A" if level == 251 else 21)
+    s.store()
+
+
+def options_outputs():
+    s = Script("options_outputs", "02, Five: outputs of every length from 0 to 40, for options of 10, 12, 33 and 34 bytes. The option goes to the front, the rest stays; too short is 12 and all of it stays.", True)
+    filled = bytes((7 * k + 13) % 256 for k in range(700))
+    s.mapping(b"V 9")
+    s.mapping(b"W 0 184")
+    s.dump("tables")
+    for label, option in ((b"V", bytes([134, 10, 0, 0, 0, 3, 1, 4, 0, 9])), (b"A", bytes([134, 12, 0, 0, 0, 3, 1, 6, 0, 250, 32, 128])), (SHORTER, own_option(SHORTER)), (LONGEST, own_option(LONGEST)),
+                          (b"W", bytes([134, 34, 0, 0, 0, 3, 1, 28, 0, 0]) + bytes(23) + b"\x80")):
+        s.say("an option of %d bytes" % len(option))
+        for length in range(41):
+            s.write_option(label, 12 if length < len(option) else option, filled[:length])
+        for length in (42, 100, 255, 256, 257, 600):
+            s.write_option(label, option, filled[:length])
+        s.say("what stood in the output before is not read")
+        for out in (option + option[:6], b"\0" * 40, b"\xff" * 40, option[::-1] + b"\x86" * 6):
+            s.write_option(label, option, out)
+    s.say("Refused with 3 or 19: all of the output stays, of each length.")
+    for length in [*range(12), 33, 34, 35, 40, 256]:
+        s.write_option(b"A/", 3, filled[:length])
+        s.write_option(spoilt(24), 19, filled[:length])
+        s.write_option(spoilt(255), 19, filled[:length])
+        s.write_option(spoilt(256), 3, filled[:length])
+        s.write_option(b"", 3, filled[:length])
+    s.dump("tables")
+    s.say("An output of over 65536 bytes; one whose length is too short in its low bits only.")
+    s.call("writeoption =V =%s" % ("x" * 65541), "length 10 " + h(bytes([134, 10, 0, 0, 0, 3, 1, 4, 0, 9]) + b"x" * 65531))
+    s.write_option(b"V", bytes([134, 10, 0, 0, 0, 3, 1, 4, 0, 9]), b"\xee" * 261)
+    s.store()
+
+
+def options_twice():
+    s = Script("options_twice", "01 and 02, Five: lent tables that hold a label or a mapping twice: the first counts, and a label means its first number. Both calls go by the look-ups.", True)
+
+    def lent(labels, mappings):
+        """The labels from number 5 on; of each mapping the label's number, level and categories."""
+        s.fresh()
+        for k, label in enumerate(labels):
+            s.poke("labels", 256 * (5 + k), place(label))
+        s.poke("words", 0, 5 + len(labels))
+        s.poke("words", 2, len(mappings))
+        if mappings:
+            s.poke("entries", 768, bytes(m[0] for m in mappings))
+            s.poke("entries", 800, bytes(m[1] for m in mappings))
+        for k, m in enumerate(mappings):
+            for row, word in zip((4, 36, 68), words_of(sum_of(m[2]))):
+                if word:
+                    s.poke("words", row + k, word)
+    long = spoilt(30)
+    s.say("A label twice, its second number mapped: it is unmapped, and nothing has that mapping.")
+    lent([b"A", b"B", b"A"], [(7, 9, (1,))])
+    there_and_back(s, b"A", own_option(b"A"))
+    s.read_option(option_of(9, (1,)), 21)
+    s.say("a mapping of the first number behind it")
+    lent([b"A", b"B", b"A"], [(7, 9, (1,)), (5, 8, (2,))])
+    there_and_back(s, b"A", option_of(8, (2,)))
+    s.read_option(option_of(9, (1,)), 21)
+    s.say("the second number and another label mapped alike: the other label")
+    lent([b"A", b"A", b"B"], [(6, 9, (1,)), (7, 9, (1,))])
+    there_and_back(s, b"B", option_of(9, (1,)))
+    s.write_option(b"A", own_option(b"A"))
+    lent([b"A", b"A", b"B"], [(6, 9, (1,)), (7, 9, (1,)), (5, 9, (1,))])
+    there_and_back(s, b"A", option_of(9, (1,)))
+    s.write_option(b"B", option_of(9, (1,)))
+    s.say("A label of 30 bytes twice, its second number mapped: 19.")
+    lent([long, b"B", long], [(7, 9, (1,))])
+    s.write_option(long, 19)
+    s.write_option(long, 19, b"")
+    s.read_option(option_of(9, (1,)), 21)
+    lent([long, b"B", long], [(7, 9, (1,)), (5, 9, (1,))])
+    there_and_back(s, long, option_of(9, (1,)))
+    s.say("One of the five stored again.")
+    lent([b"_", b"*"], [(5, 9, (1,)), (6, 9, (2,))])
+    there_and_back(s, b"_", own_option(b"_"))
+    there_and_back(s, b"*", own_option(b"*"))
+    s.read_option(option_of(9, (1,)), 21)
+    s.read_option(option_of(9, (2,)), 21)
+    s.say("A mapping twice: the first counts, both ways.")
+    lent([b"A", b"B"], [(5, 9, (1,)), (5, 8, (2,))])
+    there_and_back(s, b"A", option_of(9, (1,)))
+    s.read_option(option_of(8, (2,)), 21)
+    s.say("the second mapping is another label's too")
+    lent([b"A", b"B"], [(5, 9, (1,)), (5, 8, (2,)), (6, 8, (2,))])
+    there_and_back(s, b"A", option_of(9, (1,)))
+    there_and_back(s, b"B", option_of(8, (2,)))
+    lent([b"A", b"B"], [(6, 8, (2,)), (5, 9, (1,)), (5, 8, (2,))])
+    there_and_back(s, b"B", option_of(8, (2,)))
+    there_and_back(s, b"A", option_of(9, (1,)))
+    s.say("twice the same; and the same set at two levels")
+    lent([b"A", b"B"], [(5, 9, (1,)), (5, 9, (1,)), (6, 9, (1,))])
+    there_and_back(s, b"A", option_of(9, (1,)))
+    s.write_option(b"B", option_of(9, (1,)))
+    lent([b"A"], [(5, 9, (1,)), (5, 8, (1,))])
+    there_and_back(s, b"A", option_of(9, (1,)))
+    s.read_option(option_of(8, (1,)), 21)
+    s.say("the first at level 250, the second not; and the other way")
+    lent([b"V"], [(5, 250, (2, 8)), (5, 9, (2, 8))])
+    s.write_option(b"V", option_of(250, (2, 8)))
+    s.read_option(option_of(250, (2, 8)), b"A")
+    s.read_option(option_of(9, (2, 8)), 21)
+    lent([b"V"], [(5, 9, (2, 8)), (5, 250, (2, 8))])
+    there_and_back(s, b"V", option_of(9, (2, 8)))
+    s.say("A label of 30 bytes mapped twice.")
+    lent([long], [(5, 9, (1,)), (5, 8, (184,))])
+    there_and_back(s, long, option_of(9, (1,)))
+    s.read_option(option_of(8, (184,)), 21)
+    s.say("A mapping write after it replaces the first; the second still counts for nothing.")
+    s.mapping(long + b" 7 3")
+    there_and_back(s, long, option_of(7, (3,)))
+    s.read_option(option_of(8, (184,)), 21)
+    s.say("The mapping at each place of 32, of the same label: the first of them.")
+    for at in range(0, 32, 5):
+        lent([b"A", b"B"], [(6, 9, (1,)) if k < at else (5, 9, (k + 1,)) for k in range(32)])
+        there_and_back(s, b"A", option_of(9, (at + 1,)))
+        if at:
+            s.write_option(b"B", option_of(9, (1,)))
+            s.read_option(option_of(9, (1,)), b"B")
+        s.read_option(option_of(9, (32,)), 21)
+    s.say("The label at two places of 64: its number is the lower one, wherever the mapping stands.")
+    for first, second in ((0, 1), (4, 5), (5, 6), (5, 63), (30, 31), (31, 32), (62, 63)):
+        for number, expect in ((first, option_of(9, (4,))), (second, own_option(b"Double"))):
+            s.fresh()
+            labels_to(s, 64)
+            s.mapping(name_of(number) + b" 9 4")
+            for where in (first, second):
+                s.poke("labels", 256 * where, place(b"Double"))
+            s.write_option(b"Double", expect)
+            s.read_option(option_of(9, (4,)), b"Double" if number == first else 21)
+    s.store()
+
+    s = Script("options_odd", "01 and 02, Five: odd lent tables that are not damaged: ill-formed and empty stored labels that are mapped, under five labels, other labels at 0 to 4, what stands past the counts.", True)
+    s.say("The reader answers a stored label's bytes as they are; the writer cannot be asked for them: 3.")
+    for label in (b"", b" ", b"\n", b"-", b"-A", b"a b", b"A/", b"A\0", b"\0", b"\0\0A", b"\xff", b"\x7f" * 23, b"/" * 24, b"\0" * 255, b"\xff" * 255, bytes(range(255))):
+        lent([label], [(5, 9, (1,))])
+        s.read_option(option_of(9, (1,)), label)
+        s.read_option(in_option(9, b"\x40" + bytes(29)), label)
+        s.read_option(option_of(8, (1,)), 21)
+        s.write_option(label, 3)
+        s.write_option(b"A", own_option(b"A"))
+        s.label(5, label)
+    s.say("An ill-formed label below a good one, mapped alike: the lower one. Behind it: the good one.")
+    for label in (b"", b"-", b"A/", b"\0" * 255):
+        lent([label, b"V"], [(5, 9, (1,)), (6, 9, (1,))])
+        s.write_option(b"V", option_of(9, (1,)))
+        s.read_option(option_of(9, (1,)), label)
+        lent([b"V", label], [(6, 9, (1,)), (5, 9, (1,))])
+        there_and_back(s, b"V", option_of(9, (1,)))
+    s.say("An ill-formed label twice: its first number counts.")
+    for label in (b"", b"a b", b"\0" * 255):
+        lent([label, label], [(6, 9, (1,))])
+        s.read_option(option_of(9, (1,)), 21)
+        lent([label, label], [(6, 9, (1,)), (5, 9, (1,))])
+        s.read_option(option_of(9, (1,)), label)
+    s.say("An ill-formed label at level 250 is not asked for.")
+    lent([b"A/"], [(5, 250, own_categories(b"A/"))])
+    s.read_option(own_option(b"A/"), 3)
+    lent([b""], [(5, 250, ())])
+    s.read_option(option_of(250, ()), 3)
+    s.say("What stands behind a label in its place is no part of it.")
+    lent([b"Air"], [(5, 9, (1,))])
+    s.poke("labels", 256 * 5 + 4, b"\xaa" * 252)
+    there_and_back(s, b"Air", option_of(9, (1,)))
+    s.write_option(b"Air\xaa", 3)
+    s.write_option(b"Ai", own_option(b"Ai"))
+    s.say("Cut to two bytes by its length, it is another label.")
+    s.poke("labels", 256 * 5, b"\x02")
+    there_and_back(s, b"Ai", option_of(9, (1,)))
+    s.write_option(b"Air", own_option(b"Air"))
+    s.say("Stored labels of each length from 0 to 255, read back by their mapping.")
+    for length in [*range(27), 31, 32, 33, 63, 64, 65, 127, 128, 129, 253, 254, 255]:
+        lent([spoilt(length)], [(5, 9, (1,))])
+        s.read_option(option_of(9, (1,)), spoilt(length))
+        s.write_option(spoilt(length), option_of(9, (1,)) if length else 3)
+    s.say("0 to 4 labels: a label that is not stored goes as its own bits; no mapping matches.")
+    for count in range(5):
+        s.fresh()
+        s.poke("words", 0, count)
+        s.dump("%d labels" % count)
+        for label in (*FIVE, b"A", LONGEST):
+            there_and_back(s, label, own_option(label))
+        s.write_option(spoilt(24), 19)
+        s.read_option(option_of(9, ()), 21)
+        s.read_option(option_of(0, ()), 21)
+        s.dump("%d labels" % count)
+        if count:
+            s.mapping(FIVE[count - 1] + b" 9")
+            there_and_back(s, FIVE[count - 1], option_of(9, ()))
+    s.say("Memory of zeros: no label.")
+    s.fresh()
+    s.poke("labels", 0, b"\0" * 1282)
+    s.poke("words", 0, 0)
+    there_and_back(s, b"_", own_option(b"_"))
+    s.read_option(option_of(0, ()), 21)
+    s.mapping(b"_ 0")
+    there_and_back(s, b"_", option_of(0, ()))
+    s.say("Other labels at 0 to 4.")
+    s.fresh()
+    for k, label in enumerate((b"*", b"_", b"Air", LONGEST, spoilt(255))):
+        s.poke("labels", 256 * k, place(label))
+        s.mapping(label + b" 9 %d" % (k + 1))
+    for k, label in enumerate((b"*", b"_", b"Air", LONGEST, spoilt(255))):
+        there_and_back(s, label, option_of(9, (k + 1,)))
+    s.write_option(b"^", own_option(b"^"))
+    s.say("Labels and mappings past the counts are not stored.")
+    lent([b"A", b"B", spoilt(30)], [(5, 9, (1,)), (6, 9, (2,)), (7, 9, (3,))])
+    for count in (3, 2, 1, 0):
+        s.poke("words", 2, count)
+        for k, label in enumerate((b"A", b"B", spoilt(30))):
+            s.write_option(label, option_of(9, (k + 1,)) if k < count else own_option(label) if k < 2 else 19)
+            s.read_option(option_of(9, (k + 1,)), label if k < count else 21)
+    s.poke("words", 0, 5)
+    for label in (b"A", b"B"):
+        there_and_back(s, label, own_option(label))
+    s.write_option(spoilt(30), 19)
+    s.say("Bad contents in unused places are no damage.")
+    small_state(s)
+    for at, count in ((3, 253), (259, 253), (515, 253), (770, 30), (802, 30), (834, 6)):
+        s.poke("entries", at, b"\xff" * count)
+    for k in (2, 3, 31):
+        s.poke_set(k, EVERY_BIT)
+    there_and_back(s, b"A", option_of(9, (1, 63)))
+    there_and_back(s, b"D", option_of(9, (2,)))
+    there_and_back(s, b"B", own_option(b"B"))
+    s.read_option(option_of(255, range(1, 185)), 21)
+    s.store()
+
+
+def options_full():
+    s = Script("options_full", "02, Five: tables of 64 labels and 32 mappings: each label written and read, the mapped ones by mappings of their own, then alike.", True)
+    full(s, 64, 256, 0)
+    for k in range(64):
+        there_and_back(s, name_of(k), own_option(name_of(k)))
+    s.say("32 different mappings, of the labels 0 to 31.")
+    members = [tuple(sorted({184 - 5 * k, 1 + 3 * k, 64 + k % 5})) for k in range(32)]
+    for k in range(32):
+        s.mapping(name_of(k) + b" %d " % (k * 8 + 1) + listed(members[k]))
+    s.dump("different", True)
+    for k in range(64):
+        there_and_back(s, name_of(k), option_of(k * 8 + 1, members[k]) if k < 32 else own_option(name_of(k)))
+    for k in range(31):
+        s.read_option(option_of(k * 8 + 9, members[k]), 21)
+    s.write_option(b"New", own_option(b"New"))
+    s.write_option(spoilt(24), 19)
+    s.dump("different", True)
+    s.say("All 32 alike: each is written, and the lowest is read; then each is taken away from below.")
+    for k in range(32):
+        s.mapping(name_of(31 - k) + b" 9 1 63")
+        s.read_option(option_of(9, (1, 63)), name_of(31 - k))
+    for k in range(32):
+        s.write_option(name_of(k), option_of(9, (1, 63)))
+    for k in range(32):
+        s.read_option(option_of(9, (1, 63)), name_of(k))
+        s.mapping(name_of(k) + b" 8 %d" % (k + 1))
+        there_and_back(s, name_of(k), option_of(8, (k + 1,)))
+    s.read_option(option_of(9, (1, 63)), 21)
+    s.say("The last label, of 255 bytes, with the last mapping.")
+    s.fresh()
+    labels_to(s, 63)
+    for k in range(31):
+        s.mapping(name_of(k) + b" 9 %d" % (k + 1))
+    s.mapping(spoilt(255) + b" 9 32")
+    s.label(63, spoilt(255))
+    there_and_back(s, spoilt(255), option_of(9, (32,)))
+    s.write_option(spoilt(254), 19)
+    s.say("The mapping at each place of 32, sought alone, at levels 0 and 255.")
+    laid(s)
+    for level in (0, 255):
+        s.poke("entries", 800, bytes([level ^ 1]) * 32)
+        for k in range(0, 32) if level else (0, 1, 15, 16, 30, 31):
+            s.read_option(option_of(level, ()), 21)
+            s.poke("entries", 800 + k, bytes([level]))
+            there_and_back(s, name_of(k), option_of(level, ()))
+            s.poke("entries", 800 + k, bytes([level ^ 1]))
+    s.say("64 labels that are nearly alike, of 23 bytes and of 255; the last 32 are mapped.")
+    for length in (23, 255):
+        s.fresh()
+        names = [spoilt(length, (length - 1, bytes([65 + k % 26])), (length - 2, bytes([97 + k // 26]))) for k in range(59)]
+        for k in range(0, 59, 2):
+            s.override(b" ".join(names[k:k + 2]))
+        for k in range(27, 59):
+            s.mapping(names[k] + b" 9 %d" % (k + 1))
+        for k in range(0, 59, 1 if length == 23 else 4):
+            if k >= 27:
+                there_and_back(s, names[k], option_of(9, (k + 1,)))
+            elif length == 23:
+                there_and_back(s, names[k], own_option(names[k]))
+            else:
+                s.write_option(names[k], 19)
+    s.store()
+
+
+def options_sets():
+    s = Script("options_sets", "02, Five: every category from 1 to 184 alone, its bitmap byte by hand; sets of every size, none and all; written and read.", True)
+    s.say("Alone: n mod 8 gives the bit, n/8 rounded down the byte; as many bitmap bytes as the byte's place, and one.")
+    for n in range(1, 185):
+        s.mapping(b"V 9 %d" % n)
+        bitmap = "00" * (n // 8) + ("80", "40", "20", "10", "08", "04", "02", "01")[n % 8]
+        s.call("writeoption =V " + "ee" * 34, "length %d 86%02x0000000301%02x0009%s%s" % (11 + n // 8, 11 + n // 8, 5 + n // 8, bitmap, "ee" * (23 - n // 8)))
+        s.call("readoption 86%02x0000000301%02x0009%s" % (11 + n // 8, 5 + n // 8, bitmap), "peer 56")
+    s.say("None, and all 184.")
+    s.mapping(b"V 9")
+    s.call("writeoption =V " + "ee" * 12, "length 10 860a000000030104" + "0009" + "eeee")
+    s.call("readoption 860a0000000301040009", "peer 56")
+    s.mapping(b"V 9 " + listed(range(1, 185)))
+    s.call("writeoption =V " + "ee" * 36, "length 34 862200000003011c00097f" + "ff" * 22 + "80eeee")
+    s.call("readoption 862200000003011c00097f" + "ff" * 22 + "80", "peer 56")
+    s.call("readoption 862100000003011b00097f" + "ff" * 22, "refused 21")
+    s.say("Sets of every size, one category more each time; every second one is written too.")
+    order = sorted(range(1, 185), key=lambda n: n * 37 % 185)
+    s.mapping(b"V 9")
+    for size in range(1, 185):
+        members, word = sorted(order[:size]), (order[size - 1] - 1) // 64
+        s.poke("words", (4, 36, 68)[word], words_of(sum_of(members))[word])
+        if size % 2:
+            s.write_option(b"V", option_of(9, members))
+        s.read_option(option_of(9, members), b"V")
+    s.say("Sets of any kind.")
+    rng = random.Random("options")
+    for turn in range(60):
+        members = sorted(rng.sample(range(1, 185), rng.choice((1, 2, 3, 5, 8, 20, 92, 150, 180))))
+        level = rng.choice((0, 1, 9, 100, 249, 251, 255))
+        s.mapping(b"V %d " % level + listed(members))
+        there_and_back(s, b"V", option_of(level, members))
+        s.read_option(option_of(level, sorted(set(members) ^ {rng.randrange(1, 185)})), 21)
+    s.store()
+
+
+def options_refusals():
+    s = Script("options_refusals", "02, Five: the reader 0 16 17 18 and 3 or 21; the writer 0 3 19 12. Each refusal, and each two neighbours where an input deserves both. Nothing changes.")
+    s.fresh()
+    s.mapping(b"V 9 1")
+    s.dump("state")
+
+    def reads(name, data, number):
+        """`name` says which numbers hold."""
+        s.say("reader: " + name)
+        s.read_option(bytes(data), number)
+        s.dump("state")
+
+    def writes(name, label, number, outs=(b"", b"\xee", b"\xee" * 9, b"\xee" * 40)):
+        s.say("writer: " + name)
+        for out in outs:
+            s.write_option(label, number, out)
+        s.dump("state")
+    reads("16, no byte", b"", 16)
+    reads("16, nine bytes", [134, 9, 0, 0, 0, 3, 1, 3, 0], 16)
+    reads("16, byte 0", [135, 11, 0, 0, 0, 3, 1, 5, 0, 9, 64], 16)
+    reads("16, byte 0 without its top bit", [6, 11, 0, 0, 0, 3, 1, 5, 0, 9, 64], 16)
+    reads("16, the total", [134, 10, 0, 0, 0, 3, 1, 5, 0, 9, 64], 16)
+    reads("16, the tag's type", [134, 11, 0, 0, 0, 3, 2, 5, 0, 9, 64], 16)
+    reads("16, a tag of type 5, the ranges", [134, 14, 0, 0, 0, 3, 5, 8, 0, 9, 0, 2, 0, 1], 16)
+    reads("16, the tag length", [134, 11, 0, 0, 0, 3, 1, 4, 0, 9, 64], 16)
+    reads("16, the tag length is the total", [134, 11, 0, 0, 0, 3, 1, 11, 0, 9, 64], 16)
+    reads("16, byte 8", [134, 11, 0, 0, 0, 3, 1, 5, 1, 9, 64], 16)
+    reads("16, 31 bitmap bytes", [134, 41, 0, 0, 0, 3, 1, 35, 0, 9, 64] + [0] * 30, 16)
+    reads("16, one byte more than the total says", [134, 11, 0, 0, 0, 3, 1, 5, 0, 9, 64, 0], 16)
+    reads("16, one byte less", [134, 11, 0, 0, 0, 3, 1, 5, 0, 9], 16)
+    reads("16 and 17", [135, 11, 0, 0, 0, 4, 1, 5, 0, 9, 64], 16)
+    reads("16 and 17, under ten bytes", [134, 6, 0, 0, 0, 4], 16)
+    reads("16 and 17, the total", [134, 12, 0, 0, 0, 4, 1, 5, 0, 9, 64], 16)
+    reads("16 and 17, the tag's type", [134, 11, 3, 0, 0, 0, 0, 5, 0, 9, 64], 16)
+    reads("16 and 17, the tag length", [134, 11, 0, 0, 1, 3, 1, 6, 0, 9, 64], 16)
+    reads("16 and 17, byte 8", [134, 11, 0, 1, 0, 3, 1, 5, 255, 9, 64], 16)
+    reads("16 and 17, 31 bitmap bytes", [134, 41, 0, 0, 0, 17, 1, 35, 0, 9] + [0] * 31, 16)
+    reads("16 and 18", [134, 11, 0, 0, 0, 3, 1, 5, 1, 9, 192], 16)
+    reads("16 and 18, category 240 and above, in 31 bitmap bytes", [134, 41, 0, 0, 0, 3, 1, 35, 0, 9, 64] + [0] * 29 + [1], 16)
+    reads("16 and 18, category 0 in 31 bitmap bytes", [134, 41, 0, 0, 0, 3, 1, 35, 0, 9, 192] + [0] * 30, 16)
+    reads("16 and 3", [134, 10, 0, 0, 0, 3, 1, 4, 1, 250], 16)
+    reads("16 and 3, 31 zero bytes", [134, 41, 0, 0, 0, 3, 1, 35, 0, 250] + [0] * 31, 16)
+    reads("16 and 21", [134, 11, 0, 0, 0, 3, 0, 5, 0, 8, 64], 16)
+    reads("16 and 17 18 21, all of it wrong", [0, 0, 9, 9, 9, 9, 9, 0, 9, 9, 255, 255], 16)
+    for doi in ([0, 0, 0, 0], [0, 0, 0, 1], [0, 0, 0, 2], [0, 0, 0, 4], [0, 0, 0, 17], [0, 0, 0, 131], [0, 0, 1, 3], [0, 1, 0, 3], [1, 0, 0, 3], [3, 0, 0, 0], [0, 3, 0, 0], [0, 0, 3, 0], [128, 0, 0, 3], [255, 255, 255, 255], [0, 0, 3, 3], [3, 3, 3, 3]):
+        reads("17, DOI %s" % " ".join("%d" % b for b in doi), [134, 11] + doi + [1, 5, 0, 9, 64], 17)
+        s.read_option(bytes([134, 12] + doi + [1, 6, 0, 250, 32, 128]), 17)
+    reads("17 and 18, category 0", [134, 11, 0, 0, 0, 4, 1, 5, 0, 9, 192], 17)
+    reads("17 and 18, category 185", [134, 34, 0, 0, 0, 4, 1, 28, 0, 9, 64] + [0] * 22 + [64], 17)
+    reads("17 and 18, level 250", [134, 12, 3, 0, 0, 0, 1, 6, 0, 250, 160, 128], 17)
+    reads("17 and 3", [134, 10, 0, 0, 0, 0, 1, 4, 0, 250], 17)
+    reads("17 and 21", [134, 11, 0, 0, 0, 0, 1, 5, 0, 8, 64], 17)
+    reads("17 in the longest option, 30 bitmap bytes", [134, 40, 0, 0, 0, 0, 1, 34, 0, 9, 64] + [0] * 29, 17)
+    reads("18, category 0 alone", [134, 11, 0, 0, 0, 3, 1, 5, 0, 9, 128], 18)
+    reads("18, category 0 beside a mapped set", [134, 11, 0, 0, 0, 3, 1, 5, 0, 9, 192], 18)
+    reads("18, category 185 beside it", [134, 34, 0, 0, 0, 3, 1, 28, 0, 9, 64] + [0] * 22 + [64], 18)
+    reads("18, category 191", [134, 34, 0, 0, 0, 3, 1, 28, 0, 9, 64] + [0] * 22 + [1], 18)
+    reads("18, category 192", [134, 35, 0, 0, 0, 3, 1, 29, 0, 9, 64] + [0] * 23 + [128], 18)
+    reads("18, category 239, the last of 30 bytes", [134, 40, 0, 0, 0, 3, 1, 34, 0, 9, 64] + [0] * 28 + [1], 18)
+    reads("18 and 3, category 0 and no label", [134, 11, 0, 0, 0, 3, 1, 5, 0, 250, 128], 18)
+    reads("18 and 3, category 0 and a blank", [134, 11, 0, 0, 0, 3, 1, 5, 0, 250, 144], 18)
+    reads("18 and 3, category 185 and no label", [134, 34, 0, 0, 0, 3, 1, 28, 0, 250] + [0] * 23 + [64], 18)
+    reads("18 and 3, category 200 and an inner zero byte", [134, 36, 0, 0, 0, 3, 1, 30, 0, 250, 32, 128, 32] + [0] * 22 + [128], 18)
+    reads("18 at level 250, category 0 beside A", [134, 12, 0, 0, 0, 3, 1, 6, 0, 250, 160, 128], 18)
+    reads("18 and 21, category 0 and another set", [134, 11, 0, 0, 0, 3, 1, 5, 0, 9, 160], 18)
+    reads("18 and 21, category 0 and another level", [134, 11, 0, 0, 0, 3, 1, 5, 0, 8, 192], 18)
+    reads("18 and 21, category 185", [134, 34, 0, 0, 0, 3, 1, 28, 0, 8] + [0] * 23 + [64], 18)
+    reads("3, no bitmap byte", [134, 10, 0, 0, 0, 3, 1, 4, 0, 250], 3)
+    reads("3, a zero byte", [134, 11, 0, 0, 0, 3, 1, 5, 0, 250, 0], 3)
+    reads("3, a dash", [134, 12, 0, 0, 0, 3, 1, 6, 0, 250, 22, 128], 3)
+    reads("3, a leading dash", [134, 13, 0, 0, 0, 3, 1, 7, 0, 250, 22, 160, 128], 3)
+    reads("3, a slash", [134, 12, 0, 0, 0, 3, 1, 6, 0, 250, 23, 128], 3)
+    reads("3, a blank behind A", [134, 12, 0, 0, 0, 3, 1, 6, 0, 250, 32, 144], 3)
+    reads("3, an inner zero byte", [134, 14, 0, 0, 0, 3, 1, 8, 0, 250, 32, 128, 32, 128], 3)
+    reads("3, a byte of 193", [134, 12, 0, 0, 0, 3, 1, 6, 0, 250, 96, 128], 3)
+    reads("3 and never 21: no label has level 250 and this set", [134, 11, 0, 0, 0, 3, 1, 5, 0, 250, 64], 3)
+    reads("21, the level", [134, 11, 0, 0, 0, 3, 1, 5, 0, 8, 64], 21)
+    reads("21, the set", [134, 11, 0, 0, 0, 3, 1, 5, 0, 9, 32], 21)
+    reads("21, a category more", [134, 11, 0, 0, 0, 3, 1, 5, 0, 9, 96], 21)
+    reads("21, no category", [134, 10, 0, 0, 0, 3, 1, 4, 0, 9], 21)
+    reads("21 and never 3: a set that is no label, at level 249", [134, 10, 0, 0, 0, 3, 1, 4, 0, 249], 21)
+    reads("21 and never 3: the bits of A at level 251", [134, 12, 0, 0, 0, 3, 1, 6, 0, 251, 32, 128], 21)
+    s.say("Nothing of it: the label.")
+    s.read_option(bytes([134, 11, 0, 0, 0, 3, 1, 5, 0, 9, 64]), b"V")
+
+    writes("3, no byte", b"", 3)
+    writes("3, a slash", b"A/", 3)
+    writes("3, a leading dash", b"-A", 3)
+    writes("3, 256 bytes, and never 1 or 19", b"L" * 256, 3)
+    writes("3, 1,001 bytes, and never 1", b"L" * 1001, 3)
+    writes("3, 24 bytes, and not 19", b"L" * 23 + b"/", 3)
+    writes("3, 255 bytes, and not 19", b"-" + b"L" * 254, 3)
+    writes("3, beside a mapped label", b"V/", 3)
+    writes("19, 24 bytes", b"L" * 24, 19)
+    writes("19, 255 bytes", b"L" * 255, 19)
+    writes("12", b"A", 12, [b"\xee" * k for k in range(12)])
+    writes("12, a mapped label", b"V", 12, [b"\xee" * k for k in range(11)])
+    writes("12, a label of 23 bytes", LONGEST, 12, (b"", b"\xee" * 33))
+    s.say("19 and 12, with a label in the table; mapped it is 12 alone, and then neither.")
+    s.override(b"L" * 24)
+    s.write_option(b"L" * 24, 19, b"")
+    s.write_option(b"L" * 24, 19, b"\xee" * 9)
+    s.mapping(b"L" * 24 + b" 9 2")
+    s.write_option(b"L" * 24, 12, b"")
+    s.write_option(b"L" * 24, 12, b"\xee" * 10)
+    there_and_back(s, b"L" * 24, bytes([134, 11, 0, 0, 0, 3, 1, 5, 0, 9, 32]))
+    s.store()
+
+
+def options_damaged():
+    s = Script("options_damaged", "01, refusal 0, and 02, Five: a damaged state: 0 before each other number of both calls, and where nothing else is wrong. The loader is not lent to them.", True)
+    kinds = [("words", 0, 65), ("words", 0, HUGE), ("words", 1, 257), ("words", 2, 33), ("words", 2, (1 << 32) + 2), ("words", 3, 9), ("words", 0, 8), ("words", 0, 0), ("entries", 0, b"\x09"), ("entries", 257, b"\xff"),
+             ("entries", 514, b"\x40"), ("entries", 769, b"\x09"), ("entries", 768, b"\xff"), ("entries", 833, b"\x40"), ("words", 68, 1), ("words", 69, 128), ("words", 69, HUGE), ("labels", None, 16383), ("labels", None, 16385),
+             ("labels", None, 0), ("entries", None, 839), ("entries", None, 841), ("words", None, 99), ("words", None, 101), ("words", None, 36)]
+    good = [b"A", b"D", b"New", b"_"]
+    for number, (part, at, value) in enumerate(kinds):
+        s.say("%s: %s" % (part, "%d of them" % value if at is None else "at %d stands %s" % (at, value if part == "words" else value[0])))
+        small_state(s)
+        if at is None:
+            s.call("resize %s %d" % (part, value), "done")
+        else:
+            s.poke(part, at, value)
+        s.dump("kind %d" % number)
+        for label in good + [b"A/", b"", b"L" * 24, b"L" * 256]:
+            s.write_option(label, 0, b"\xee" * 34)
+        s.write_option(b"A", 0, b"")
+        s.write_option(b"L" * 24, 0, b"\xee")
+        s.write_option(b"-", 0, b"")
+        for option in (own_option(b"A"), option_of(9, (1, 63)), own_option(LONGEST), b"", own_option(b"A") + b"\0", b"\x85" + own_option(b"A")[1:], own_option(b"A")[:5] + b"\x04" + own_option(b"A")[6:], in_option(9, b"\x80"),
+                       in_option(9, bytes(23) + b"\x40"), in_option(250, b""), in_option(9, b"\x01"), in_option(9, bytes(31))):
+            s.read_option(option, 0)
+        s.dump("kind %d" % number)
+    s.say("Not damaged: the loader's numbers, the line's size and its bytes are not lent to these calls.")
+    for kept in (602, 1 << 32, HUGE):
+        small_state(s)
+        s.poke("loader", 0, kept)
+        s.end("refused 0")
+        there_and_back(s, b"A", option_of(9, (1, 63)))
+        there_and_back(s, b"B", own_option(b"B"))
+    for size in (0, 599, 601):
+        small_state(s)
+        s.call("resize line %d" % size, "done")
+        s.end("refused 0")
+        there_and_back(s, b"D", option_of(9, (2,)))
+        s.write_option(b"A/", 3)
+        s.read_option(option_of(9, (3,)), 21)
+    s.say("Sound again, each answers what it deserves.")
+    small_state(s)
+    for label, expect in ((b"A", option_of(9, (1, 63))), (b"D", option_of(9, (2,))), (b"New", own_option(b"New")), (b"A/", 3), (b"L" * 24, 19)):
+        s.write_option(label, expect)
+    s.store()
+
+
+def options_kept():
+    s = Script("options_kept", "02, Five: the reader stores nothing, and the writer neither: tables, override list, kept line and loader are the same after each call, accepted or refused.", True)
+    for build in (Script.fresh, small_state, full):
+        s.say("a table and a loader: %s" % {"fresh": "fresh", "small_state": "a line under way", "full": "full tables"}[build.__name__])
+        build(s)
+        if build is full:
+            s.piece(b"A A r\nL05 L06")
+        name = build.__name__
+        s.dump(name)
+        for label in (b"A", b"B", b"_", b"New", b"L05", b"L40", LONGEST):
+            taken = {"fresh": {}, "small_state": {b"A": (1, 63)}, "full": {b"_": (1, 63), b"L05": (1, 63)}}[name].get(label)
+            s.write_option(label, own_option(label) if taken is None else option_of(9, taken))
+            s.dump(name)
+        for label, number in ((b"A/", 3), (b"", 3), (b"L" * 24, 19), (b"L" * 256, 3)):
+            s.write_option(label, number)
+            s.dump(name)
+        s.write_option(b"Other", 12, b"\xee" * 9)
+        s.dump(name)
+        for option, expect in ((own_option(b"A"), b"A"), (own_option(b"Unseen"), b"Unseen"), (own_option(LONGEST), LONGEST), (b"", 16), (own_option(b"A") + b"\0", 16), (b"\x86\x0a\0\0\0\x04\x01\x04\0\x09", 17), (in_option(9, b"\x80"), 18),
+                               (in_option(250, b""), 3), (in_option(8, b""), 21), (option_of(9, (1, 63)), {"fresh": 21, "small_state": b"A", "full": b"_"}[name])):
+            s.read_option(option, expect)
+            s.dump(name)
+        s.label(64 if build is full else 9, 13)
+    s.piece(b" r\n")
+    s.end("report 2 1 0 1 1 5")
+    s.store()
+
+
+def options_after():
+    s = Script("options_after", "02, Five, with the calls of 01: after loads, changes, revokes, override lists and mappings replaced, a label is written by its mapping as it then is, and read back.", True)
+    s.fresh()
+
+    def mapped_as(label, level, *members):
+        there_and_back(s, label, option_of(level, members))
+    s.say("A label that enters by a line stays unmapped; a revoke, a change and an override list map nothing.")
+    there_and_back(s, b"Probe3", own_option(b"Probe3"))
+    s.line(b"Probe3 Air w", None)
+    there_and_back(s, b"Probe3", own_option(b"Probe3"))
+    there_and_back(s, b"Air", own_option(b"Air"))
+    s.change(b"Probe3 Desk rx w")
+    s.revoke(b"Probe3", "revoked 2")
+    s.override(b"Air Probe3 Alarm")
+    for label in (b"Probe3", b"Air", b"Desk", b"Alarm", b"Unseen"):
+        there_and_back(s, label, own_option(label))
+    s.say("A mapping write maps it; what comes after leaves the mapping.")
+    s.mapping(b"Air 9 1 63")
+    mapped_as(b"Air", 9, 1, 63)
+    s.line(b"Air Probe3 rwxatb", None)
+    mapped_as(b"Air", 9, 1, 63)
+    s.change(b"Air Probe3 - r")
+    s.revoke(b"Air", "revoked 1")
+    s.override(b"-")
+    mapped_as(b"Air", 9, 1, 63)
+    s.read_option(own_option(b"Air"), b"Air")
+    s.mapping(b"Probe3 9 1 63")
+    s.write_option(b"Air", option_of(9, (1, 63)))
+    s.read_option(option_of(9, (1, 63)), b"Probe3")
+    s.mapping(b"Probe3 9 1 63 100")
+    mapped_as(b"Air", 9, 1, 63)
+    mapped_as(b"Probe3", 9, 1, 63, 100)
+    s.say("Refused writes change nothing of it.")
+    for text, number in ((b"Air 250", 9), (b"Air 256", 9), (b"Air 9 185", 9), (b"Air 9 0", 9), (b"Air", 2), (b"Air/ 8", 3), (to_length(b"Air 8", 1001), 1)):
+        s.mapping(text, "refused %d" % number)
+        mapped_as(b"Air", 9, 1, 63)
+    s.line(b"Air Air r", 5)
+    s.change(b"Air Desk b -", "refused 4")
+    s.revoke(b"Air ", "refused 3")
+    mapped_as(b"Air", 9, 1, 63)
+    s.say("With a line under way: a write made between acts at once, and the line is judged at its newline.")
+    s.piece(b"Late Ai")
+    there_and_back(s, b"Late", own_option(b"Late"))
+    s.mapping(b"Late 7 184")
+    mapped_as(b"Late", 7, 184)
+    s.piece(b"r r\nMore")
+    mapped_as(b"Late", 7, 184)
+    there_and_back(s, b"More", own_option(b"More"))
+    s.end("report 2 1 0 1 2 2")
+    s.list(3, b"Late Air r\n")
+    s.ask(b"Late", b"Air", b"r", "granted 6")
+    s.say("A label of 24 bytes: not in the table, in it by a line, mapped, mapped anew.")
+    long = spoilt(24)
+    s.write_option(long, 19)
+    s.line(long + b" Air r", None)
+    s.write_option(long, 19)
+    s.mapping(long + b" 0")
+    mapped_as(long, 0)
+    s.mapping(long + b" 255 184")
+    mapped_as(long, 255, 184)
+    s.read_option(option_of(0, ()), 21)
+    s.revoke(long, "revoked 1")
+    mapped_as(long, 255, 184)
+    s.say("Look-ups and questions between the two.")
+    s.write_option(long, option_of(255, (184,)))
+    s.bylabel(long, mapped(255, category(184), 1))
+    s.bylevel(255, category(184), "label 10")
+    s.ask(long, b"Air", b"r", "denied 7")
+    s.run(255, category(184), [(3, 255, category(184))], "label 3")
+    s.read_option(option_of(255, (184,)), long)
+    s.say("A record's line loaded, its labels of 23 bytes.")
+    s.to_line(fixed(LONGEST, b"Air", b"r----"), LONGEST + b" Air r\n")
+    s.line(LONGEST + b" Air r", None)
+    there_and_back(s, LONGEST, own_option(LONGEST))
+    s.say("A fresh table in the same memory: nothing is mapped.")
+    s.call("freshen", "done")
+    there_and_back(s, b"Air", own_option(b"Air"))
+    s.read_option(option_of(9, (1, 63)), 21)
+    s.write_option(long, 19)
+    s.say("Grown tables of many kinds: each label written and read, the lowest number where two are mapped alike.")
+    rng = random.Random("options after")
+    for turn in range(9):
+        s.fresh()
+        labels, maps = list(FIVE), {}
+        pool = [b"A", b"B", b"C", b"AB", b"Air", b"air", b"@@", LONGEST, SHORTER, spoilt(24), spoilt(25), b"250", b"Z" * 40, *FIVE]
+        for step in range(30):
+            one, two = rng.sample(pool, 2)
+            kind = rng.randrange(6)
+            if kind == 0:
+                s.line(b"%s %s r" % (one, two), None)
+                entered = [one, two]
+            elif kind == 1:
+                s.change(b"%s %s w r" % (one, two))
+                entered = [one, two]
+            elif kind == 2:
+                s.override(one + b" " + two)
+                entered = [one, two]
+            else:
+                level = rng.choice((0, 9, 249, 250, 251, 255))
+                members = rng.choice(((), (1,), (2, 8), (184,), (1, 184), tuple(own_categories(b"Air"))))
+                s.mapping(b"%s %d " % (one, level) + listed(members), "refused 9" if level == 250 else "done")
+                entered = [] if level == 250 else [one]
+                if level != 250:
+                    maps[one] = (level, members)
+            labels += [label for label in entered if label not in labels]
+        for label in pool[:13] + [b"_"]:
+            if label not in maps:
+                if len(label) < 24:
+                    there_and_back(s, label, own_option(label))
+                else:
+                    s.write_option(label, 19)
+            else:
+                s.write_option(label, option_of(*maps[label]))
+                s.read_option(option_of(*maps[label]), next(x for x in labels if maps.get(x) == maps[label]))
+    s.store()
+
+
+def options():
+    options_sentences()
+    options_bytes()
+    options_lengths()
+    options_bits()
+    options_zeros()
+    options_labels()
+    options_rebuilt()
+    options_formed()
+    options_mapped()
+    options_level()
+    options_lent()
+    options_outputs()
+    options_twice()
+    options_full()
+    options_sets()
+    options_refusals()
+    options_damaged()
+    options_kept()
+    options_after()
+
+
+# ---------------------------------------------------------------------------------------------------------------------------------------------
 # Recordings of a running kernel, where 01 does not decide otherwise
 # ---------------------------------------------------------------------------------------------------------------------------------------------
 
@@ -5403,14 +6773,14 @@ def kernel(folder):
     print(count, "labels of the kernel")
     s.store()
 
-    s = Script("kernel_cipso", "The kernel's mappings: level and categories as it put them on packets. Category 0, which it takes and ignores, is refused with 9 here.")
+    s = Script("kernel_cipso", "The kernel's mappings: level and categories as it put them on packets. Category 0, which it takes and ignores, is refused with 9 here, and so is level 250, by 02, Five.")
     for row in rows(folder, "cipso.tsv"):
         if not row[1].startswith("cipso2 level "):
             continue
         level, listed = row[1][len("cipso2 level "):].split(" cats ")
         categories = [] if listed == "none" else listed.split(",")
         write = " ".join([row[0], level] + categories).encode()
-        if "0" in categories:
+        if "0" in categories or level == "250":
             s.mapping(write, "refused 9")
         else:
             option = bytes.fromhex(row[2])
@@ -5419,6 +6789,42 @@ def kernel(folder):
             s.mapping(write)
             s.bylabel(row[0].encode(), mapped(option[9], set_, len(bits)))
     s.dump()
+    s.store()
+
+    s = Script("kernel_options", "The kernel's options: the bytes that it put on packets, without its padding, are what is written for the label, and are read back as the label that its receiver saw.")
+    left, taken = {}, []
+    for label, how, local, remote, seen, *_ in rows(folder, "cipso.tsv"):
+        words = how.split(" ")
+        cause = None
+        if local == "(no option)":
+            cause = "no option was sent"
+        elif how.startswith("mapped(secid)"):
+            cause = "an unmapped label of over 23 bytes, at level 251"
+        elif "smackfs/direct := 100" in how:
+            cause = "another level than 250 for a label's own bits"
+        elif "smackfs/doi := 17" in how:
+            cause = "another DOI"
+        elif words[0] == "cipso2" and words[2] == "250":
+            cause = "a mapping at level 250"
+        elif words[0] == "cipso2" and "0" in words[4].split(","):
+            cause = "category 0 in a mapping write"
+        if cause:
+            left[cause] = left.get(cause, 0) + 1
+            continue
+        option = bytes.fromhex(local)
+        option, padding = option[:option[1]], option[option[1]:]
+        if any(padding) or seen != label or remote not in (local, "(no option)", "nothing sent SENDERR 13"):
+            sys.exit("cipso.tsv: %s: %s" % (label, how))
+        s.say(how)
+        if words[0] == "cipso2":
+            s.mapping(" ".join([label, words[2]] + ([] if words[4] == "none" else words[4].split(","))).encode())
+        taken.append((label.encode(), option))
+        there_and_back(s, *taken[-1])
+    s.say("All of them once more, with every mapping in the table.")
+    for label, option in taken:
+        there_and_back(s, label, option)
+    s.dump()
+    print(len(taken), "options of the kernel; left out:", "; ".join("%d: %s" % (left[cause], cause) for cause in sorted(left)))
     s.store()
 
 
@@ -5443,6 +6849,7 @@ def main():
     searches()
     places()
     categories()
+    options()
     folder = os.environ.get("KERNEL_VECTORS")
     if folder:
         kernel(folder)

@@ -58,6 +58,14 @@ use Rattle.host.proofs.bq_label_check.Kinds as label-check-kinds
 use Rattle.host.proofs.bq_label_check.Reads as label-check-reads
 use Rattle.host.proofs.bq_label_check.Symbol as label-check-symbol
 use Rattle.host.proofs.bq_label_check.Met as label-check-met
+use Rattle.host.proofs.bq_write_option.Kinds as write-option-kinds
+use Rattle.host.proofs.bq_write_option.Reads as write-option-reads
+use Rattle.host.proofs.bq_write_option.Symbol as write-option-symbol
+use Rattle.host.proofs.bq_write_option.Met as write-option-met
+use Rattle.host.proofs.bq_read_option.Kinds as read-option-kinds
+use Rattle.host.proofs.bq_read_option.Reads as read-option-reads
+use Rattle.host.proofs.bq_read_option.Symbol as read-option-symbol
+use Rattle.host.proofs.bq_read_option.Met as read-option-met
 use Rattle.host.proofs.bq_label.Kinds as label-kinds
 use Rattle.host.proofs.bq_label.Reads as label-reads
 use Rattle.host.proofs.bq_label.Symbol as label-symbol
@@ -72,6 +80,7 @@ use Rattle.cipso.specs.Cipso.{mapAnswer, mapStored}
 use Rattle.lookups.specs.Lookups.{byLabelOf, byLevelOf}
 use Rattle.listing.specs.Listing.{listAnswer, listOut, labelGiven, labelAnswer}
 use Rattle.access.specs.Access.{questionOf}
+use Rattle.cipso_option.specs.Option.{writeAnswer, writeOut, peerGiven, peerShown}
 use Rattle.answers.specs.Answers.{shown}
 use Rattle.reports.specs.declared.Loader.{Loader}
 use Rattle.reports.specs.Report.{freshLoader}
@@ -84,7 +93,7 @@ use Rattle.host.proofs.Laws.{label-stands}
 use Rattle.lists.specs.Called.{Called}
 use Rattle.lists.specs.Reader as r
 use Rattle.lists.specs.Reader.{Ask, Write, Call, Reply}
-use Rattle.calls.specs.Calls.{Answers, Writes, Runs, none, a-piece, an-end, an-ask, a-write, a-question, a-change, a-revoke, an-onlycap, a-mapping, a-look-up, a-search, a-listing, a-label, a-check, taken-reply, finished-reply}
+use Rattle.calls.specs.Calls.{Answers, Writes, Runs, none, a-piece, an-end, an-ask, a-write, a-question, a-change, a-revoke, an-onlycap, a-mapping, a-look-up, a-search, a-listing, a-label, a-check, an-option, a-peer, taken-reply, finished-reply}
 
 -- ---- the routines
 
@@ -127,6 +136,12 @@ real-list-rule w γ k e = list-rule-reads.known w γ k list-rule-symbol.routine 
 
 pub real-label-check : Real 3 label-check-kinds.ps label-check-kinds.r label-check-reads.Asked label-check-reads.Learnt label-check-symbol.routine
 real-label-check w γ k e = label-check-reads.known w γ k label-check-symbol.routine e (label-check-met.met (w .𝓤) (w .H) (w .𝓜) (w .𝓖) (w .𝓡))
+
+pub real-write-option : Real 5 write-option-kinds.ps write-option-kinds.r write-option-reads.Asked write-option-reads.Learnt write-option-symbol.routine
+real-write-option w γ k e = write-option-reads.known w γ k write-option-symbol.routine e (write-option-met.met (w .𝓤) (w .H) (w .𝓜) (w .𝓖) (w .𝓡))
+
+pub real-read-option : Real 4 read-option-kinds.ps read-option-kinds.r read-option-reads.Asked read-option-reads.Learnt read-option-symbol.routine
+real-read-option w γ k e = read-option-reads.known w γ k read-option-symbol.routine e (read-option-met.met (w .𝓤) (w .H) (w .𝓜) (w .𝓖) (w .𝓡))
 
 pub real-label : Real 3 label-kinds.ps label-kinds.r label-reads.Asked label-reads.Learnt label-symbol.routine
 real-label w γ k e = label-reads.known w γ k label-symbol.routine e (label-met.met (w .𝓤) (w .H) (w .𝓜) (w .𝓖) (w .𝓡))
@@ -206,6 +221,12 @@ Called-list-rule = Called list-rule-kinds.ps list-rule-kinds.r list-rule-reads.A
 
 abbrev Called-label-check : Type 0
 Called-label-check = Called label-check-kinds.ps label-check-kinds.r label-check-reads.Asked label-check-reads.Learnt
+
+abbrev Called-write-option : Type 0
+Called-write-option = Called write-option-kinds.ps write-option-kinds.r write-option-reads.Asked write-option-reads.Learnt
+
+abbrev Called-read-option : Type 0
+Called-read-option = Called read-option-kinds.ps read-option-kinds.r read-option-reads.Asked read-option-reads.Learnt
 
 abbrev Called-label : Type 0
 Called-label = Called label-kinds.ps label-kinds.r label-reads.Asked label-reads.Learnt
@@ -323,6 +344,28 @@ list-rule-call st k out =
       ensures = (refl, refl);
     }
 
+abbrev write-option-call : (st : Store) (l out : List ℕ) → Called-write-option
+write-option-call st l out =
+    record {
+      lifetimes = ([], ([], ([], ([], ([], tt)))));
+      args = (ref (st .labels), (ref (st .entries), (ref (st .words), (ref l, (ref out, tt)))));
+      asked = tt;
+      result = outputShown (writeAnswer st l out);
+      last = (tt, (tt, (tt, (tt, (writeOut st l out, tt)))));
+      ensures = (refl, refl);
+    }
+
+abbrev read-option-call : (st : Store) (option : List ℕ) → Called-read-option
+read-option-call st option =
+    record {
+      lifetimes = ([], ([], ([], ([], tt))));
+      args = (ref (st .labels), (ref (st .entries), (ref (st .words), (ref option, tt))));
+      asked = tt;
+      result = peerShown (peerGiven st option);
+      last = (tt, (tt, (tt, (tt, tt))));
+      ensures = refl;
+    }
+
 abbrev label-check-call : (st : Store) (k : ℕ) → Called-label-check
 label-check-call st k =
     record {
@@ -351,6 +394,8 @@ answered st (r.by-label x) = (_, a-look-up (by-label-call st x))
 answered st (r.by-level level set) = (_, a-search (by-level-call st level set))
 answered st (r.list-rule n out) = (_, a-listing (list-rule-call st n out))
 answered st (r.label n) = (_, a-label (label-call st n))
+answered st (r.write-option l out) = (_, an-option (write-option-call st l out))
+answered st (r.read-option option) = (_, a-peer (read-option-call st option))
 answered st (r.label-check n) = (_, a-check (label-check-call st n))
 
 wrote : (st : Store) (w : Write) → (reply : Reply) × (st′ : Store) × Writes st w reply st′

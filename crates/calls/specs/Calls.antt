@@ -30,6 +30,10 @@ use Rattle.host.proofs.bq_label_check.Kinds as label-check-kinds
 use Rattle.host.proofs.bq_label_check.Reads as label-check-reads
 use Rattle.host.proofs.bq_label.Kinds as label-kinds
 use Rattle.host.proofs.bq_label.Reads as label-reads
+use Rattle.host.proofs.bq_write_option.Kinds as write-option-kinds
+use Rattle.host.proofs.bq_write_option.Reads as write-option-reads
+use Rattle.host.proofs.bq_read_option.Kinds as read-option-kinds
+use Rattle.host.proofs.bq_read_option.Reads as read-option-reads
 use Rattle.refusals.specs.Refusals.{plain}
 use Rattle.alphabet.specs.Alphabet.{lineLimit}
 use Rattle.store.specs.Layout.{Store, store, undamagedOf}
@@ -92,6 +96,10 @@ pub data Answers : Store → Ask → Reply → Type 0 where
       Answers (lent (k .args)) (r.label (fourth (k .args))) (part-reply (k .result) (now (first (k .args))))
   a-check : (k : Called label-check-kinds.ps label-check-kinds.r label-check-reads.Asked label-check-reads.Learnt) →
       Answers (lent (k .args)) (r.label-check (fourth (k .args))) (written-reply (k .result))
+  an-option : (k : Called write-option-kinds.ps write-option-kinds.r write-option-reads.Asked write-option-reads.Learnt) →
+      Answers (lent (k .args)) (r.write-option (now (fourth (k .args))) (now (fifth (k .args)))) (r.listed (k .result) (fifth (k .last)))
+  a-peer : (k : Called read-option-kinds.ps read-option-kinds.r read-option-reads.Asked read-option-reads.Learnt) →
+      Answers (lent (k .args)) (r.read-option (now (fourth (k .args)))) (r.peer (k .result))
 
 -- and of a single write also the tables that it leaves
 pub data Writes : Store → Write → Reply → Store → Type 0 where

@@ -44,6 +44,10 @@ use Rattle.host.proofs.bq_label as label
 use Rattle.host.proofs.bq_label.Reads as label-reads
 use Rattle.host.proofs.bq_record_to_line as record-to-line
 use Rattle.host.proofs.bq_record_to_line.Reads as record-to-line-reads
+use Rattle.host.proofs.bq_write_option as write-option
+use Rattle.host.proofs.bq_write_option.Reads as write-option-reads
+use Rattle.host.proofs.bq_read_option as read-option
+use Rattle.host.proofs.bq_read_option.Reads as read-option-reads
 use Rattle.host.proofs.bq_line_to_record as line-to-record
 use Rattle.host.proofs.bq_line_to_record.Reads as line-to-record-reads
 use Rattle.listing.proofs.label_by_number as label-part
@@ -62,6 +66,7 @@ use Rattle.places.specs.Places.{PartFrom}
 use Rattle.listing.specs.Listing.{listAnswer, listOut, labelGiven, labelAnswer, labelFrom}
 use Rattle.output.specs.Output.{textAnswer, textOut}
 use Rattle.fixed_load.specs.Records.{lineFrom, recordFrom}
+use Rattle.cipso_option.specs.Option.{writeAnswer, writeOut, peerGiven, peerShown}
 use Rattle.reports.specs.Report.{freshLoader}
 use Rattle.load.specs.Loader.{pieceAnswer, pieceAfter, endAnswer, endAfter}
 use Rattle.lists.specs.Called.{first, second, third, fourth, fifth, sixth, seventh, lent, left, loading, loaded}
@@ -105,7 +110,7 @@ module _ (κs : Lfts 1) (a : Args lowest-in-run.signature κs) where
     abbrev pub Learnt-in-run : Type 0
     Learnt-in-run = AllOf (learnt-in-run .tells)
 
--- ---- the eighteen exported functions, in 01's order of the calls and then 02's, and the one call that can't be exported in its own form
+-- ---- the twenty exported functions, in 01's order of the calls and then 02's, and the one call that can't be exported in its own form
 
 pub record ExportedCalls : Type 0 where
   -- a fresh table: the entries are lent by `&`
@@ -169,6 +174,12 @@ pub record ExportedCalls : Type 0 where
   pub line-to-record : Promise line-to-record.ended line-to-record-reads.Asked line-to-record-reads.Learnt
       (λ κs a r l. (r ≡ outputShown (textAnswer (recordFrom (now (first a))) (now (second a))))
       × (second l ≡ textOut (recordFrom (now (first a))) (now (second a))) × (first l ≡ tt))
+  -- the packet option of a label, at the front of the lent buffer; and the label of an option
+  pub write-option : Promise write-option.ended write-option-reads.Asked write-option-reads.Learnt
+      (λ κs a r l. (r ≡ outputShown (writeAnswer (lent a) (now (fourth a)) (now (fifth a))))
+      × (fifth l ≡ writeOut (lent a) (now (fourth a)) (now (fifth a))) × (first l ≡ tt) × (second l ≡ tt) × (third l ≡ tt) × (fourth l ≡ tt))
+  pub read-option : Promise read-option.ended read-option-reads.Asked read-option-reads.Learnt
+      (λ κs a r l. (r ≡ peerShown (peerGiven (lent a) (now (fourth a)))) × (l ≡ (tt, (tt, (tt, (tt, tt))))))
   -- the very part of the lent labels, as a host in Rattle gets it: its bytes, and where it points
   pub label-part : Promise label-part.ended label-part-reads.Asked label-part-reads.Learnt
       (λ κs a r l. (now r ≡ labelGiven (lent a) (fourth a)) × PartFrom r (first a) (labelFrom (labelAnswer (lent a) (fourth a)) (fourth a))

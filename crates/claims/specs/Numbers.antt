@@ -1,17 +1,20 @@
 -- 01's numbers and 02's, each as it stands there, and those of the lent parts: the refusals, the limits, and what a host gets for each case of an answer. Elsewhere they are spoken of by name; here
 -- a name that has another number is refused. Assumes nothing.
-use Prim.Native.Nat.{ℕ}
+use Prim.Native.Nat.{ℕ, _+_, _≤_}
 use mathlib.Core.Path.{_≡_}
-use mathlib.Core.Bool.{Bool, true, false, _&&_}
-use lib.Dec.{leb}
+use mathlib.Core.Bool.{Bool, true, false, not, _&&_}
+use lib.Dec.{eqb, leb}
+use lib.ListN.{length, take, getD}
 use mathlib.Core.List.{List, [], _∷_, map, foldl}
 use Rattle.search.specs.Bytes.{ascii}
 use Rattle.refusals.specs.Refusals as refusal
 use Rattle.refusals.specs.declared.Refusal.{Refusal}
 use Rattle.alphabet.specs.Alphabet.{labelLongest, lineLimit}
-use Rattle.numbers.specs.Categories.{levelLimit, isLevel, categoryLimit, isCategory, noCategories, withCategory}
+use Rattle.numbers.specs.Categories.{levelLimit, isLevel, ownLevel, isMappingLevel, categoryLimit, isCategory, noCategories, withCategory}
 use Rattle.numbers.specs.declared.CategorySet.{CategorySet}
 use Rattle.cipso.specs.Cipso.{mappingLongest}
+use Rattle.cipso_option.specs.Option as option
+use Rattle.cipso_option.specs.Option.{optionBytes, ourDoi, ownLongest, bitmapLimit, peerShown}
 use Rattle.store.specs.Layout.{labelsSize, entriesSize, wordsSize, objectsFrom, modesFrom, mappedFrom, levelsFrom, onlycapFrom, firstsFrom, secondsFrom, thirdsFrom}
 use Rattle.store.specs.Table.{fresh, labelLimit, ruleLimit, mappingLimit, onlycapLimit}
 use Rattle.reports.specs.Report.{countLimit, freshLoader}
@@ -78,7 +81,8 @@ pub record NumbersOf01 : Type 0 where
 -- what 02 adds, request by request. One: the refusals 14 and 15; the most bytes of a label in an old record, the bytes of a label's place, and those
 -- of the record. Three: the place beside a 3, as every answer that has one shows it; a refusal is plain where its place is 0. Four: the highest category
 -- and the most bytes of a mapping write; and, which no paper has, the sizes of the lent parts, where their runs begin, and the bits of categories at both
--- ends of each word of a set
+-- ends of each word of a set. Five: the refusals 16 to 19 and 21, the level of labels as their own bits, at which no mapping is written, the most bytes of such
+-- a label and of a bitmap that is read, each byte of the option, and what a host gets for a label that was read
 pub record NumbersOf02 : Type 0 where
   pub old-records :
       (refusal.badRecord .number ∷ refusal.notInARecord .number ∷ recordLabel ∷ labelPlace ∷ recordSize ∷ []) ≡ 14 ∷ 15 ∷ 23 ∷ 24 ∷ 53 ∷ []
@@ -109,4 +113,19 @@ pub record NumbersOf02 : Type 0 where
   pub first-and-last :
       foldl withCategory noCategories (1 ∷ 64 ∷ 65 ∷ 127 ∷ 128 ∷ 129 ∷ 184 ∷ [])
       ≡ record { first = 9223372036854775809; second = 9223372036854775811; third = 9223372036854776064 }
+  pub packet-option :
+      (refusal.badOption .number ∷ refusal.otherDoi .number ∷ refusal.badOptionCategory .number ∷ refusal.notInAnOption .number ∷ refusal.noSuchMapping .number
+      ∷ ownLevel ∷ ownLongest ∷ bitmapLimit ∷ [])
+      ≡ 16 ∷ 17 ∷ 18 ∷ 19 ∷ 21 ∷ 250 ∷ 23 ∷ 30 ∷ []
+  pub mapping-levels : (n : ℕ) → isMappingLevel n ≡ (leb n 255 && not (eqb n 250))
+  pub option-bytes :
+      (level : ℕ) (bitmap : List ℕ) →
+      optionBytes ourDoi level bitmap ≡ 134 ∷ (10 + length bitmap) ∷ 0 ∷ 0 ∷ 0 ∷ 3 ∷ 1 ∷ (4 + length bitmap) ∷ 0 ∷ level ∷ bitmap
+  pub peer-label : (l : List ℕ) → length l ≤ 255 →
+      (peerShown (option.label l) .refused ≡ false) × (peerShown (option.label l) .number ≡ 0) × (peerShown (option.label l) .length ≡ length l)
+      × (take (length l) (peerShown (option.label l) .bytes) ≡ l) × (length (peerShown (option.label l) .bytes) ≡ 255)
+      × ((i : ℕ) → length l ≤ i → getD (peerShown (option.label l) .bytes) i 0 ≡ 0)
+  pub peer-refused : (n : ℕ) →
+      (peerShown (option.unread n) .refused ≡ true) × (peerShown (option.unread n) .number ≡ n) × (peerShown (option.unread n) .length ≡ 0)
+      × (length (peerShown (option.unread n) .bytes) ≡ 255) × ((i : ℕ) → getD (peerShown (option.unread n) .bytes) i 0 ≡ 0)
   pub no-category : noCategories ≡ record { first = 0; second = 0; third = 0 }

@@ -22,7 +22,7 @@ use Rattle.lookups.specs.declared.Lookup.the-variants.{Mapped}
 use Rattle.lookups.specs.declared.Label.the-variants as label
 use Rattle.lookups.specs.Lookups.{sought, mappedAs, lookedUp, labelLookup, bothEqual, mappedTo, foundAt, hasBoth, numbered, levelLookup}
 use Rattle.access.specs.Access.{isFound}
-use Rattle.grown.specs.Sane.{Sane}
+use Rattle.grown.specs.Sane.{LabelsOnce}
 use Rattle.effects.specs.OverrideAndLookUp.{HasBoth, LowestLabel}
 use Rattle.effects.proofs.Entering.{found-some}
 
@@ -44,7 +44,7 @@ found-has : (level : ℕ) (s : CategorySet) (ms : List Mapping) (f : Found) → 
 found-has level s ms (At k) = mapping-has level s (getD ms k (record { label = 0; level = 0; set = noCategories }))
 found-has level s ms Nothing = (λ e. absurd (no e), λ e. let z : _≡_ {A = ℕ} 0 1 = cc in absurd (omega arith))
 
-module _ (t : Table) (level : ℕ) (s : CategorySet) (h : Sane t) where
+module _ (t : Table) (level : ℕ) (s : CategorySet) (h : LabelsOnce t) where
   -- a label's own look-up goes by its number
   own-look-up : (n : ℕ) → n < length (t .labels) → labelLookup t (labelNumbered t n) ≡ lookedUp (t .mappings) (mappingIn t n)
   unfolding labelLookup
@@ -113,7 +113,7 @@ number-none (At k) e = let z : _≡_ {A = ℕ} 0 1 = cc in absurd (omega arith)
 number-none Nothing e = refl
 
 -- THE LOWEST LABEL
-pub lowest : (t : Table) (level : ℕ) (s : CategorySet) → Sane t → sought level s ≡ true → LowestLabel t level s
+pub lowest : (t : Table) (level : ℕ) (s : CategorySet) → LabelsOnce t → sought level s ≡ true → LowestLabel t level s
 unfolding levelLookup
 lowest t level s h e =
     record {

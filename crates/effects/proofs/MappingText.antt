@@ -13,7 +13,7 @@ use Rattle.search.proofs.Laws.{no, or-is, eqb-is}
 use Rattle.refusals.specs.Refusals.{tooLong, badLevelOrCategory, badLabelAt}
 use Rattle.alphabet.specs.Alphabet.{wellFormed, fields, badByteIn}
 use Rattle.numbers.specs.Numbers.{numberOf}
-use Rattle.numbers.specs.Categories.{isLevel, isCategory, hasCategory, noCategories, withCategory, knownSet, InWords}
+use Rattle.numbers.specs.Categories.{isMappingLevel, isCategory, hasCategory, noCategories, withCategory, knownSet, InWords}
 use Rattle.numbers.specs.declared.CategorySet.{CategorySet}
 use Rattle.numbers.specs.declared.Number.{Number}
 use Rattle.numbers.specs.declared.Number.the-variants as number
@@ -140,7 +140,7 @@ text-says text l level s e = by-length (ltb 1000 (length text)) refl e
         fields text ≡ x ∷ f ∷ cs →
         wellFormed x ≡ true →
         numberOf f ≡ number.Value n →
-        isLevel n ≡ true →
+        isMappingLevel n ≡ true →
         (c : Categories) →
         foldl withField (read.Set noCategories) cs ≡ c →
         withSet x n c ≡ mapping l level s →
@@ -173,7 +173,7 @@ text-says text l level s e = by-length (ltb 1000 (length text)) refl e
         wellFormed x ≡ true →
         numberOf f ≡ number.Value n →
         (b : Bool) →
-        isLevel n ≡ b →
+        isMappingLevel n ≡ b →
         cond b (withSet x n (foldl withField (read.Set noCategories) cs)) (refused badLevelOrCategory) ≡ mapping l level s →
         MappingText text l level s
     by-level x f cs n short parts formed q true is-level e = by-set x f cs n short parts formed q is-level (foldl withField (read.Set noCategories) cs) refl e
@@ -188,7 +188,7 @@ text-says text l level s e = by-length (ltb 1000 (length text)) refl e
         numberOf f ≡ v →
         withLevel x v (foldl withField (read.Set noCategories) cs) ≡ mapping l level s →
         MappingText text l level s
-    by-number x f cs short parts formed (number.Value n) q e = by-level x f cs n short parts formed q (isLevel n) refl e
+    by-number x f cs short parts formed (number.Value n) q e = by-level x f cs n short parts formed q (isMappingLevel n) refl e
     by-number x f cs short parts formed number.Bad q e = let z : _≡_ {A = ℕ} 0 1 = cc in absurd (omega arith)
 
     by-formed :

@@ -23,7 +23,8 @@ use Rattle.store.specs.Judged.{Judged, is-skipped, is-refused, is-accepted, onS
 use Rattle.revoke.specs.declared.Revoked.the-variants.{Count}
 use Rattle.revoke.specs.Revoke.{hasSubject, howMany, revokedRule, withoutModes, subjectCount, revokeWrite, countOf, revokeCount, revokeAnswer}
 use Rattle.access.specs.Access.{effective, answer}
-use Rattle.grown.specs.Sane.{Sane}
+use Rattle.grown.specs.Sane.{LabelsOnce}
+use Rattle.grown.specs.Pairs.{SoundTable}
 use Rattle.grown.proofs.Sane.{one-label, sound-parts, rule-known}
 use Rattle.grown.proofs.Pairs.{answer-same}
 use Rattle.effects.specs.Effects.{cleared, Revokes, CountsRules, rulesOf}
@@ -203,15 +204,15 @@ many-those p q c (r ∷ rs) e h =
     by-test true = refl
     by-test false = refl
 
-revoke-counts : (t : Table) (l : List ℕ) → Sane t → revokeCount l t ≡ length (rulesOf t l)
+revoke-counts : (t : Table) (l : List ℕ) → LabelsOnce t → SoundTable t → revokeCount l t ≡ length (rulesOf t l)
 unfolding all
-revoke-counts t l h = by-found (labelIn t l) refl
+revoke-counts t l h whole = by-found (labelIn t l) refl
   where
     at : (r : Rule) → soundRule (length (t .labels)) r ≡ true → labelIn t (labelNumbered t (r .subject)) ≡ At (r .subject)
     at r s = h .label-once (r .subject) (rule-known (length (t .labels)) r s .0)
 
     sound : all (soundRule (length (t .labels))) (t .rules) ≡ true
-    sound = sound-parts t (length (t .labels)) (h .sound) .0
+    sound = sound-parts t (length (t .labels)) whole .0
 
     same-at : (n : ℕ) → labelIn t l ≡ At n → (r : Rule) → soundRule (length (t .labels)) r ≡ true → hasSubject n r ≡ sameBytes (labelNumbered t (r .subject)) l
     same-at n e r s = by-test (sameBytes (labelNumbered t (r .subject)) l) refl
@@ -260,7 +261,7 @@ answer-counts st l count e =
       unknown = λ at. q ∙ ap (subjectCount (tableOf st)) at;
     }
 
-pub answer-counts-sane :
-    (st : Store) (l : List ℕ) (count : ℕ) → Sane (tableOf st) → revokeAnswer st l ≡ Count count → count ≡ length (rulesOf (tableOf st) l)
+pub answer-counts-once :
+    (st : Store) (l : List ℕ) (count : ℕ) → LabelsOnce (tableOf st) → SoundTable (tableOf st) → revokeAnswer st l ≡ Count count → count ≡ length (rulesOf (tableOf st) l)
 unfolding revokeAnswer
-answer-counts-sane st l count h e = answered-count _ count (onState st (revokeWrite l)) e ∙ revoke-counts (tableOf st) l h
+answer-counts-once st l count h whole e = answered-count _ count (onState st (revokeWrite l)) e ∙ revoke-counts (tableOf st) l h whole

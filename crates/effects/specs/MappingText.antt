@@ -1,4 +1,4 @@
--- 01, Single writes, Mapping, and 02, Four: what a mapping write says, by its fields and without `categoriesOf` and `saidBy`. Assumes nothing.
+-- 01, Single writes, Mapping, and 02, Four and Five: what a mapping write says, by its fields and without `categoriesOf` and `saidBy`. Assumes nothing.
 use Prim.Native.Nat.{ℕ, _<_, _≤_}
 use mathlib.Core.Bool.{true}
 use mathlib.Core.Path.{_≡_}
@@ -7,7 +7,7 @@ use mathlib.Core.List.{List, [], _∷_}
 use lib.ListN.{length, getD}
 use Rattle.alphabet.specs.Alphabet.{wellFormed, fields}
 use Rattle.numbers.specs.Numbers.{numberOf}
-use Rattle.numbers.specs.Categories.{isLevel, isCategory, hasCategory, knownSet, InWords}
+use Rattle.numbers.specs.Categories.{isMappingLevel, isCategory, hasCategory, knownSet, InWords}
 use Rattle.numbers.specs.declared.CategorySet.{CategorySet}
 use Rattle.numbers.specs.declared.Number.the-variants.{Value}
 use Rattle.cipso.specs.Cipso.{mappingLongest}
@@ -24,7 +24,7 @@ pub record MappingText (text l : List ℕ) (level : ℕ) (set : CategorySet) : T
   pub parts : fields text ≡ l ∷ level-field ∷ category-fields
   pub label : wellFormed l ≡ true
   pub number : numberOf level-field ≡ Value level
-  pub is-level : isLevel level ≡ true
+  pub is-level : isMappingLevel level ≡ true
   pub categories : (j : ℕ) → j < length category-fields → (k : ℕ) × (numberOf (getD category-fields j []) ≡ Value k) × (isCategory k ≡ true)
   pub has : (k : ℕ) → isCategory k ≡ true → (hasCategory set k ≡ true) ↔ OneIs category-fields k
   pub known : knownSet set ≡ true

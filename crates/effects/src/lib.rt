@@ -19,7 +19,7 @@ ghost use Rattle.writes.specs.Writes.{judged};
 ghost use Rattle.onlycap.specs.Onlycap.{onlycapWrite};
 ghost use Rattle.cipso.specs.Cipso.{mapping, mappingOf, mappingWrite};
 ghost use Rattle.lookups.specs.Lookups.{sought};
-ghost use Rattle.grown.specs.Sane.{Sane};
+ghost use Rattle.grown.specs.Sane.{LabelsOnce};
 ghost use Rattle.grown.specs.Pairs.{SoundTable};
 ghost use Rattle.effects.specs.Effects.{Revokes, CountsRules, rulesOf, SetsFields, Maps, KeepsPlaces};
 ghost use Rattle.effects.specs.MappingText.{MappingText};
@@ -30,10 +30,11 @@ pub fn accepted_revoke_clears_its_subject()
     ensures { λ _. ⌜ ((t t′ : Table) (l : List ℕ) → revokeWrite l t ≡ is-accepted t′ → Revokes t t′ l) ⌝ }
 {}
 
-// Its answer is how many rules have that subject: of every state by the label's number, and of a sane one by the label's bytes.
+// Its answer is how many rules have that subject: of every state by the label's number, and by the label's bytes where
+// no label is stored twice.
 pub fn revoke_counts_its_rules()
     ensures { λ _. ⌜ ((st : Store) (l : List ℕ) (count : ℕ) → revokeAnswer st l ≡ Count count → CountsRules (tableOf st) l count) ⌝ }
-    ensures { λ _. ⌜ ((st : Store) (l : List ℕ) (count : ℕ) → Sane (tableOf st) → revokeAnswer st l ≡ Count count →
+    ensures { λ _. ⌜ ((st : Store) (l : List ℕ) (count : ℕ) → LabelsOnce (tableOf st) → SoundTable (tableOf st) → revokeAnswer st l ≡ Count count →
         count ≡ length (rulesOf (tableOf st) l)) ⌝ }
 {}
 
@@ -71,5 +72,5 @@ pub fn what_a_label_is_mapped_to()
 
 // The look-up by level and set finds the lowest-numbered label that has both, or none.
 pub fn lowest_label_of_a_level_and_set()
-    ensures { λ _. ⌜ ((t : Table) (level : ℕ) (set : CategorySet) → Sane t → sought level set ≡ true → LowestLabel t level set) ⌝ }
+    ensures { λ _. ⌜ ((t : Table) (level : ℕ) (set : CategorySet) → LabelsOnce t → sought level set ≡ true → LowestLabel t level set) ⌝ }
 {}

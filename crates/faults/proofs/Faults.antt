@@ -8,7 +8,7 @@ use mathlib.Core.Logic.{_↔_}
 use lib.Dec.{eqb, ltb, leb}
 use lib.ListN.{length, getD}
 use borrow.Author.Tests.{lt-ltb, le-ltb, ltb-true, ltb-false, le-leb, lt-leb, leb-true, leb-false, eq-eqb, ne-eqb}
-use Rattle.search.specs.Search.{all, first, entries, placeOf}
+use Rattle.search.specs.Search.{all, first, entries, placeOf, later}
 use Rattle.search.specs.Bytes.{ascii, sameBytes}
 use Rattle.search.specs.declared.Found.{Found}
 use Rattle.search.specs.declared.Found.the-variants.{At, Nothing}
@@ -16,13 +16,15 @@ use Rattle.search.proofs.Laws.{no, and-both, entries-length, all-at, first-none
 use Rattle.refusals.specs.Refusals.{damaged, tooLong, wrongFields, badAccess, sameLabels, labelsFull, rulesFull, badRequest, badLevelOrCategory, mappingsFull, tooManyOverrides, noSuchNumber, badLabelAt}
 use Rattle.refusals.specs.declared.Refusal.{Refusal}
 use Rattle.alphabet.specs.Alphabet.{wellFormed, badByte, badByteOfTwo, fields, badByteIn}
-use Rattle.modes.specs.Modes.{allowedByte, modesOf, readModes, ruleLetters, changeLetters, requestLetters}
+use Rattle.modes.specs.Modes.{allowedByte, modesOf, readModes, ruleLetters, changeLetters, requestLetters, any}
 use Rattle.modes.specs.declared.Access.the-variants.{Modes, Bad}
-use Rattle.numbers.specs.Categories.{isLevel, isCategory, knownSet, noCategories, withCategory}
+use Rattle.numbers.specs.Categories.{isLevel, isMappingLevel, isCategory, knownSet, noCategories, withCategory}
 use Rattle.numbers.specs.declared.CategorySet.{CategorySet}
+use Rattle.numbers.proofs.Sets.{category-sets}
 use Rattle.numbers.specs.Numbers.{numberOf}
 use Rattle.numbers.specs.declared.Number.{Number}
 use Rattle.numbers.specs.declared.Number.the-variants as number
+use Rattle.set_bytes.specs.SetBytes.{bitAt, setOfBitmap, onlyCategories}
 use Rattle.store.specs.declared.Mapping.{Mapping}
 use Rattle.store.specs.declared.Done.{Done}
 use Rattle.store.specs.declared.Done.the-variants as d
@@ -48,6 +50,9 @@ use Rattle.lookups.specs.declared.Lookup.{Lookup}
 use Rattle.lookups.specs.declared.Lookup.the-variants as lookup
 use Rattle.lookups.specs.declared.Label.{Label}
 use Rattle.lookups.specs.declared.Label.the-variants as label
+use Rattle.cipso_option.specs.Option.{ourDoi, optionBy, labelOption, optionGiven, writeAnswer, doiIn, isOption, Peer, unread, ownPeer, mappedPeer, peerAt, peerOf, peerGiven}
+use Rattle.cipso_option.specs.Option as peer
+use Rattle.cipso_option.proofs.Laws.{option-short, option-long, option-tests, option-sized, doi-tests}
 use Rattle.run.specs.declared.Record.{Record}
 use Rattle.run.specs.declared.Best.{Best}
 use Rattle.run.specs.declared.Best.the-variants as best
@@ -71,7 +76,7 @@ use Rattle.load.specs.declared.Ended.the-variants as e
 use Rattle.grown.specs.Pairs.{SoundTable, newLabels, hasRule}
 use Rattle.grown.proofs.Pairs.{undamaged-sound, labels-counted}
 use Rattle.faults.proofs.Different.{those-all, entered-many}
-use Rattle.faults.proofs.Records.{refuses, output-by, of-output, not-leb, record-faults, line-faults}
+use Rattle.faults.proofs.Records.{refuses, output-by, of-output, not-leb, text-first, record-faults, line-faults}
 use Rattle.faults.specs.Faults.{
   Fault,
   _when_,
@@ -106,6 +111,16 @@ use Rattle.faults.specs.Faults.{
   byLabelFaults,
   inRunFaults,
   byLevelFaults,
+  optionFor,
+  writeOptionFaults,
+  isNot,
+  otherLayout,
+  anotherDoi,
+  optionLevel,
+  optionBitmap,
+  rebuilt,
+  someLabelHas,
+  readOptionFaults,
   isTooLong,
   field,
   askFaults,
@@ -201,6 +216,17 @@ of-label = refuses label.Refused label-by (λ n. refl) from
     from (label.Number x) n q = let z : _≡_ {A = ℕ} 0 1 = cc in absurd (omega arith)
     from label.Nothing n q = let z : _≡_ {A = ℕ} 0 1 = cc in absurd (omega arith)
     from (label.Refused m) n q = let z : m ≡ n = cc in ap label.Refused z
+
+abbrev peer-by : Peer → First ℕ
+peer-by (peer.label x) = none
+peer-by (unread n) = by n
+
+of-peer : (x : Peer) (faults : List (Fault ℕ)) → peer-by x ≡ firstFault faults → Refuses x unread faults
+of-peer = refuses unread peer-by (λ n. refl) from
+  where
+    from : (x : Peer) (n : ℕ) → peer-by x ≡ by n → x ≡ unread n
+    from (peer.label x) n q = let z : _≡_ {A = ℕ} 0 1 = cc in absurd (omega arith)
+    from (unread m) n q = let z : m ≡ n = cc in ap unread z
 
 abbrev answer-by : Answer → First Refusal
 answer-by (a.Granted x y) = none
@@ -678,9 +704,9 @@ module _ (t : Table) (few-labels : length (t .labels) ≤ 64) (few-mappings : le
       by-level :
           (k : Number) →
           judged-by (cipso.saidJudged t (cipso.withLevel x k (cipso.categoriesOf fs)))
-          ≡ cond (not (numberPasses isLevel k) || not (all categoryField fs)) (by badLevelOrCategory) (firstFault (roomFaults x))
+          ≡ cond (not (numberPasses isMappingLevel k) || not (all categoryField fs)) (by badLevelOrCategory) (firstFault (roomFaults x))
       by-level number.Bad = refl
-      by-level (number.Value n) = by-test n (isLevel n)
+      by-level (number.Value n) = by-test n (isMappingLevel n)
 
       by-formed :
           (b : Bool) →
@@ -759,6 +785,164 @@ run-refused records level set =
     by-best : (b : Best) → label-by (run.said b) ≡ none
     by-best (best.Label k) = refl
     by-best best.Nothing = refl
+
+-- ---- the packet option, written
+
+write-option-refused : (st : Store) (x out : List ℕ) → Refuses (writeAnswer st x out) l.Refused (writeOptionFaults st x out)
+unfolding writeAnswer optionGiven labelOption labelLookup
+write-option-refused st x out =
+    of-output _ (writeOptionFaults st x out)
+    (state-first (λ y. output-by (textAnswer y out)) (undamagedOf st) _ (output.refused 0) _ refl (λ u. by-formed (wellFormed x)))
+  where
+    t : Table
+    t = tableOf st
+
+    -- of what was looked up: by what its option is refused, and by what where that is too long for the output
+    option-by : Lookup → First ℕ
+    option-by y = output-by (textAnswer (optionBy x y) out)
+
+    sized : Lookup → First ℕ
+    sized y = cond (ltb (length out) (length (optionFor x y))) (by 12) none
+
+    by-own :
+        (b : Bool) → output-by (textAnswer (cond b (output.text (optionFor x lookup.Unmapped)) (output.refused 19)) out) ≡ cond (not b) (by 19) (sized lookup.Unmapped)
+    by-own true = text-first (optionFor x lookup.Unmapped) out
+    by-own false = refl
+
+    unmapped : option-by lookup.Unmapped ≡ cond (ltb 23 (length x)) (by 19) (sized lookup.Unmapped)
+    unmapped = by-own (leb (length x) 23) ∙ rw (not-leb (length x) 23)
+
+    by-mapping :
+        (at : Found) → option-by (lookedUp (t .mappings) at) ≡ cond (not (isFound at) && ltb 23 (length x)) (by 19) (sized (lookedUp (t .mappings) at))
+    by-mapping (At i) = text-first (optionFor x (lookedUp (t .mappings) (At i))) out
+    by-mapping Nothing = unmapped
+
+    by-place : (at : Found) → option-by (lookupBy t at) ≡ cond (not (hasMapping t at) && ltb 23 (length x)) (by 19) (sized (lookupBy t at))
+    by-place (At k) = by-mapping (mappingIn t k)
+    by-place Nothing = unmapped
+
+    looked : Bool → Lookup
+    looked b = cond b (lookupBy t (labelIn t x)) (lookup.Refused (badLabelAt (badByte x)))
+
+    by-formed :
+        (b : Bool) → option-by (looked b) ≡ cond (not b) (by 3) (cond (not (hasMapping t (labelIn t x)) && ltb 23 (length x)) (by 19) (sized (looked b)))
+    by-formed true = by-place (labelIn t x)
+    by-formed false = refl
+
+-- ---- the packet option, read
+
+-- bytes are an option exactly where they have no other layout
+layout-tested : (o : List ℕ) → isOption o ≡ not (otherLayout o)
+layout-tested o = by-length (ltb (length o) 10) refl (ltb 40 (length o)) refl
+  where
+    by-tests : (p q r s t : Bool) → (p && (q && (r && (s && t)))) ≡ not (not p || (not q || (not r || (not s || not t))))
+    by-tests false q r s t = refl
+    by-tests true false r s t = refl
+    by-tests true true false s t = refl
+    by-tests true true true false t = refl
+    by-tests true true true true false = refl
+    by-tests true true true true true = refl
+
+    by-length :
+        (a : Bool) →
+        ltb (length o) 10 ≡ a →
+        (b : Bool) →
+        ltb 40 (length o) ≡ b →
+        isOption o ≡ not (a || (b || (isNot o 0 134 || (isNot o 1 (length o) || (isNot o 6 1 || (isNot o 7 (length o - 6) || isNot o 8 0))))))
+    by-length true e b f = option-short o (ltb-true _ _ e)
+    by-length false e true f = option-long o (ltb-true _ _ f)
+    by-length false e false f =
+        sym (option-tests o (ltb-false _ _ e) (ltb-false _ _ f))
+        ∙ by-tests (eqb (getD o 0 0) 134) (eqb (getD o 1 0) (length o)) (eqb (getD o 6 0) 1) (eqb (getD o 7 0) (length o - 6)) (eqb (getD o 8 0) 0)
+
+-- and its DOI is ours exactly where it is no other
+doi-tested : (o : List ℕ) → 10 ≤ length o → sameBytes (doiIn o) ourDoi ≡ not (anotherDoi o)
+doi-tested o h = sym (doi-tests o h) ∙ by-tests (eqb (getD o 2 0) 0) (eqb (getD o 3 0) 0) (eqb (getD o 4 0) 0) (eqb (getD o 5 0) 3)
+  where
+    by-tests : (p q r s : Bool) → (p && (q && (r && s))) ≡ not (not p || (not q || (not r || not s)))
+    by-tests false q r s = refl
+    by-tests true false r s = refl
+    by-tests true true false s = refl
+    by-tests true true true false = refl
+    by-tests true true true true = refl
+
+-- a search finds one exactly where one passes
+found-any : (p : ℕ → Bool) (xs : List ℕ) → isFound (first p xs) ≡ any p xs
+unfolding first
+found-any p [] = refl
+found-any p (x ∷ xs) = by-test (p x) (first p xs) (found-any p xs)
+  where
+    by-test : (b : Bool) (at : Found) → isFound at ≡ any p xs → isFound (cond b (At 0) (later at)) ≡ (b || any p xs)
+    by-test true at e = refl
+    by-test false (At k) e = e
+    by-test false Nothing e = e
+
+-- the set of a bitmap can be looked up at any level
+bitmap-sought : (level : ℕ) (bitmap : List ℕ) → isLevel level ≡ true → sought level (setOfBitmap bitmap) ≡ true
+unfolding sought setOfBitmap
+bitmap-sought level bitmap h = rw (h, category-sets .passing-known (bitAt bitmap))
+
+module _ (t : Table) (o : List ℕ) (h : isLevel (optionLevel o) ≡ true) where
+  abbrev peerFaults : List (Fault ℕ)
+  peerFaults =
+      3 when (eqb (optionLevel o) 250 && not (wellFormed (rebuilt o)))
+      ∷ 21 when (not (eqb (optionLevel o) 250) && not (someLabelHas t (optionLevel o) (setOfBitmap (optionBitmap o))))
+      ∷ []
+
+  -- by its level
+  peer-at : peer-by (peerAt t (optionLevel o) (setOfBitmap (optionBitmap o))) ≡ firstFault peerFaults
+  unfolding peerAt levelLookup
+  peer-at = rw (bitmap-sought (optionLevel o) (optionBitmap o) h) (by-level (eqb (optionLevel o) 250))
+    where
+      among : Found
+      among = first (hasBoth t (optionLevel o) (setOfBitmap (optionBitmap o))) (entries (λ (k : ℕ). k) (length (t .labels)))
+
+      by-own : (b : Bool) → peer-by (cond b (peer.label (rebuilt o)) (unread 3)) ≡ cond (not b) (by 3) none
+      by-own true = refl
+      by-own false = refl
+
+      by-found : (at : Found) → peer-by (mappedPeer t (numbered at)) ≡ cond (not (isFound at)) (by 21) none
+      by-found (At k) = refl
+      by-found Nothing = refl
+
+      by-level :
+          (b : Bool) →
+          peer-by (cond b (ownPeer (rebuilt o)) (mappedPeer t (numbered among)))
+          ≡ cond (b && not (wellFormed (rebuilt o))) (by 3) (cond (not b && not (someLabelHas t (optionLevel o) (setOfBitmap (optionBitmap o)))) (by 21) none)
+      by-level true = by-own (wellFormed (rebuilt o))
+      by-level false =
+          by-found among
+          ∙ ap (λ (b : Bool). cond (not b) (by 21) none) (found-any (hasBoth t (optionLevel o) (setOfBitmap (optionBitmap o))) (entries (λ (k : ℕ). k) (length (t .labels))))
+
+  peer-first :
+      peer-by (peerOf t o)
+      ≡ cond (otherLayout o) (by 16) (cond (anotherDoi o) (by 17) (cond (not (onlyCategories (optionBitmap o))) (by 18) (firstFault peerFaults)))
+  unfolding peerOf
+  peer-first = rw (layout-tested o) (by-layout (otherLayout o) refl)
+    where
+      given : Peer
+      given = peerAt t (optionLevel o) (setOfBitmap (optionBitmap o))
+
+      by-tests :
+          (b c : Bool) →
+          peer-by (cond (not b) (cond c given (unread 18)) (unread 17)) ≡ cond b (by 17) (cond (not c) (by 18) (firstFault peerFaults))
+      by-tests true c = refl
+      by-tests false true = peer-at
+      by-tests false false = refl
+
+      by-layout :
+          (a : Bool) →
+          otherLayout o ≡ a →
+          peer-by (cond (not a) (cond (sameBytes (doiIn o) ourDoi) (cond (onlyCategories (optionBitmap o)) given (unread 18)) (unread 17)) (unread 16))
+          ≡ cond a (by 16) (cond (anotherDoi o) (by 17) (cond (not (onlyCategories (optionBitmap o))) (by 18) (firstFault peerFaults)))
+      by-layout true q = refl
+      by-layout false q = rw (doi-tested o (option-sized o (layout-tested o ∙ ap not q) .0)) (by-tests (anotherDoi o) (onlyCategories (optionBitmap o)))
+
+read-option-refused : (st : Store) (o : List ℕ) → isLevel (optionLevel o) ≡ true → Refuses (peerGiven st o) unread (readOptionFaults st o)
+unfolding peerGiven
+read-option-refused st o h =
+    of-peer _ (readOptionFaults st o)
+    (state-first peer-by (undamagedOf st) (peerOf (tableOf st) o) (unread 0) _ refl (λ u. peer-first (tableOf st) o h))
 
 -- ---- a question
 
@@ -869,6 +1053,8 @@ first-in-order =
       mapping-by-label = by-label-refused;
       by-level-and-set = by-level-refused;
       in-a-run = run-refused;
+      write-option = write-option-refused;
+      read-option = read-option-refused;
       question = question-refused;
       question-line = question-line-refused;
       listing = listing-refused;

@@ -70,7 +70,7 @@ same-test false true f g = g refl
 same-test false false f g = refl
 
 -- a text that is given to an output
-text-first : (t out : List ℕ) → output-by (putAnswer t out) ≡ cond (ltb (length out) (length t)) (by 12) none
+pub text-first : (t out : List ℕ) → output-by (putAnswer t out) ≡ cond (ltb (length out) (length t)) (by 12) none
 unfolding putAnswer
 text-first t out = by-test (leb (length t) (length out)) ∙ rw (not-leb (length t) (length out))
   where

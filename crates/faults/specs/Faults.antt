@@ -11,17 +11,18 @@ use lib.ListN.{length, drop, getD}
 use lib.Dec.{eqb, ltb, leb}
 use Rattle.refusals.specs.Refusals as refusal
 use Rattle.refusals.specs.declared.Refusal.{Refusal}
-use Rattle.search.specs.Search.{all, those}
+use Rattle.search.specs.Search.{all, those, entries}
 use Rattle.search.specs.Bytes.{ascii, sameBytes}
 use Rattle.search.specs.declared.Found.{Found}
 use Rattle.search.specs.declared.Found.the-variants.{At, Nothing}
 use Rattle.alphabet.specs.Alphabet.{wellFormed, badByte, badByteOfTwo, fields, badByteIn, lineLimit, dash, space}
 use Rattle.modes.specs.Modes.{allowedByte, ruleLetters, changeLetters, requestLetters, modesOf, modesText, any, oneOf}
 use Rattle.numbers.specs.Numbers.{numberOf}
-use Rattle.numbers.specs.Categories.{isLevel, isCategory, knownSet}
+use Rattle.numbers.specs.Categories.{isLevel, ownLevel, isMappingLevel, isCategory, knownSet}
 use Rattle.numbers.specs.declared.CategorySet.{CategorySet}
 use Rattle.numbers.specs.declared.Number.{Number}
 use Rattle.numbers.specs.declared.Number.the-variants as number
+use Rattle.set_bytes.specs.SetBytes.{setOfBitmap, onlyCategories, ownBytes, setOfOwn}
 use Rattle.store.specs.declared.Done.the-variants as d
 use Rattle.store.specs.Table.{Table, labelIn, mappingIn, ruleNumbered, labelLimit, ruleLimit, mappingLimit, onlycapLimit}
 use Rattle.store.specs.Pairs.{modesBetween}
@@ -36,9 +37,11 @@ use Rattle.revoke.specs.Revoke.{revokeAnswer}
 use Rattle.revoke.specs.declared.Revoked.the-variants as r
 use Rattle.onlycap.specs.Onlycap.{onlycapAnswer}
 use Rattle.cipso.specs.Cipso.{mappingLongest, mapAnswer}
-use Rattle.lookups.specs.Lookups.{byLabelOf, byLevelOf}
+use Rattle.lookups.specs.Lookups.{labelLookup, hasBoth, byLabelOf, byLevelOf}
+use Rattle.lookups.specs.declared.Lookup.{Lookup}
 use Rattle.lookups.specs.declared.Lookup.the-variants as lookup
 use Rattle.lookups.specs.declared.Label.the-variants as label
+use Rattle.cipso_option.specs.Option.{trimmed, optionOf, ownLongest, writeAnswer, unread, peerGiven}
 use Rattle.run.specs.declared.Record.{Record}
 use Rattle.run.specs.Run.{runOf}
 use Rattle.access.specs.Access.{isFound, answer, questionOf}
@@ -198,9 +201,9 @@ abbrev pub numberPasses : (ℕ → Bool) → Number → Bool
 numberPasses test (number.Value n) = test n
 numberPasses test number.Bad = false
 
--- a level, as 01 has it, and a category, as 02, Four, has it
+-- a level of a mapping, as 01 and 02, Five, have it: not 250; and a category, as 02, Four, has it
 abbrev pub levelField : List ℕ → Bool
-levelField x = numberPasses isLevel (numberOf x)
+levelField x = numberPasses isMappingLevel (numberOf x)
 
 abbrev pub categoryField : List ℕ → Bool
 categoryField x = numberPasses isCategory (numberOf x)
@@ -240,6 +243,68 @@ inRunFaults level set = refusal.badLevelOrCategory .number when (not (isLevel le
 -- in the table
 abbrev pub byLevelFaults : Store → ℕ → CategorySet → List (Fault ℕ)
 byLevelFaults st level set = refusal.damaged .number when not (undamagedOf st) ∷ inRunFaults level set
+
+-- ---- packet option (02, Five): written 3 19 12; read 16 17 18, then 3 at level 250 and 21 at any other
+
+-- the option of a label: that of its mapping; its own bits at level 250 where it has none. A label that is not well formed has no option
+abbrev pub optionFor : List ℕ → Lookup → List ℕ
+optionFor x (lookup.Mapped level set count) = optionOf level set
+optionFor x lookup.Unmapped = optionOf ownLevel (setOfOwn x)
+optionFor x (lookup.Refused why) = []
+
+-- the label is not well formed; it is unmapped and has over 23 bytes; its option is longer than the lent output
+abbrev pub writeOptionFaults : Store → List ℕ → List ℕ → List (Fault ℕ)
+writeOptionFaults st x out =
+    refusal.damaged .number when not (undamagedOf st)
+    ∷ refusal.badLabel .number when not (wellFormed x)
+    ∷ refusal.notInAnOption .number when (not (hasMapping (tableOf st) (labelIn (tableOf st) x)) && ltb ownLongest (length x))
+    ∷ refusal.outputTooShort .number when ltb (length out) (length (optionFor x (labelLookup (tableOf st) x)))
+    ∷ []
+
+-- byte k, from 0, is not b
+abbrev pub isNot : List ℕ → ℕ → ℕ → Bool
+isNot option k b = not (eqb (getD option k 0) b)
+
+-- another layout: under 10 bytes or over 40, of which 30 are bitmap; or one of the bytes 134, total length, 1, tag length and 0 is another
+abbrev pub otherLayout : List ℕ → Bool
+otherLayout option =
+    ltb (length option) 10
+    || (ltb 40 (length option)
+    || (isNot option 0 134
+    || (isNot option 1 (length option)
+    || (isNot option 6 1
+    || (isNot option 7 (length option - 6)
+    || isNot option 8 0)))))
+
+-- another DOI than 3, high byte first
+abbrev pub anotherDoi : List ℕ → Bool
+anotherDoi option = isNot option 2 0 || (isNot option 3 0 || (isNot option 4 0 || isNot option 5 3))
+
+-- the level, and the bitmap behind it
+abbrev pub optionLevel : List ℕ → ℕ
+optionLevel option = getD option 9 0
+
+abbrev pub optionBitmap : List ℕ → List ℕ
+optionBitmap option = drop 10 option
+
+-- the bytes of its categories, as those of a label's own bits, without trailing zero bytes
+abbrev pub rebuilt : List ℕ → List ℕ
+rebuilt option = trimmed (ownBytes (setOfBitmap (optionBitmap option)))
+
+-- a label of the table has this level and this set
+abbrev pub someLabelHas : Table → ℕ → CategorySet → Bool
+someLabelHas t level set = any (hasBoth t level set) (entries (λ (n : ℕ). n) (length (t .labels)))
+
+-- another layout; another DOI; a bit of category 0 or above 184; at level 250 what is rebuilt is no label; at any other level no mapping matches
+abbrev pub readOptionFaults : Store → List ℕ → List (Fault ℕ)
+readOptionFaults st option =
+    refusal.damaged .number when not (undamagedOf st)
+    ∷ refusal.badOption .number when otherLayout option
+    ∷ refusal.otherDoi .number when anotherDoi option
+    ∷ refusal.badOptionCategory .number when not (onlyCategories (optionBitmap option))
+    ∷ refusal.badLabel .number when (eqb (optionLevel option) ownLevel && not (wellFormed (rebuilt option)))
+    ∷ refusal.noSuchMapping .number when (not (eqb (optionLevel option) ownLevel) && not (someLabelHas (tableOf st) (optionLevel option) (setOfBitmap (optionBitmap option))))
+    ∷ []
 
 -- ---- question: 3 8
 
@@ -378,6 +443,9 @@ pub record FirstInOrder : Type 0 where
   pub mapping-by-label : (st : Store) (x : List ℕ) → Refuses (byLabelOf st x) lookup.Refused (byLabelFaults st x)
   pub by-level-and-set : (st : Store) (level : ℕ) (set : CategorySet) → Refuses (byLevelOf st level set) label.Refused (byLevelFaults st level set)
   pub in-a-run : (run : List Record) (level : ℕ) (set : CategorySet) → Refuses (runOf run level set) label.Refused (inRunFaults level set)
+  pub write-option : (st : Store) (x out : List ℕ) → Refuses (writeAnswer st x out) l.Refused (writeOptionFaults st x out)
+  -- (where byte 9 is a byte: at most 255)
+  pub read-option : (st : Store) (option : List ℕ) → isLevel (optionLevel option) ≡ true → Refuses (peerGiven st option) unread (readOptionFaults st option)
   pub question :
       (st : Store) (s o request : List ℕ) (capable : Bool) →
       Refuses (questionOf st s o request capable) a.Refused (questionFaults st s o request)

@@ -16,7 +16,7 @@ use Rattle.search.specs.declared.Found.the-variants.{At, Nothing}
 use Rattle.search.proofs.Laws.{and-both, all-at, all-put, first-is, first-place, put-at, put-other, length-put, Same, Distinct, distinct-put, Front, front-same, front-more, front-length, all-map, all-made, distinct-map}
 use Rattle.refusals.specs.Refusals.{tooLong, badLabelAt}
 use Rattle.alphabet.specs.Alphabet.{wellFormed, fields, badByte}
-use Rattle.numbers.specs.Categories.{noCategories, knownSet, InWords}
+use Rattle.numbers.specs.Categories.{isMappingLevel, noCategories, knownSet, InWords}
 use Rattle.numbers.specs.declared.CategorySet.{CategorySet}
 use Rattle.store.specs.declared.Rule.{Rule}
 use Rattle.store.specs.declared.Mapping.{Mapping}
@@ -35,7 +35,7 @@ use Rattle.lists.specs.Reader.{Write, change, revoke, onlycap, mapping, judgeWr
 use Rattle.cipso.specs.Cipso as cipso
 use Rattle.cipso.proofs.Laws.{Maps, maps}
 use Rattle.grown.specs.Grown.{Grown, from-fresh, by-line, by-write}
-use Rattle.grown.specs.Sane.{twoLabels, Sane}
+use Rattle.grown.specs.Sane.{levelled, twoLabels, Sane}
 use Rattle.grown.proofs.Sane.{samePair, sound-parts, sound-whole, five-front, front-five, fresh-sane, said-sane}
 
 -- ---- revoke-subject: rules lose their modes, and nothing else changes
@@ -75,8 +75,7 @@ module _ (n : ℕ) where
       let a = sound-parts t (length (t .labels)) (h .sound) in
       record {
         five = h .five;
-        formed = h .formed;
-        label-once = h .label-once;
+        labels-once = record { formed = h .labels-once .formed; label-once = h .labels-once .label-once };
         two-labels = all-map twoLabels twoLabels (revokedRule n) revoked-apart (t .rules) (h .two-labels);
         pair-once = distinct-map samePair (record { subject = 0; object = 0; modes = 0 }) (revokedRule n) revoked-pair (t .rules) (h .pair-once);
         sound =
@@ -85,6 +84,7 @@ module _ (n : ℕ) where
             (a .1)
             (a .2);
         mapping-once = h .mapping-once;
+        levels = h .levels;
         in-words = h .in-words;
         labels = h .labels;
         rules = rw length-map (h .rules);
@@ -141,16 +141,16 @@ entered-sane :
     length ls ≤ 64 →
     all (soundMapping (length ls)) ms ≡ true →
     Distinct (λ (m : Mapping). names (m .label)) none ms →
+    all levelled ms ≡ true →
     ((k : ℕ) → k < length ms → InWords (getD ms k none .set)) →
     length ms ≤ 32 →
     all (λ (k : ℕ). ltb k (length ls)) os ≡ true →
     length os ≤ 8 →
     Sane (record { labels = ls; rules = t .rules; mappings = ms; onlycap = os })
-entered-sane t ls ms os h front formed once few sound-ms once-ms words-ms few-ms sound-os few-os =
+entered-sane t ls ms os h front formed once few sound-ms once-ms levels-ms words-ms few-ms sound-os few-os =
     record {
       five = front-five (front-more (five-front (h .five)) front);
-      formed = formed;
-      label-once = once;
+      labels-once = record { formed = formed; label-once = once };
       two-labels = h .two-labels;
       pair-once = h .pair-once;
       sound =
@@ -159,6 +159,7 @@ entered-sane t ls ms os h front formed once few sound-ms once-ms words-ms few-ms
           sound-ms
           sound-os;
       mapping-once = once-ms;
+      levels = levels-ms;
       in-words = words-ms;
       labels = few;
       rules = h .rules;
@@ -180,8 +181,8 @@ module _ (t : Table) (h : Sane t) where
   emptied-sane : Sane (record { labels = t .labels; rules = t .rules; mappings = t .mappings; onlycap = [] })
   unfolding all
   emptied-sane =
-      entered-sane t (t .labels) (t .mappings) [] h (front-same (t .labels)) (h .formed) (h .label-once) (h .labels)
-      (mappings-more t (t .labels) h (front-same (t .labels))) (h .mapping-once) (h .in-words) (h .mappings) refl (omega arith)
+      entered-sane t (t .labels) (t .mappings) [] h (front-same (t .labels)) (h .labels-once .formed) (h .labels-once .label-once) (h .labels)
+      (mappings-more t (t .labels) h (front-same (t .labels))) (h .mapping-once) (h .levels) (h .in-words) (h .mappings) refl (omega arith)
 
   listed-sane :
       (fs : List (List ℕ)) →
@@ -192,11 +193,12 @@ module _ (t : Table) (h : Sane t) where
   listed-sane fs formed few room =
       let front = joined-front (t .labels) fs (length fs) in
       entered-sane t (labelsJoined t fs) (t .mappings) (map (numberIn (labelsJoined t fs)) (differentJoined fs)) h front
-      (joined-all (t .labels) fs wellFormed (h .formed) formed (length fs) (omega arith))
-      (joined-once (t .labels) fs (h .label-once) (length fs))
+      (joined-all (t .labels) fs wellFormed (h .labels-once .formed) formed (length fs) (omega arith))
+      (joined-once (t .labels) fs (h .labels-once .label-once) (length fs))
       room
       (mappings-more t (labelsJoined t fs) h front)
       (h .mapping-once)
+      (h .levels)
       (h .in-words)
       (h .mappings)
       (all-made (λ (k : ℕ). ltb k (length (labelsJoined t fs))) (numberIn (labelsJoined t fs)) (λ l. lt-ltb _ _ (number-below (labelsJoined t fs) l (at-least-five t (labelsJoined t fs) h front))) (differentJoined fs))
@@ -219,7 +221,7 @@ same-names =
       alike = λ m q e z. rw (eqb-true (q .label) (m .label) e);
     }
 
-module _ (t : Table) (l : List ℕ) (level : ℕ) (s : CategorySet) (h : Sane t) (formed : wellFormed l ≡ true) (known : knownSet s ≡ true) (words : InWords s) where
+module _ (t : Table) (l : List ℕ) (level : ℕ) (s : CategorySet) (h : Sane t) (formed : wellFormed l ≡ true) (known : knownSet s ≡ true) (words : InWords s) (mapped : isMappingLevel level ≡ true) where
   abbrev numbered : ℕ
   numbered = placeOf (labelIn t l) (length (t .labels))
 
@@ -263,11 +265,12 @@ module _ (t : Table) (l : List ℕ) (level : ℕ) (s : CategorySet) (h : Sane t)
   put-sane room place =
       let front = enter-front (t .labels) l in
       entered-sane t (enter (t .labels) l) (put (mappingIn t numbered) (t .mappings) newMapping) (t .onlycap) h front
-      (enter-all (t .labels) l wellFormed (h .formed) formed)
-      (enter-once (t .labels) l (h .label-once))
+      (enter-all (t .labels) l wellFormed (h .labels-once .formed) formed)
+      (enter-once (t .labels) l (h .labels-once .label-once))
       (rw enter-length (place-count (labelIn t l) (length (t .labels)) 64 (h .labels) room))
       (all-put (soundMapping (length (enter (t .labels) l))) (mappingIn t numbered) (t .mappings) newMapping (mappings-more t (enter (t .labels) l) h front) new-sound)
       (distinct-put sameNames none (t .mappings) newMapping same-names (h .mapping-once))
+      (all-put levelled (mappingIn t numbered) (t .mappings) newMapping (h .levels) mapped)
       (put-words (mappingIn t numbered) (first-place (names numbered) none (t .mappings)))
       (rw length-put (place-count (mappingIn t numbered) (length (t .mappings)) 32 (h .mappings) place))
       (onlycap-more t (enter (t .labels) l) h front)
@@ -278,7 +281,7 @@ mapping-sane t text h = by-case (maps t text)
   where
     by-case : (tableAfter t (cipso.mappingWrite text t) ≡ t) ⊎ Maps t (tableAfter t (cipso.mappingWrite text t)) → Sane (tableAfter t (cipso.mappingWrite text t))
     by-case (inl e) = subst Sane (sym e) h
-    by-case (inr w) = subst Sane (sym (w .is)) (put-sane t (w .name) (w .level) (w .members) h (w .formed) (w .known) (w .words) (w .labels) (w .mappings))
+    by-case (inr w) = subst Sane (sym (w .is)) (put-sane t (w .name) (w .level) (w .members) h (w .formed) (w .known) (w .words) (w .levelled) (w .labels) (w .mappings))
 
 -- ---- every single write, and every grown table
 

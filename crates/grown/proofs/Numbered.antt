@@ -90,8 +90,8 @@ module _ (st : Store) (undamaged : undamagedOf st ≡ true) (h : Sane (tableOf s
     its-fields : fields (lineNumbered k) ≡ subject k ∷ object k ∷ modesText (modes k) ∷ []
     its-fields =
         line-fields (subject k) (object k) (modesText (modes k))
-        (label-word (subject k) (all-at wellFormed [] (t .labels) (h .formed) (ruleNumbered t k .subject) (known .0)))
-        (label-word (object k) (all-at wellFormed [] (t .labels) (h .formed) (ruleNumbered t k .object) (known .1)))
+        (label-word (subject k) (all-at wellFormed [] (t .labels) (h .labels-once .formed) (ruleNumbered t k .subject) (known .0)))
+        (label-word (object k) (all-at wellFormed [] (t .labels) (h .labels-once .formed) (ruleNumbered t k .object) (known .1)))
         (modes-word (modes k) (known .2))
 
     listed : ListedAs st out k (subject k) (object k)
@@ -99,7 +99,7 @@ module _ (st : Store) (undamaged : undamagedOf st ≡ true) (h : Sane (tableOf s
 
     -- and found by its labels
     found-itself : pairRule t (subject k) (object k) ≡ At k
-    found-itself = rw (h .label-once (ruleNumbered t k .subject) (known .0), h .label-once (ruleNumbered t k .object) (known .1)) (h .pair-once k below)
+    found-itself = rw (h .labels-once .label-once (ruleNumbered t k .subject) (known .0), h .labels-once .label-once (ruleNumbered t k .object) (known .1)) (h .pair-once k below)
 
     says-itself : modesBetween t (subject k) (object k) ≡ has-modes (modes k)
     unfolding modesBetween

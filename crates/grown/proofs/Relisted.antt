@@ -89,16 +89,16 @@ module _ (t u : Table) (rs rest : List Rule) (r : Rule) (h : Sane t) (w : Loaded
   r-known = subst (λ (x : Rule). (x .subject < length (t .labels)) × (x .object < length (t .labels)) × (x .modes < 64)) r-is (stored-known t (length (t .labels)) (h .sound) (length rs) at-end)
 
   s-number : labelIn t s ≡ At (r .subject)
-  s-number = h .label-once (r .subject) (r-known .0)
+  s-number = h .labels-once .label-once (r .subject) (r-known .0)
 
   o-number : labelIn t o ≡ At (r .object)
-  o-number = h .label-once (r .object) (r-known .1)
+  o-number = h .labels-once .label-once (r .object) (r-known .1)
 
   s-formed : wellFormed s ≡ true
-  s-formed = all-at wellFormed [] (t .labels) (h .formed) (r .subject) (r-known .0)
+  s-formed = all-at wellFormed [] (t .labels) (h .labels-once .formed) (r .subject) (r-known .0)
 
   o-formed : wellFormed o ≡ true
-  o-formed = all-at wellFormed [] (t .labels) (h .formed) (r .object) (r-known .1)
+  o-formed = all-at wellFormed [] (t .labels) (h .labels-once .formed) (r .object) (r-known .1)
 
   s-o : s ≡ o → ⊥
   s-o e =
@@ -146,8 +146,8 @@ module _ (t u : Table) (rs rest : List Rule) (r : Rule) (h : Sane t) (w : Loaded
       same-equal o (labelNumbered u j) (first-is (sameBytes o) [] (u .labels) j eo .1)
       ∙ ap (labelNumbered u) (sym (eqb-true _ _ (b .1)))
       ∙ ap (λ (z : Spelled). z .object) x in
-      let y = same-place (sym s-number ∙ ap (labelIn t) a ∙ h .label-once (ruleNumbered t q .subject) (k .0)) in
-      let z = same-place (sym o-number ∙ ap (labelIn t) c ∙ h .label-once (ruleNumbered t q .object) (k .1)) in
+      let y = same-place (sym s-number ∙ ap (labelIn t) a ∙ h .labels-once .label-once (ruleNumbered t q .subject) (k .0)) in
+      let z = same-place (sym o-number ∙ ap (labelIn t) c ∙ h .labels-once .label-once (ruleNumbered t q .object) (k .1)) in
       let there : pairIn t (r .subject) (r .object) ≡ At q = rw (y, z) (h .pair-once q hq) in
       let here : pairIn t (r .subject) (r .object) ≡ At (length rs) = subst (λ (v : Rule). pairIn t (v .subject) (v .object) ≡ At (length rs)) r-is (h .pair-once (length rs) at-end) in
       let n = same-place (sym there ∙ here) in
@@ -182,7 +182,7 @@ module _ (t u : Table) (rs rest : List Rule) (r : Rule) (h : Sane t) (w : Loaded
 
   fits : length (pairLabels u s o) ≤ length (t .labels)
   fits =
-      distinct-fits sameBytes [] (pairLabels u s o) (t .labels) same-bytes (enter-once (enter (u .labels) s) o (enter-once (u .labels) s (w .sane .label-once)))
+      distinct-fits sameBytes [] (pairLabels u s o) (t .labels) same-bytes (enter-once (enter (u .labels) s) o (enter-once (u .labels) s (w .sane .labels-once .label-once)))
       (λ k hk. found-known (labelIn t (getD (pairLabels u s o) k [])) (all-at (λ (l : List ℕ). isFound (labelIn t l)) [] (pairLabels u s o) still-known k hk))
 
   room : hasRoom u s o ≡ true
@@ -260,7 +260,7 @@ begun : (t : Table) → Sane t → Loaded t fresh []
 begun t h =
     record {
       sane = fresh-sane;
-      known = all-by (λ (l : List ℕ). isFound (labelIn t l)) [] (fresh .labels) (λ k hk. ap isFound (front-first (sameBytes (labelNumbered fresh k)) k (five-front (h .five)) (fresh-sane .label-once k hk)));
+      known = all-by (λ (l : List ℕ). isFound (labelIn t l)) [] (fresh .labels) (λ k hk. ap isFound (front-first (sameBytes (labelNumbered fresh k)) k (five-front (h .five)) (fresh-sane .labels-once .label-once k hk)));
       same = refl;
     }
 

@@ -162,12 +162,16 @@ module _ (t : Table) (s o : List ℕ) (taken : Taken s o) where
       let new : Rule = record { subject = subjectAt t s o; object = objectAt t s o; modes = m } in
       record {
         five = front-five (front-more (five-front (h .five)) pair-front);
-        formed = enter-all (enter (t .labels) s) o wellFormed (enter-all (t .labels) s wellFormed (h .formed) (taken .subject)) (taken .object);
-        label-once = enter-once (enter (t .labels) s) o (enter-once (t .labels) s (h .label-once));
+        labels-once =
+            record {
+              formed = enter-all (enter (t .labels) s) o wellFormed (enter-all (t .labels) s wellFormed (h .labels-once .formed) (taken .subject)) (taken .object);
+              label-once = enter-once (enter (t .labels) s) o (enter-once (t .labels) s (h .labels-once .label-once));
+            };
         two-labels = all-put twoLabels (pairIn t (subjectAt t s o) (objectAt t s o)) (t .rules) new (h .two-labels) (rw (ne-eqb (subjectAt t s o) (objectAt t s o) pair-apart));
         pair-once = distinct-put samePair (record { subject = 0; object = 0; modes = 0 }) (t .rules) new same-pair (h .pair-once);
         sound = pair-sound m (h .sound) small;
         mapping-once = h .mapping-once;
+        levels = h .levels;
         in-words = h .in-words;
         labels = rw pair-length (room .labels);
         mappings = h .mappings;
@@ -255,12 +259,12 @@ unfolding all first sameBytes wellFormed labelByte soundTable
 fresh-sane =
     record {
       five = refl;
-      formed = refl;
-      label-once = once;
+      labels-once = record { formed = refl; label-once = once };
       two-labels = refl;
       pair-once = λ k h. absurd (omega arith);
       sound = refl;
       mapping-once = λ k h. absurd (omega arith);
+      levels = refl;
       in-words = λ k h. absurd (omega arith);
       labels = omega arith;
       rules = omega arith;

@@ -8,9 +8,19 @@ use lib.Dec.{eqb}
 use Rattle.search.specs.Search.{all}
 use Rattle.search.specs.declared.Found.the-variants.{At}
 use Rattle.alphabet.specs.Alphabet.{wellFormed}
-use Rattle.numbers.specs.Categories.{InWords}
+use Rattle.numbers.specs.Categories.{isMappingLevel, InWords}
 use Rattle.store.specs.declared.Rule.{Rule}
+use Rattle.store.specs.declared.Mapping.{Mapping}
 use Rattle.store.specs.Table.{Table, fresh, labelIn, pairIn, labelNumbered, ruleNumbered, mappingNumbered, soundTable, labelLimit, ruleLimit, mappingLimit, onlycapLimit, mappingIn}
+
+-- every label is well formed, and none is there twice: each is found at its own number
+pub record LabelsOnce (t : Table) : Type 0 where
+  pub formed : all wellFormed (t .labels) ≡ true
+  pub label-once : (k : ℕ) → k < length (t .labels) → labelIn t (labelNumbered t k) ≡ At k
+
+-- 02, Five: whether a mapping's level is one that a write may give, which 250 is not
+abbrev pub levelled : Mapping → Bool
+levelled m = isMappingLevel (m .level)
 
 -- whether a rule's subject is not its object
 abbrev pub twoLabels : Rule → Bool
@@ -19,9 +29,7 @@ twoLabels r = not (eqb (r .subject) (r .object))
 pub record Sane (t : Table) : Type 0 where
   -- numbers 0 to 4 are _ ^ * ? @
   pub five : take 5 (t .labels) ≡ fresh .labels
-  -- every label is well formed, and none is there twice: each is found at its own number
-  pub formed : all wellFormed (t .labels) ≡ true
-  pub label-once : (k : ℕ) → k < length (t .labels) → labelIn t (labelNumbered t k) ≡ At k
+  pub labels-once : LabelsOnce t
   -- no rule is from a label to itself, and no pair has two rules: each is found at its own place
   pub two-labels : all twoLabels (t .rules) ≡ true
   pub pair-once : (k : ℕ) → k < length (t .rules) → pairIn t (ruleNumbered t k .subject) (ruleNumbered t k .object) ≡ At k
@@ -29,6 +37,8 @@ pub record Sane (t : Table) : Type 0 where
   pub sound : soundTable (length (t .labels)) t ≡ true
   -- no label has two mappings: each mapping is found at its own place
   pub mapping-once : (k : ℕ) → k < length (t .mappings) → mappingIn t (mappingNumbered t k .label) ≡ At k
+  -- no mapping is at level 250
+  pub levels : all levelled (t .mappings) ≡ true
   -- every set is three words of 64 bits
   pub in-words : (k : ℕ) → k < length (t .mappings) → InWords (mappingNumbered t k .set)
   -- at most 64 labels, 256 rules, 32 mappings and 8 labels in the onlycap list

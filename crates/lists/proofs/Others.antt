@@ -20,6 +20,7 @@ use Rattle.lookups.specs.Lookups.{byLabelOf, byLevelOf}
 use Rattle.lookups.specs.declared.Lookup.the-variants as lookup
 use Rattle.lookups.specs.declared.Label.the-variants as label
 use Rattle.listing.specs.Listing.{listAnswer, listOut, labelGiven, labelAnswer}
+use Rattle.cipso_option.specs.Option.{optionGiven, writeAnswer, writeOut, unread, peerGiven, peerShown}
 use Rattle.output.specs.declared.Output.the-variants as listed
 use Rattle.access.specs.Access.{questionOf}
 use Rattle.answers.specs.Answers.{shown}
@@ -91,6 +92,14 @@ module _ (st : Store) (u : undamagedOf st ≡ true) where
   unfolding listAnswer listOut
   list-says k out = rw u
 
+  pub option-says : (l out : List ℕ) → r.listed (outputShown (writeAnswer st l out)) (writeOut st l out) ≡ askSays (tableOf st) (r.write-option l out)
+  unfolding writeAnswer writeOut optionGiven
+  option-says l out = rw u
+
+  pub peer-says : (option : List ℕ) → r.peer (peerShown (peerGiven st option)) ≡ askSays (tableOf st) (r.read-option option)
+  unfolding peerGiven
+  peer-says option = rw u
+
   pub check-says : (k : ℕ) → doneReply (labelAnswer st k) ≡ askSays (tableOf st) (r.label-check k)
   unfolding labelAnswer
   check-says k = rw u (by-test (ltb k (length (tableOf st .labels))))
@@ -147,6 +156,14 @@ module _ (st : Store) (u : undamagedOf st ≡ false) where
   pub by-level-refused : (level : ℕ) (set : CategorySet) → byLevelOf st level set ≡ label.Refused 0
   unfolding byLevelOf
   by-level-refused level set = rw u
+
+  pub option-refused : (l out : List ℕ) → (writeAnswer st l out ≡ listed.Refused 0) × (writeOut st l out ≡ out)
+  unfolding writeAnswer writeOut optionGiven
+  option-refused l out = (rw u, rw u)
+
+  pub peer-refused : (option : List ℕ) → peerGiven st option ≡ unread 0
+  unfolding peerGiven
+  peer-refused option = rw u
 
   pub list-refused : (k : ℕ) (out : List ℕ) → (listAnswer st k out ≡ listed.Refused 0) × (listOut st k out ≡ out)
   unfolding listAnswer listOut

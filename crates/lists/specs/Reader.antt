@@ -25,6 +25,9 @@ use Rattle.onlycap.specs.Onlycap.{onlycapWrite}
 use Rattle.cipso.specs.Cipso.{mappingWrite}
 use Rattle.lookups.specs.Lookups.{labelLookup, levelLookup}
 use Rattle.listing.specs.Listing.{listRule, listRuleOut}
+use Rattle.output.specs.Output.{textAnswer, textOut}
+use Rattle.cipso_option.specs.Option.{labelOption, peerOf, peerShown}
+use Rattle.cipso_option.specs.declared.PeerLabel.{PeerLabel}
 use Rattle.access.specs.Access.{answer}
 use Rattle.answers.specs.Answers.{shown}
 use Rattle.answers.specs.declared.Shown.{Shown}
@@ -135,7 +138,8 @@ pub data Write : Type 0 where
   mapping : List ℕ → Write
 
 -- the calls that write no table: a question (subject, object, request, and whether the asker has the capability), a mapping by label, by level and set,
--- a rule by its number with the lent buffer, a label by its number, and the call beside it
+-- a rule by its number with the lent buffer, a label by its number, and the call beside it; the packet option of a label with the lent buffer, and the label
+-- of an option
 pub data Ask : Type 0 where
   question : List ℕ → List ℕ → List ℕ → Bool → Ask
   by-label : List ℕ → Ask
@@ -143,6 +147,8 @@ pub data Ask : Type 0 where
   list-rule : ℕ → List ℕ → Ask
   label : ℕ → Ask
   label-check : ℕ → Ask
+  write-option : List ℕ → List ℕ → Ask
+  read-option : List ℕ → Ask
 
 pub data Call : Type 0 where
   piece : List ℕ → Call
@@ -160,6 +166,7 @@ pub data Reply : Type 0 where
   mapped : Mapped → Reply
   lowest : Lowest → Reply
   listed : Length → List ℕ → Reply
+  peer : PeerLabel → Reply
   label-is : List ℕ → Reply
 
 abbrev pub doneReply : Done → Reply
@@ -195,6 +202,8 @@ askSays t (by-level level set) = lowest (searchShown (levelLookup t level set))
 askSays t (list-rule k out) = listed (outputShown (listRule t k out)) (listRuleOut t k out)
 askSays t (label k) = cond (ltb k (length (t .labels))) (label-is (labelNumbered t k)) (refusal noSuchNumber)
 askSays t (label-check k) = cond (ltb k (length (t .labels))) done (refusal noSuchNumber)
+askSays t (write-option l out) = listed (outputShown (textAnswer (labelOption t l) out)) (textOut (labelOption t l) out)
+askSays t (read-option option) = peer (peerShown (peerOf t option))
 
 -- a line under way stays under way: it is judged at its end, against the table as it then is
 abbrev pub writeOn : Reader → Write → Reader
@@ -244,4 +253,5 @@ reports (answered a ∷ rs) = reports rs
 reports (mapped m ∷ rs) = reports rs
 reports (lowest l ∷ rs) = reports rs
 reports (listed n out ∷ rs) = reports rs
+reports (peer p ∷ rs) = reports rs
 reports (label-is l ∷ rs) = reports rs

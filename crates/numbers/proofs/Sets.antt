@@ -15,7 +15,7 @@ use borrow.Author.Tests.{eqb-true, eqb-false, eq-eqb, ltb-true, ltb-false, lt-lt
 use lib.ListN.{length, getD, length-append}
 use Rattle.search.specs.Search.{all, those, entries}
 use Rattle.search.proofs.Laws.{no, and-both, entries-length, entries-at}
-use Rattle.numbers.specs.Categories.{isCategory, value, categoryBit, hasCategory, categories, noCategories, withCategory, sameSet, knownSet, InWords, byteOf, CategorySets}
+use Rattle.numbers.specs.Categories.{isCategory, value, categoryBit, hasCategory, categories, noCategories, withCategory, setOf, sameSet, knownSet, InWords, byteOf, CategorySets}
 use Rattle.numbers.specs.Within.{Category}
 use Rattle.numbers.specs.declared.CategorySet.{CategorySet}
 
@@ -48,13 +48,13 @@ module _ (s : CategorySet) (w : InWords s) where
   unfolding value
   value-upper = high (s .first * 2 ^ 64 + s .second) 64 (w .third)
 
-  value-first : value s / 2 ^ 64 / 2 ^ 64 ≡ s .first
+  pub value-first : value s / 2 ^ 64 / 2 ^ 64 ≡ s .first
   value-first = ap (λ (x : ℕ). x / 2 ^ 64) value-upper ∙ high (s .first) 64 (w .second)
 
-  value-second : value s / 2 ^ 64 % 2 ^ 64 ≡ s .second
+  pub value-second : value s / 2 ^ 64 % 2 ^ 64 ≡ s .second
   value-second = ap (λ (x : ℕ). x % 2 ^ 64) value-upper ∙ low (s .first) 64 (w .second)
 
-  value-third : value s % 2 ^ 64 ≡ s .third
+  pub value-third : value s % 2 ^ 64 ≡ s .third
   unfolding value
   value-third = low (s .first * 2 ^ 64 + s .second) 64 (w .third)
 
@@ -326,7 +326,7 @@ module _ (a b : CategorySet) (ha : InWords a) (hb : InWords b) (same : (k : ℕ)
       let e : x ≡ y = omega arith in
       rw (← add-one m) e
 
-  same-set : a .third % 256 ≡ b .third % 256 → a ≡ b
+  pub same-set : a .third % 256 ≡ b .third % 256 → a ≡ b
   same-set low-bits =
       let top : value a / 256 ≡ value b / 256 = same-top 184 (omega arith) in
       let bottom : value a % 256 ≡ value b % 256 = value-low a ∙ low-bits ∙ sym (value-low b) in
@@ -368,7 +368,7 @@ known-bits s = (
 -- ---- where a category lies
 
 module _ (s : CategorySet) (n : ℕ) where
-  in-first : InWords s → 1 ≤ n → n ≤ 64 → hasCategory s n ≡ eqb (s .first / 2 ^ (64 - n) % 2) 1
+  pub in-first : InWords s → 1 ≤ n → n ≤ 64 → hasCategory s n ≡ eqb (s .first / 2 ^ (64 - n) % 2) 1
   in-first w l m =
       let e : 192 - n ≡ 64 + (64 + (64 - n)) = omega arith in
       ap (λ (x : ℕ). eqb (x % 2) 1)
@@ -377,26 +377,26 @@ module _ (s : CategorySet) (n : ℕ) where
       ∙ sym (shr-shr (value s / 2 ^ 64) 64 (64 - n))
       ∙ ap (λ (x : ℕ). x / 2 ^ (64 - n)) (value-first s w))
 
-  in-second : InWords s → 64 < n → n ≤ 128 → hasCategory s n ≡ eqb (s .second / 2 ^ (128 - n) % 2) 1
+  pub in-second : InWords s → 64 < n → n ≤ 128 → hasCategory s n ≡ eqb (s .second / 2 ^ (128 - n) % 2) 1
   in-second w l m =
       let e : 192 - n ≡ 64 + (128 - n) = omega arith in
       ap (λ (x : ℕ). eqb x 1)
       (ap (λ (x : ℕ). x % 2) (ap (λ (x : ℕ). value s / 2 ^ x) e ∙ sym (shr-shr (value s) 64 (128 - n)) ∙ ap (λ (x : ℕ). x / 2 ^ (128 - n)) (value-upper s w))
       ∙ below-seam (s .first) (s .second) (128 - n) 64 (omega arith))
 
-  in-third : 128 < n → n ≤ 184 → hasCategory s n ≡ eqb (s .third / 2 ^ (192 - n) % 2) 1
+  pub in-third : 128 < n → n ≤ 184 → hasCategory s n ≡ eqb (s .third / 2 ^ (192 - n) % 2) 1
   unfolding value
   in-third l m = ap (λ (x : ℕ). eqb x 1) (below-seam (s .first * 2 ^ 64 + s .second) (s .third) (192 - n) 64 (omega arith))
 
 -- bit j, from the top, of the byte that stands k bits up
-byte-digit : (v k j : ℕ) → j < 8 → v / 2 ^ k % 256 / 2 ^ (7 - j) % 2 ≡ v / 2 ^ (k + (7 - j)) % 2
+pub byte-digit : (v k j : ℕ) → j < 8 → v / 2 ^ k % 256 / 2 ^ (7 - j) % 2 ≡ v / 2 ^ (k + (7 - j)) % 2
 byte-digit v k j h =
     let e : 8 ≡ j + 1 + (7 - j) = omega arith in
     ap (λ (x : ℕ). x % 2) (ap (λ (x : ℕ). v / 2 ^ k % 2 ^ x / 2 ^ (7 - j)) e ∙ field (v / 2 ^ k) (j + 1) (7 - j))
     ∙ mod-mod-pow (v / 2 ^ k / 2 ^ (7 - j)) j 1
     ∙ ap (λ (x : ℕ). x % 2) (shr-shr v k (7 - j))
 
-in-byte : (s : CategorySet) (i j : ℕ) → i < 23 → j < 8 → hasCategory s (8 * i + j + 1) ≡ eqb (byteOf s i / 2 ^ (7 - j) % 2) 1
+pub in-byte : (s : CategorySet) (i j : ℕ) → i < 24 → j < 8 → hasCategory s (8 * i + j + 1) ≡ eqb (byteOf s i / 2 ^ (7 - j) % 2) 1
 in-byte s i j hi hj =
     let e : 192 - (8 * i + j + 1) ≡ 8 * (23 - i) + (7 - j) = omega arith in
     ap (λ (x : ℕ). eqb (value s / 2 ^ x % 2) 1) e ∙ ap (λ (x : ℕ). eqb x 1) (sym (byte-digit (value s) (8 * (23 - i)) j hj))
@@ -573,6 +573,30 @@ made-of s w known =
         by-test true false p q = absurd (no (sym q ∙ ⊎-elim (λ e. absurd (no (sym (has-none k) ∙ e))) (λ l. m .0 l .1) (h .0 p)))
         by-test false true p q = absurd (no (sym p ∙ h .1 (inr (m .1 (category-is k hk, q)))))
 
+-- ---- the set of the categories that pass a test
+
+module _ (p : ℕ → Bool) where
+  passing-all : all isCategory (those p candidates) ≡ true
+  passing-all = those-pass p isCategory candidates candidates-are
+
+  pub passing-words : InWords (setOf p)
+  unfolding setOf
+  passing-words = made-words noCategories (those p candidates) none-words passing-all
+
+  pub passing-known : knownSet (setOf p) ≡ true
+  unfolding setOf
+  passing-known = rw (made-low noCategories (those p candidates) passing-all)
+
+  pub passing-has : (k : ℕ) → Category k → hasCategory (setOf p) k ≡ p k
+  unfolding setOf
+  passing-has k hk = by-test (hasCategory (foldl withCategory noCategories (those p candidates)) k) (p k) refl refl
+    where
+      by-test : (x y : Bool) → hasCategory (foldl withCategory noCategories (those p candidates)) k ≡ x → p k ≡ y → x ≡ y
+      by-test true true e q = refl
+      by-test false false e q = refl
+      by-test true false e q = absurd (no (sym q ∙ ⊎-elim (λ h. absurd (no (sym (has-none k) ∙ h))) (λ m. those-member p k candidates .0 m .0) (made-has k hk noCategories (those p candidates) none-words passing-all .0 e)))
+      by-test false true e q = absurd (no (sym e ∙ made-has k hk noCategories (those p candidates) none-words passing-all .1 (inr (those-member p k candidates .1 (q, category-member k hk)))))
+
 -- ---- a set is told by its categories, and made of them
 
 set-equal : (a b : CategorySet) → (sameSet a b ≡ true) ↔ (a ≡ b)
@@ -597,10 +621,13 @@ category-sets =
       listed = listed-are;
       ascending = listed-ascend;
       made = made-of;
+      passing = λ p k h. passing-has p k (is-category k h);
+      passing-known = passing-known;
+      passing-words = passing-words;
       in-first = in-first;
       in-second = in-second;
       in-third = in-third;
-      in-byte = in-byte;
+      in-byte = λ s i j hi hj. in-byte s i j (omega arith) hj;
       byte = λ s i. mod-lt _ (omega arith);
       last-byte = λ s k. ap (λ (x : ℕ). x % 256) (div-one (value s)) ∙ value-low s ∙ eqb-true _ _ k;
     }

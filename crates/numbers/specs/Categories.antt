@@ -1,9 +1,9 @@
--- 01, Single writes, Mapping, and 02, Four: levels are 0 to 255, categories 1 to 184. A set of categories is three words of 64 bits, which make one number
+-- 01, Single writes, Mapping, and 02, Four and Five: levels are 0 to 255, categories 1 to 184. A set of categories is three words of 64 bits, which make one number
 -- of 192 bits, the first word highest; category n is its bit 2 ^ (192 - n): category 1 the top one. The eight lowest bits are no category. What a set of
 -- categories is stands here and nowhere else. Assumes nothing.
 use Prim.Native.Nat.{ℕ, suc, _+_, _-_, _*_, _/_, _%_, _^_, _<_, _≤_}
 use mathlib.Core.Path.{_≡_}
-use mathlib.Core.Bool.{Bool, true, false, cond, _&&_, _||_}
+use mathlib.Core.Bool.{Bool, true, false, cond, not, _&&_, _||_}
 use mathlib.Core.List.{List, List·Memᴰ, foldl}
 use mathlib.Core.Logic.{_↔_}
 use lib.ListN.{length, getD}
@@ -18,6 +18,13 @@ levelLimit = 255
 
 abbrev pub isLevel : ℕ → Bool
 isLevel n = leb n levelLimit
+
+-- 02, Five: the level at which an unmapped label goes as its own bits; a mapping is written at any other
+abbrev pub ownLevel : ℕ
+ownLevel = 250
+
+abbrev pub isMappingLevel : ℕ → Bool
+isMappingLevel n = isLevel n && not (eqb n ownLevel)
 
 -- 02, Four: category 1 to 184
 abbrev pub categoryLimit : ℕ
@@ -54,6 +61,10 @@ withCategory s n =
     (cond (leb n 128)
     (record { first = s .first; second = bitOr (s .second) (2 ^ (128 - n)); third = s .third })
     (record { first = s .first; second = s .second; third = bitOr (s .third) (2 ^ (192 - n)) }))
+
+-- the set of the categories that pass a test
+unfoldable pub setOf : (ℕ → Bool) → CategorySet
+setOf p = foldl withCategory noCategories (those p (entries (λ (k : ℕ). k + 1) categoryLimit))
 
 -- two sets are equal, in all three words
 abbrev pub sameSet : CategorySet → CategorySet → Bool
@@ -103,6 +114,10 @@ pub record CategorySets : Type 0 where
   pub ascending : (s : CategorySet) (i : ℕ) → suc i < length (categories s) → getD (categories s) i 0 < getD (categories s) (suc i) 0
   -- a known set is made of its categories
   pub made : (s : CategorySet) → InWords s → knownSet s ≡ true → foldl withCategory noCategories (categories s) ≡ s
+  -- the set of the categories that pass a test has just these, and no other bit
+  pub passing : (p : ℕ → Bool) (k : ℕ) → isCategory k ≡ true → hasCategory (setOf p) k ≡ p k
+  pub passing-known : (p : ℕ → Bool) → knownSet (setOf p) ≡ true
+  pub passing-words : (p : ℕ → Bool) → InWords (setOf p)
   -- where a category lies: in which word, and at which bit of it, as the header's two macros have it; and in the bytes, category 1 first and highest, of
   -- which 23 hold them all: each is a byte, and of a known set the one behind them is 0
   pub in-first : (s : CategorySet) (n : ℕ) → InWords s → 1 ≤ n → n ≤ 64 → hasCategory s n ≡ eqb (s .first / 2 ^ (64 - n) % 2) 1

@@ -3,11 +3,14 @@ ghost use mathlib.Core.Path.{_≡_};
 ghost use Prim.Native.Nat.{_^_, _<_};
 ghost use lib.ListN.{length};
 ghost use Rattle.numbers.specs.Numbers.{numberOf, NumbersOfDigits};
-ghost use Rattle.numbers.specs.Categories.{categories, withCategory, sameSet, knownSet, CategorySets};
+ghost use Rattle.numbers.specs.Categories.{isMappingLevel, categories, withCategory, sameSet, knownSet, CategorySets};
 ghost use Rattle.numbers.specs.Within.{Category};
 
 // Level 0 to 255, category 1 to 184.
 pub const LEVEL_LIMIT: u64 = 255;
+
+// The level at which an unmapped label goes as its own bits (02, Five).
+pub const OWN_LEVEL: u64 = 250;
 
 pub const CATEGORY_LIMIT: u64 = 184;
 
@@ -72,6 +75,13 @@ pub fn read_number(field: &[u8]) -> Number
 pub fn numbers_of_digits()
     ensures { λ _. ⌜ NumbersOfDigits ⌝ }
 {}
+
+// Whether a mapping may be written at a level: 0 to 255, but not the one of labels as their own bits.
+pub fn is_mapping_level(level: u64) -> bool
+    ensures { λ r. ⌜ r ≡ isMappingLevel level ⌝ }
+{
+    (level <= LEVEL_LIMIT) & (level != OWN_LEVEL)
+}
 
 // The claim that a set is told by its categories and made of them: what one category more changes, that two sets with the same categories and no other bit
 // are equal, and where each category lies.

@@ -74,3 +74,23 @@ badRecord = plain 14
 -- 02, One: a line has a label over 23 bytes or a b, and no record can hold it
 abbrev pub notInARecord : Refusal
 notInARecord = plain 15
+
+-- 02, Five: bytes that are no option of the layout
+abbrev pub badOption : Refusal
+badOption = plain 16
+
+-- 02, Five: an option of another DOI
+abbrev pub otherDoi : Refusal
+otherDoi = plain 17
+
+-- 02, Five: an option with category 0 or above 184
+abbrev pub badOptionCategory : Refusal
+badOptionCategory = plain 18
+
+-- 02, Five: an unmapped label has over 23 bytes, and no option can hold it
+abbrev pub notInAnOption : Refusal
+notInAnOption = plain 19
+
+-- 02, Five: no mapping matches an option
+abbrev pub noSuchMapping : Refusal
+noSuchMapping = plain 21

@@ -101,3 +101,33 @@ pub const NOT_IN_A_RECORD: Refusal = Refusal {
     number: 15,
     place: 0,
 };
+
+// Bytes that are no packet option of the layout (02, Five).
+pub const BAD_OPTION: Refusal = Refusal {
+    number: 16,
+    place: 0,
+};
+
+// An option of another DOI.
+pub const OTHER_DOI: Refusal = Refusal {
+    number: 17,
+    place: 0,
+};
+
+// An option with category 0 or above 184.
+pub const BAD_OPTION_CATEGORY: Refusal = Refusal {
+    number: 18,
+    place: 0,
+};
+
+// An unmapped label is too long for an option.
+pub const NOT_IN_AN_OPTION: Refusal = Refusal {
+    number: 19,
+    place: 0,
+};
+
+// No mapping matches an option.
+pub const NO_SUCH_MAPPING: Refusal = Refusal {
+    number: 21,
+    place: 0,
+};

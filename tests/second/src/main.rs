@@ -21,6 +21,7 @@ fn main() -> ExitCode {
                 ["searches"] => Kind::Searches,
                 ["places"] => Kind::Places,
                 ["categories"] => Kind::Categories,
+                ["options"] => Kind::Options,
                 _ => return usage(),
             };
             match (seed.parse(), count.parse()) {
@@ -41,7 +42,7 @@ fn main() -> ExitCode {
 
 fn usage() -> ExitCode {
     eprintln!(
-        "usage: second program | second script | second random SEED COUNT [records | searches | places | categories]"
+        "usage: second program | second script | second random SEED COUNT [records | searches | places | categories | options]"
     );
     ExitCode::FAILURE
 }

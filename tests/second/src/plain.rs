@@ -2,9 +2,9 @@
 //!
 //! Words in quotes are the paper's. The order of this file is the paper's:
 //! labels, modes, rule text, single writes, look-ups, questions, listing; then
-//! request One of 02, old fixed records. The places of request Three and the
-//! categories of request Four stand with the labels, fields and calls that they
-//! belong to.
+//! request One of 02, old fixed records, and request Five, the packet option. The
+//! places of request Three and the categories of request Four stand with the
+//! labels, fields and calls that they belong to.
 //! A table here is never damaged; see `raw` for lent memory and refusal 0.
 
 use std::collections::BTreeSet;
@@ -51,7 +51,8 @@ pub enum Refusal {
     NoRulePlace,
     /// "the request is empty or has another byte".
     BadRequest,
-    /// "a level or category is not as above"; "9 for category 0 or above 184".
+    /// "a level or category is not as above"; "9 for category 0 or above 184"; "a
+    /// mapping write at level 250 gets 9".
     BadLevelOrCategory,
     /// "the label has no mapping and 32 are stored".
     NoMappingPlace,
@@ -66,6 +67,16 @@ pub enum Refusal {
     BadRecord,
     /// "a label over 23 bytes or a b".
     NotInARecord,
+    /// "any other layout" of an option.
+    BadOption,
+    /// "another DOI".
+    OtherDoi,
+    /// "category 0 or above 184" in an option's bitmap.
+    BadOptionCategory,
+    /// "an unmapped label over 23 bytes".
+    UnmappedTooLong,
+    /// "no mapping matches".
+    NoMappingMatches,
 }
 
 impl Refusal {
@@ -88,6 +99,11 @@ impl Refusal {
             Refusal::NoSuchNumber => 13,
             Refusal::BadRecord => 14,
             Refusal::NotInARecord => 15,
+            Refusal::BadOption => 16,
+            Refusal::OtherDoi => 17,
+            Refusal::BadOptionCategory => 18,
+            Refusal::UnmappedTooLong => 19,
+            Refusal::NoMappingMatches => 21,
         }
     }
 
@@ -770,7 +786,8 @@ impl Table {
         Ok(())
     }
 
-    /// "Mapping: label, level, then no or more categories." Refusals 1 2 3 9 6 10.
+    /// "Mapping: label, level, then no or more categories." Refusals 1 2 3 9 6 10;
+    /// "a mapping write at level 250 gets 9".
     pub fn mapping(&mut self, write: &[u8]) -> Result<(), Refusal> {
         if write.len() > MAPPING_WRITE_LIMIT {
             return Err(Refusal::TooLong);
@@ -784,6 +801,9 @@ impl Table {
         let Some(level) = read_level(fields[1].bytes) else {
             return Err(Refusal::BadLevelOrCategory);
         };
+        if level == LABEL_LEVEL {
+            return Err(Refusal::BadLevelOrCategory);
+        }
         let mut set = Categories::new();
         for field in &fields[2..] {
             let Some(category) = read_category(field.bytes) else {
@@ -866,11 +886,16 @@ impl Table {
     }
 
     /// "Looked up by level and set, it gives the lowest-numbered label whose
-    /// both are equal, or none." Refusal 9. Where a label or a mapping is
-    /// stored twice "the first counts": a number counts only if it is its
-    /// label's first, and only by its first mapping.
+    /// both are equal, or none." Refusal 9.
     pub fn by_level(&self, level: u64, set: &Words) -> Result<Option<usize>, Refusal> {
         let set = sought_set(level, set)?;
+        Ok(self.lowest_with(level, &set))
+    }
+
+    /// "the lowest-numbered label whose both are equal, or none". Where a label or
+    /// a mapping is stored twice "the first counts": a number counts only if it is
+    /// its label's first, and only by its first mapping.
+    fn lowest_with(&self, level: u64, set: &Categories) -> Option<usize> {
         for number in 0..self.labels.len() {
             let is_first_number = self.number_of(&self.labels[number]) == Some(number);
             if !is_first_number {
@@ -880,11 +905,11 @@ impl Table {
                 continue;
             };
             let mapping = &self.mappings[place];
-            if u64::from(mapping.level) == level && mapping.set == set {
-                return Ok(Some(number));
+            if u64::from(mapping.level) == level && &mapping.set == set {
+                return Some(number);
             }
         }
-        Ok(None)
+        None
     }
 }
 
@@ -1163,4 +1188,167 @@ pub fn line_to_record(line: &[u8], output: &mut [u8]) -> Result<usize, Refusal> 
         record.push(if modes & bit != 0 { letter } else { b'-' });
     }
     write_to_front(&record, output)
+}
+
+// ---------------------------------------------------------------------------
+// The packet option (02, Five)
+// ---------------------------------------------------------------------------
+
+/// The option begins with "byte 134".
+pub const OPTION_TYPE: u8 = 134;
+/// "four bytes of DOI (always 3, high byte first)".
+pub const OPTION_DOI: [u8; 4] = [0, 0, 0, 3];
+/// "one tag of type 1".
+pub const TAG_TYPE: u8 = 1;
+/// The bytes before the tag: 134, total length, DOI.
+pub const BEFORE_TAG: usize = 6;
+/// The bytes before the bitmap: those, then "1, tag length, 0, level".
+pub const BEFORE_BITMAP: usize = 10;
+/// "the reader takes them, up to 30 bitmap bytes".
+pub const BITMAP_LIMIT: usize = 30;
+/// "at level 250 as its own bits".
+pub const LABEL_LEVEL: u8 = 250;
+/// "An unmapped label of at most 23 bytes".
+pub const OWN_BITS_LIMIT: usize = 23;
+
+/// "Category n is bit 0x80 shifted right by n mod 8, in bitmap byte n/8 rounded
+/// down": the byte, and the bit in it.
+fn bitmap_place(category: u64) -> (usize, u8) {
+    ((category / 8) as usize, 0x80 >> (category % 8))
+}
+
+/// The bitmap of a set: as long as its highest category wants, so there are "no
+/// trailing zero bytes".
+fn bitmap_of(set: &Categories) -> Vec<u8> {
+    let mut bitmap = Vec::new();
+    for &category in set {
+        let (byte, bit) = bitmap_place(category);
+        if bitmap.len() <= byte {
+            bitmap.resize(byte + 1, 0);
+        }
+        bitmap[byte] |= bit;
+    }
+    bitmap
+}
+
+/// The set that a bitmap says. None where a bit is "category 0 or above 184".
+fn set_of_bitmap(bitmap: &[u8]) -> Option<Categories> {
+    let mut set = Categories::new();
+    for category in 0..8 * bitmap.len() as u64 {
+        let (byte, bit) = bitmap_place(category);
+        if bitmap[byte] & bit == 0 {
+            continue;
+        }
+        if category == 0 || category > HIGHEST_CATEGORY {
+            return None;
+        }
+        set.insert(category);
+    }
+    Some(set)
+}
+
+/// A label's "own bits: bit j, from the top, of byte i is category 8i+j+1".
+pub fn own_bits(label: &[u8]) -> Categories {
+    let mut set = Categories::new();
+    for (i, byte) in label.iter().enumerate() {
+        for j in 0..8 {
+            if byte & (0x80 >> j) != 0 {
+                set.insert(8 * i as u64 + j + 1);
+            }
+        }
+    }
+    set
+}
+
+/// "the reader rebuilds the label, dropping trailing zero bytes": 23 bytes made of
+/// the set, bit by bit as above, without the zero bytes at their end. They need
+/// not be a label.
+fn bytes_of_bits(set: &Categories) -> Vec<u8> {
+    let mut bytes = Vec::new();
+    for i in 0..OWN_BITS_LIMIT as u64 {
+        let mut byte = 0;
+        for j in 0..8 {
+            if set.contains(&(8 * i + j + 1)) {
+                byte |= 0x80 >> j;
+            }
+        }
+        bytes.push(byte);
+    }
+    while bytes.last() == Some(&0) {
+        bytes.pop();
+    }
+    bytes
+}
+
+/// "byte 134, total length, four bytes of DOI (always 3, high byte first), 1, tag
+/// length, 0, level, bitmap". The tag length is that of all from the 1 on.
+pub fn option_bytes(level: u8, set: &Categories) -> Vec<u8> {
+    let bitmap = bitmap_of(set);
+    let total = BEFORE_BITMAP + bitmap.len();
+    let mut option = vec![OPTION_TYPE, total as u8];
+    option.extend_from_slice(&OPTION_DOI);
+    option.extend_from_slice(&[TAG_TYPE, (total - BEFORE_TAG) as u8, 0, level]);
+    option.extend_from_slice(&bitmap);
+    option
+}
+
+/// Whether the bytes are laid out as an option is, whatever its DOI: the rest is
+/// "any other layout".
+fn is_laid_out(option: &[u8]) -> bool {
+    let total = option.len();
+    if !(BEFORE_BITMAP..=BEFORE_BITMAP + BITMAP_LIMIT).contains(&total) {
+        return false;
+    }
+    option[0] == OPTION_TYPE
+        && usize::from(option[1]) == total
+        && option[6] == TAG_TYPE
+        && usize::from(option[7]) == total - BEFORE_TAG
+        && option[8] == 0
+}
+
+impl Table {
+    /// The writer: "A mapped label uses its mapping. An unmapped label of at most 23
+    /// bytes goes at level 250 as its own bits"; "the length written to a lent output
+    /// is answered". Refusals 3 19 12. This call is not 01's, so no place is told
+    /// beside its 3: it is 0 here.
+    pub fn write_option(&self, label: &[u8], output: &mut [u8]) -> Result<usize, Refusal> {
+        if !is_well_formed(label) {
+            return Err(Refusal::BadLabel { place: 0 });
+        }
+        let option = match self.by_label(label)? {
+            Some(found) => option_bytes(found.level, &found.set),
+            None if label.len() > OWN_BITS_LIMIT => return Err(Refusal::UnmappedTooLong),
+            None => option_bytes(LABEL_LEVEL, &own_bits(label)),
+        };
+        write_to_front(&option, output)
+    }
+
+    /// The reader: gives the label's bytes. "It answers by value and stores
+    /// nothing." Refusals "16 for any other layout, then 17 for another DOI, then 18
+    /// for category 0 or above 184, then 3 where level 250 doesn't rebuild a label,
+    /// else 21 where no mapping matches". The place is 0 here too.
+    pub fn read_option(&self, option: &[u8]) -> Result<Vec<u8>, Refusal> {
+        if !is_laid_out(option) {
+            return Err(Refusal::BadOption);
+        }
+        if option[2..BEFORE_TAG] != OPTION_DOI {
+            return Err(Refusal::OtherDoi);
+        }
+        let Some(set) = set_of_bitmap(&option[BEFORE_BITMAP..]) else {
+            return Err(Refusal::BadOptionCategory);
+        };
+        let level = option[9];
+        if level == LABEL_LEVEL {
+            let label = bytes_of_bits(&set);
+            if !is_well_formed(&label) {
+                return Err(Refusal::BadLabel { place: 0 });
+            }
+            return Ok(label);
+        }
+        // By its stored bytes, whatever they are.
+        match self.lowest_with(u64::from(level), &set) {
+            Some(number) => Ok(self.labels[number].clone()),
+            None => Err(Refusal::NoMappingMatches),
+        }
+    }
 }

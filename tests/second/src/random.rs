@@ -15,7 +15,9 @@
 
 use std::io::{self, Write};
 
-use crate::plain::{self, category_bit, class_of, words_of, Class, Table, Words};
+use crate::plain::{
+    self, category_bit, class_of, option_bytes, own_bits, set_of, words_of, Class, Table, Words,
+};
 use crate::raw;
 use crate::script::{write_hex, write_set, Machine};
 
@@ -66,8 +68,9 @@ impl Xorshift {
 
 /// Which calls a script has: all of them; the two that turn old records into
 /// lines and back; questions, and some writes, about labels that are hard to
-/// tell apart; the calls that tell the place of a bad byte; or mappings, look-ups
-/// and runs of sets that are hard to tell apart.
+/// tell apart; the calls that tell the place of a bad byte; mappings, look-ups and
+/// runs of sets that are hard to tell apart; or the packet option's writer and
+/// reader, with mappings and look-ups beside them.
 #[derive(Clone, Copy, PartialEq, Eq)]
 pub enum Kind {
     Every,
@@ -75,6 +78,7 @@ pub enum Kind {
     Searches,
     Places,
     Categories,
+    Options,
 }
 
 /// Lengths just under and over 600 bytes, and for a mapping over 1,000 too.
@@ -108,6 +112,7 @@ pub fn write_script(seed: u64, count: u64, kind: Kind, output: &mut dyn Write) -
             Kind::Searches => generator.searches_episode(),
             Kind::Places => generator.places_episode(),
             Kind::Categories => generator.categories_episode(),
+            Kind::Options => generator.options_episode(),
         }
     }
     match generator.error {
@@ -130,7 +135,7 @@ struct Generator<'a> {
     next_name: u64,
     /// Rule text that is made but not yet handed over in pieces.
     pending: Vec<u8>,
-    /// The sets that an episode of the kind `categories` likes to use.
+    /// The sets that an episode of the kind `categories` or `options` likes to use.
     sets: Vec<Words>,
 }
 
@@ -378,7 +383,7 @@ impl Generator<'_> {
             entries.push(match (is_modes, is_level) {
                 (true, _) if any_modes => self.random.byte(),
                 (true, _) => self.random.byte() & 63,
-                (_, true) => self.random.pick(&[0, 7, 9, 255]),
+                (_, true) => self.random.pick(&[0, 7, 9, 250, 255]),
                 _ if any_number => self.random.byte(),
                 _ => self.random.below(labels.max(1)) as u8,
             });
@@ -742,7 +747,7 @@ impl Generator<'_> {
                 let label = table.mappings[from].label as u8;
                 let at = raw::MAPPING_LABELS + to;
                 self.emit(&format!("poke entries {at} {}", write_hex(&[label])));
-                let level = self.random.pick(&[8, 9, 255]);
+                let level = self.random.pick(&[8, 9, 250, 255]);
                 let at = raw::LEVELS + to;
                 self.emit(&format!("poke entries {at} {}", write_hex(&[level])));
             }
@@ -1193,7 +1198,7 @@ impl Generator<'_> {
     }
 
     fn any_call(&mut self) {
-        match self.random.below(108) {
+        match self.random.below(118) {
             0..=21 => self.piece_call(),
             22..=26 => self.emit("end"),
             27..=35 => self.change_call(),
@@ -1208,6 +1213,9 @@ impl Generator<'_> {
             92..=95 => self.label_call(),
             96..=99 => self.record_call(),
             100..=103 => self.line_call(),
+            104..=107 => self.write_option_call(),
+            108..=112 => self.read_option_call(),
+            113 => self.map_near_250(),
             _ => self.emit("dump"),
         }
         self.some_dump();
@@ -1235,6 +1243,8 @@ impl Generator<'_> {
         self.label_call();
         self.record_call();
         self.line_call();
+        self.write_option_call();
+        self.read_option_call();
         self.emit("dump");
     }
 
@@ -1347,6 +1357,17 @@ impl Generator<'_> {
         self.emit(&format!("mapping {}", write_hex(&write)));
     }
 
+    /// A mapping write at level 250, or just beside it.
+    fn map_near_250(&mut self) {
+        let level = self.random.pick(&["249", "250", "250", "251"]);
+        let mut fields = vec![self.label(), level.as_bytes().to_vec()];
+        for _ in 0..self.random.below(3) {
+            fields.push(self.category());
+        }
+        let write = self.write_of(fields, &MAPPING_LENGTHS);
+        self.emit(&format!("mapping {}", write_hex(&write)));
+    }
+
     fn by_label_call(&mut self) {
         let label = match self.random.below(12) {
             0 => Vec::new(),
@@ -1363,7 +1384,7 @@ impl Generator<'_> {
 
     /// A level and a set: of a stored mapping, or near one, or any.
     fn level_and_set(&mut self) -> (u64, Words) {
-        let mut level = self.random.pick(&[0, 7, 8, 9, 255]);
+        let mut level = self.random.pick(&[0, 7, 8, 9, 250, 255]);
         let mut set = self.few_categories();
         if let Some(table) = self.table() {
             if !table.mappings.is_empty() && self.random.chance(60) {
@@ -2521,4 +2542,480 @@ impl Generator<'_> {
             self.emit_record(&record, &output);
         }
     }
+
+    // -----------------------------------------------------------------------
+    // The packet option
+    // -----------------------------------------------------------------------
+
+    /// Labels about as long as an option can hold, some of them the beginning of
+    /// another, and short and long ones.
+    fn make_option_pool(&mut self) {
+        self.pool.clear();
+        let size = self.random.pick(&[6, 10, 16, 30]);
+        while self.pool.len() < size {
+            let any = 1 + self.random.below(40);
+            let length = self.random.pick(&[
+                1, 1, 2, 3, 7, 8, 9, 16, 21, 22, 22, 23, 23, 23, 24, 24, 25, 254, 255, any, any,
+            ]);
+            let label = match self.random.below(6) {
+                0 | 1 if !self.pool.is_empty() => {
+                    let mut label = self.pool_label();
+                    label.truncate(length as usize);
+                    label
+                }
+                2 if !self.pool.is_empty() => {
+                    let label = self.pool_label();
+                    self.near_label(&label)
+                }
+                // Bytes with one bit, and with all that a label byte can have.
+                3 => (0..length).map(|_| self.random.pick(b"@@ABC~P`")).collect(),
+                _ => self.label_of_length(length),
+            };
+            self.pool.push(label);
+        }
+        if self.random.chance(50) {
+            for mark in ["_", "^", "*", "?", "@"] {
+                self.pool.push(mark.as_bytes().to_vec());
+            }
+        }
+    }
+
+    /// Few sets, so that several labels are mapped alike; some are a label's own
+    /// bits.
+    fn make_option_sets(&mut self) {
+        self.make_sets();
+        let kept = self.random.pick(&[1, 2, 3, 6]);
+        self.sets.truncate(kept);
+        for _ in 0..self.random.pick(&[0, 1, 2]) {
+            let mut label = self.pool_label();
+            label.truncate(plain::OWN_BITS_LIMIT);
+            self.sets.push(words_of(&own_bits(&label)));
+        }
+    }
+
+    /// A level near 250, or another.
+    fn option_level(&mut self) -> u8 {
+        self.random
+            .pick(&[9, 9, 9, 0, 122, 248, 249, 249, 250, 250, 251, 251, 255])
+    }
+
+    /// A mapping write of a pool label at such a level.
+    fn map_option_label(&mut self) {
+        let label = match self.random.below(12) {
+            0 => self.label(),
+            1 => self.stored_label(),
+            _ => self.pool_label(),
+        };
+        let level = match self.random.below(20) {
+            0 => self.digits(&["249", "250", "251", "025", "0250"]),
+            1 => b"250".to_vec(),
+            _ => self.option_level().to_string().into_bytes(),
+        };
+        let set = self.family_set();
+        let mut fields = vec![label, level];
+        fields.extend(self.written_categories(set));
+        let write = match self.random.chance(90) {
+            true => fields.join(&b' '),
+            false => self.write_of(fields, &MAPPING_LENGTHS),
+        };
+        self.emit(&format!("mapping {}", write_hex(&write)));
+    }
+
+    /// A label as it may stand in a lent store: of the pool, so that some are stored
+    /// twice, or ill-formed, or of length 0.
+    fn lent_label(&mut self) -> Vec<u8> {
+        let mut label = self.pool_label();
+        let at = self.random.below(label.len() as u64) as usize;
+        match self.random.below(16) {
+            0 => label.clear(),
+            1 => label[at] = self.bad_byte(),
+            2 => label[0] = b'-',
+            3 => label[at] = 0,
+            4 if label.len() < plain::LABEL_LIMIT => label.push(0),
+            _ => {}
+        }
+        label
+    }
+
+    /// A table that need not have been grown: labels of the pool, then mappings of
+    /// their numbers, some of these twice, at levels near 250 and at 250. Behind the
+    /// count lies what would count if it were larger.
+    fn lend_options(&mut self) {
+        let labels = self.random.pick(&[1, 5, 6, 8, 12, 20, 40, 63, 64]);
+        let from = if self.random.chance(80) { 5 } else { 0 };
+        for place in from..labels {
+            let label = self.lent_label();
+            let mut bytes = vec![label.len() as u8];
+            bytes.extend_from_slice(&label);
+            if self.random.chance(15) {
+                // What lies behind a label in its place.
+                let more = self.pool_label();
+                bytes.extend_from_slice(&more);
+                bytes.truncate(raw::PLACE);
+            }
+            let at = place as usize * raw::PLACE;
+            self.emit(&format!("poke labels {at} {}", write_hex(&bytes)));
+        }
+        self.emit(&format!("poke words {} {labels}", raw::LABEL_COUNT));
+        let count = self.random.pick(&[1, 2, 4, 8, 16, 31, 32]).min(labels + 3);
+        let places = (count + self.random.pick(&[0, 1, 4])).min(32);
+        let (mut numbers, mut levels) = (Vec::new(), Vec::new());
+        for place in 0..places as usize {
+            numbers.push(self.random.below(labels) as u8);
+            levels.push(match self.random.chance(20) {
+                true => plain::LABEL_LEVEL,
+                false => self.option_level(),
+            });
+            let set = self.family_set();
+            for (row, word) in raw::SETS.iter().zip(set) {
+                let index = row + place;
+                if self.machine.state.words.get(index) != Some(&word) {
+                    self.emit(&format!("poke words {index} {word}"));
+                }
+            }
+        }
+        let (at, value) = (raw::MAPPING_LABELS, write_hex(&numbers));
+        self.emit(&format!("poke entries {at} {value}"));
+        let (at, value) = (raw::LEVELS, write_hex(&levels));
+        self.emit(&format!("poke entries {at} {value}"));
+        self.emit(&format!("poke words {} {count}", raw::MAPPING_COUNT));
+    }
+
+    /// Options written and read, in a table that is fresh, grown, lent, full or
+    /// damaged.
+    fn options_episode(&mut self) {
+        self.emit("fresh");
+        self.emit("freshloader");
+        self.pending.clear();
+        self.make_option_pool();
+        self.make_option_sets();
+        self.new_percent = 5;
+        match self.random.below(12) {
+            0 => {}
+            1..=4 => {
+                for _ in 0..self.random.pick(&[2, 6, 12, 20]) {
+                    self.map_option_label();
+                }
+            }
+            5..=8 => self.lend_options(),
+            9 => {
+                let target = self.random.pick(&[40, 64]);
+                self.fill_labels_to(target);
+                let target = self.random.pick(&[31, 32]);
+                self.fill_mappings_to(target);
+            }
+            _ => {
+                self.lend_options();
+                if self.random.chance(15) {
+                    self.resize_part();
+                    for _ in 0..8 {
+                        self.option_call();
+                    }
+                    return;
+                }
+                for _ in 0..1 + self.random.below(4) {
+                    let undo = self.damage();
+                    for _ in 0..6 {
+                        self.option_call();
+                    }
+                    if self.random.chance(20) {
+                        self.every_call();
+                    }
+                    // Mostly this damage goes, before another comes.
+                    if self.random.chance(90) {
+                        for call in undo {
+                            self.emit(&call);
+                        }
+                    }
+                }
+            }
+        }
+        self.emit("dump");
+        for _ in 0..40 + self.random.below(60) {
+            self.option_call();
+        }
+        self.emit("dump");
+    }
+
+    fn option_call(&mut self) {
+        match self.random.below(40) {
+            0..=11 => self.write_option_call(),
+            12..=28 => self.read_option_call(),
+            29..=33 => self.map_option_label(),
+            34 => {
+                let label = self.mapped_label();
+                self.emit(&format!("bylabel {}", write_hex(&label)));
+            }
+            35 | 36 => self.by_level_call(),
+            37 => self.any_call(),
+            38 => self.label_call(),
+            _ => self.emit("dump"),
+        }
+        if self.random.chance(4) {
+            self.emit("dump");
+        }
+    }
+
+    /// The option of a label, or why there is none. `output` is mostly as long as
+    /// the option, or about as long. Often the option is then read.
+    fn write_option_call(&mut self) {
+        let label = match self.random.below(24) {
+            0..=6 => self.mapped_label(),
+            7..=12 => self.pool_label(),
+            13..=15 => self.stored_label(),
+            16 | 17 => self.label(),
+            18..=20 => {
+                let length = self.random.pick(&[1, 2, 22, 23, 24, 25, 40, 255]);
+                self.label_of_length(length)
+            }
+            21 => {
+                let length = self.random.pick(&[256, 257, 600, 601, 1001]);
+                self.label_of_length(length)
+            }
+            22 => self.faulty_label(),
+            _ => match self.random.below(4) {
+                0 => Vec::new(),
+                _ => self.bad_label(),
+            },
+        };
+        let mut space = [0; 40];
+        let written = match self.table() {
+            Some(table) => table.write_option(&label, &mut space).ok(),
+            None => None,
+        };
+        let exact = written.unwrap_or(12);
+        let length = match self.random.below(16) {
+            0 => 0,
+            1 | 2 => exact - 1,
+            3 => self.random.below(exact as u64) as usize,
+            4..=8 => exact,
+            9 | 10 => exact + 1,
+            11..=13 => 34,
+            14 => 40,
+            _ => self.random.pick(&[9, 10, 11, 33, 35, 255, 600]),
+        };
+        let output: Vec<u8> = (0..length).map(|_| self.random.byte()).collect();
+        self.emit(&format!(
+            "writeoption {} {}",
+            write_hex(&label),
+            write_hex(&output)
+        ));
+        if let Some(length) = written {
+            if self.random.chance(30) {
+                self.emit(&format!("readoption {}", write_hex(&space[..length])));
+            }
+        }
+    }
+
+    fn read_option_call(&mut self) {
+        let option = self.option();
+        self.emit(&format!("readoption {}", write_hex(&option)));
+    }
+
+    /// An option with no, one or two things about it changed, or bytes that are
+    /// none.
+    fn option(&mut self) -> Vec<u8> {
+        if self.random.chance(4) {
+            return self.random_bytes(60);
+        }
+        let mut option = self.good_option();
+        if self.random.chance(25) {
+            self.add_zeros(&mut option);
+        }
+        for _ in 0..self.random.pick(&[0, 0, 0, 0, 1, 1, 1, 1, 2, 2]) {
+            self.spoil_option(&mut option);
+        }
+        option
+    }
+
+    /// The option of a stored mapping, of a label's own bits, or of some level and
+    /// set.
+    fn good_option(&mut self) -> Vec<u8> {
+        if self.random.chance(50) {
+            if let Some(table) = self.table() {
+                if !table.mappings.is_empty() {
+                    let at = self.random.below(table.mappings.len() as u64) as usize;
+                    let mapping = &table.mappings[at];
+                    return option_bytes(mapping.level, &mapping.set);
+                }
+            }
+        }
+        if self.random.chance(70) {
+            let mut label = match self.random.below(8) {
+                0 | 1 => self.fixed_label(),
+                2 => self.bad_label(),
+                3 => self.stored_label(),
+                4 => self.random_bytes(23),
+                _ => self.pool_label(),
+            };
+            label.truncate(plain::OWN_BITS_LIMIT);
+            return option_bytes(plain::LABEL_LEVEL, &own_bits(&label));
+        }
+        let level = self.option_level();
+        let words = match self.sets.is_empty() || self.random.chance(30) {
+            true => self.few_categories(),
+            false => {
+                let set = self.family_set();
+                match self.random.chance(40) {
+                    true => self.near_set(set),
+                    false => set,
+                }
+            }
+        };
+        // Words that are moved may have a bit that is no category.
+        option_bytes(level, &set_of(&words).unwrap_or_default())
+    }
+
+    /// Zero bytes behind the bitmap, up to 30 bytes of it or over; the lengths are
+    /// right.
+    fn add_zeros(&mut self, option: &mut Vec<u8>) {
+        let bitmap = option.len().saturating_sub(plain::BEFORE_BITMAP);
+        let any = self.random.below(31) as usize;
+        let target = self.random.pick(&[
+            bitmap + 1,
+            bitmap + 1,
+            23,
+            24,
+            29,
+            30,
+            30,
+            30,
+            31,
+            31,
+            any,
+            any,
+            32,
+            40,
+            245,
+        ]);
+        let total = plain::BEFORE_BITMAP + target.max(bitmap);
+        option.resize(total, 0);
+        set_lengths(option);
+    }
+
+    /// One thing about an option changes; mostly that is a fault.
+    fn spoil_option(&mut self, option: &mut Vec<u8>) {
+        if option.len() < plain::BEFORE_BITMAP {
+            return;
+        }
+        let any = self.random.below(option.len() as u64) as usize;
+        match self.random.below(26) {
+            // One byte, anywhere or before the bitmap.
+            0 => option[any] = self.random.byte(),
+            1 => option[any] ^= 1 << self.random.below(8),
+            2 => option[self.random.below(10) as usize] = self.random.byte(),
+            // One bit of the bitmap: a category comes or goes.
+            3..=5 => {
+                let any = self.random.below(185);
+                let edge = self.random.pick(&EDGES);
+                let number = self.random.pick(&[any, edge]);
+                turn_bit(option, number);
+            }
+            // A bit that is no category.
+            6 => turn_bit(option, 0),
+            7..=9 => {
+                let any = 185 + self.random.below(55);
+                let number = self.random.pick(&[185, 191, 192, 239, any, any, any, any]);
+                turn_bit(option, number);
+            }
+            // Cut at its end, the lengths right or not.
+            10 => {
+                option.truncate(any);
+                if self.random.chance(50) {
+                    set_lengths(option);
+                }
+            }
+            // More bytes behind it, the lengths right or not.
+            11 => {
+                for _ in 0..self.random.pick(&[1, 1, 2, 3, 4]) {
+                    let byte = self.random.pick(&[0, 0, 1, 128, 255]);
+                    option.push(byte);
+                }
+                if self.random.chance(50) {
+                    set_lengths(option);
+                }
+            }
+            12..=14 => {
+                let other = self.random.pick(&[
+                    [3, 0, 0, 0],
+                    [0, 0, 0, 0],
+                    [0, 0, 0, 1],
+                    [0, 0, 0, 2],
+                    [0, 0, 0, 4],
+                    [0, 0, 3, 0],
+                    [0, 1, 0, 3],
+                    [1, 0, 0, 3],
+                    [0, 0, 1, 3],
+                    [255, 255, 255, 255],
+                ]);
+                option[2..plain::BEFORE_TAG].copy_from_slice(&other);
+            }
+            15 => option[6] = self.random.pick(&[0, 2, 3, 5, 6, 7, 129, 255]),
+            16 => option[8] = self.random.pick(&[1, 2, 128, 255]),
+            17 => {
+                let at = self.random.pick(&[1, 7]);
+                let wrong = [
+                    option[at].wrapping_add(1),
+                    option[at].wrapping_sub(1),
+                    0,
+                    255,
+                ];
+                option[at] = self.random.pick(&wrong);
+            }
+            // Both lengths are wrong alike.
+            18 => {
+                let by = self.random.pick(&[1, 2, 254, 255]);
+                option[1] = option[1].wrapping_add(by);
+                option[7] = option[7].wrapping_add(by);
+            }
+            // A second tag, which the total length holds.
+            19 => {
+                option.extend_from_slice(&[1, 4, 0, 9]);
+                option[1] = option.len() as u8;
+            }
+            20 | 21 => option[9] = self.option_level(),
+            // Another byte of a label, or a zero byte in it, at level 250.
+            _ => {
+                let set: Vec<u64> = (1..=plain::HIGHEST_CATEGORY)
+                    .filter(|n| {
+                        let at = plain::BEFORE_BITMAP + *n as usize / 8;
+                        option.get(at).is_some_and(|b| b & (0x80 >> (n % 8)) != 0)
+                    })
+                    .collect();
+                let length = set.last().map_or(1, |n| (n - 1) / 8 + 1);
+                let i = self.random.below(length);
+                let byte = match self.random.below(4) {
+                    0 | 1 => 0,
+                    2 => self.bad_byte(),
+                    _ => self.random.pick(b"-/ \"'\\\x7f\x80\xffA"),
+                };
+                option[9] = plain::LABEL_LEVEL;
+                for j in 0..8 {
+                    let n = 8 * i + j + 1;
+                    if set.contains(&n) != (byte & (0x80 >> j) != 0) {
+                        turn_bit(option, n);
+                    }
+                }
+            }
+        }
+    }
+}
+
+/// Both lengths, where there is room for them, say how many bytes there are.
+fn set_lengths(option: &mut [u8]) {
+    let total = option.len();
+    if total > 7 {
+        option[1] = total as u8;
+        option[7] = (total - plain::BEFORE_TAG) as u8;
+    }
+}
+
+/// Turns the bit of this number, in a bitmap that gets long enough for it.
+fn turn_bit(option: &mut Vec<u8>, number: u64) {
+    let at = plain::BEFORE_BITMAP + number as usize / 8;
+    if option.len() <= at {
+        option.resize(at + 1, 0);
+        set_lengths(option);
+    }
+    option[at] ^= 0x80 >> (number % 8);
 }

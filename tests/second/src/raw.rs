@@ -429,3 +429,13 @@ pub fn record_to_line(record: &[u8], output: &mut [u8]) -> Result<usize, Refusal
 pub fn line_to_record(line: &[u8], output: &mut [u8]) -> Result<usize, Refusal> {
     plain::line_to_record(line, output)
 }
+
+/// The option that a label is sent with. Refusals 0 3 19 12.
+pub fn write_option(state: &RawState, label: &[u8], output: &mut [u8]) -> Result<usize, Refusal> {
+    table_of(state)?.write_option(label, output)
+}
+
+/// The label that an option says, by value. Refusals 0 16 17 18 3 21.
+pub fn read_option(state: &RawState, option: &[u8]) -> Result<Vec<u8>, Refusal> {
+    table_of(state)?.read_option(option)
+}

@@ -26,6 +26,8 @@
 //! | `label K` | `done HEX` or `refused N -` |
 //! | `recordtoline HEX OUT` | `length N HEX` or `refused N HEX`: the whole output afterwards |
 //! | `linetorecord HEX OUT` | `length N HEX` or `refused N HEX`: the whole output afterwards |
+//! | `writeoption LABEL OUT` | `length N HEX` or `refused N HEX`: the whole output afterwards |
+//! | `readoption HEX` | `peer HEX` or `refused N` |
 //! | `poke labels OFFSET HEX` | `done`: the bytes from OFFSET on |
 //! | `poke entries OFFSET HEX` | `done` |
 //! | `poke words INDEX VALUE` | `done`: one word |
@@ -37,7 +39,8 @@
 //! SET is the three words of a set with `:` between.
 //!
 //! PLACE is where the first bad byte of the first bad label stands, from 0. The
-//! two calls for old records have none: their 3 is `refused 3 HEX`.
+//! two calls for old records and the two for the packet option have none: their 3
+//! is `refused 3 HEX`, and `refused 3` of `readoption`.
 //!
 //! In a dump H is the 64-bit FNV-1a hash of a part as 16 hex digits; a word
 //! counts as its eight bytes, lowest first. A count whose word has been cut off
@@ -190,6 +193,20 @@ impl Machine {
                 let mut output = read_hex(output)?;
                 let answer = raw::line_to_record(&line, &mut output);
                 Some(length_text(answer, &output))
+            }
+            ["writeoption", label, output] => {
+                let label = read_hex(label)?;
+                let mut output = read_hex(output)?;
+                let answer = raw::write_option(&self.state, &label, &mut output);
+                Some(length_text(answer, &output))
+            }
+            ["readoption", option] => {
+                let option = read_hex(option)?;
+                Some(match raw::read_option(&self.state, &option) {
+                    Ok(label) => format!("peer {}", write_hex(&label)),
+                    // No place is told beside a 3.
+                    Err(refusal) => format!("refused {}", refusal.number()),
+                })
             }
             ["poke", part, at, value] => self.poke(part, read_u64(at)?, value),
             ["resize", part, size] => self.resize(part, read_u64(size)?),

@@ -206,7 +206,6 @@ fn mappings_as_the_kernel_sent_them() {
         ),
         ("2", "5 5 5", "860b00000003010500020400"),
         ("6", "63 1", "861200000003010c000640000000000000010000"),
-        ("250", "2 8 10", "860c00000003010600fa20a0"),
         ("12", "1 2 3", "860b000000030105000c7000"),
         ("3", "79", "861400000003010e000300000000000000000001"),
         (
@@ -231,7 +230,33 @@ fn mappings_as_the_kernel_sent_them() {
         assert_eq!(table.mapping(write.as_bytes()), Ok(()), "{write}");
         let found = table.by_label(b"Map").unwrap().unwrap();
         assert_eq!((found.level, found.set), level_and_set(option), "{write}");
+        // The kernel's bytes, but for what fills the header up to four.
+        let bytes = second::script::read_hex(option).unwrap();
+        let (sent, filling) = bytes.split_at(usize::from(bytes[1]));
+        assert!(filling.len() < 4 && filling.iter().all(|&byte| byte == 0));
+        let mut output = [0; 40];
+        assert_eq!(table.write_option(b"Map", &mut output), Ok(sent.len()));
+        assert_eq!(&output[..sent.len()], sent, "{write}");
+        assert_eq!(table.read_option(sent).unwrap(), b"Map", "{write}");
+        if !filling.is_empty() {
+            assert_eq!(table.read_option(&bytes), Err(Refusal::BadOption));
+        }
     }
+    // A level that the kernel takes and the papers do not. It sent a label's bits.
+    let mut table = Table::fresh();
+    assert_eq!(
+        table.mapping(b"Map 250 2 8 10"),
+        Err(Refusal::BadLevelOrCategory)
+    );
+    let sent = second::script::read_hex("860c00000003010600fa20a0").unwrap();
+    assert_eq!(
+        (250, Categories::from([2, 8, 10])),
+        level_and_set("860c00000003010600fa20a0")
+    );
+    assert_eq!(table.read_option(&sent).unwrap(), b"A@");
+    let mut output = [0; 12];
+    assert_eq!(table.write_option(b"A@", &mut output), Ok(12));
+    assert_eq!(output, sent[..]);
     // A category that the kernel takes, and ignores, and the papers do not.
     for categories in ["0", "0 3"] {
         let mut table = Table::fresh();
@@ -344,7 +369,7 @@ fn whole_recording_of_mappings() {
         let known = categories
             .iter()
             .all(|c| (1..=184).contains(&c.parse::<u32>().unwrap()));
-        if !known {
+        if !known || level == "250" {
             assert_eq!(answer, Err(Refusal::BadLevelOrCategory));
         } else {
             assert_eq!(answer, Ok(()));
@@ -353,5 +378,5 @@ fn whole_recording_of_mappings() {
             seen += 1;
         }
     }
-    assert_eq!(seen, 18);
+    assert_eq!(seen, 17);
 }

@@ -36,6 +36,11 @@ fn assert_every_call_gets_0(state: &RawState) {
         assert_eq!(raw::override_write(&mut copy, text), Err(Refusal::Damaged));
         assert_eq!(raw::mapping(&mut copy, text), Err(Refusal::Damaged));
         assert_eq!(raw::by_label(&copy, text), Err(Refusal::Damaged));
+        assert_eq!(
+            raw::write_option(&copy, text, &mut []),
+            Err(Refusal::Damaged)
+        );
+        assert_eq!(raw::read_option(&copy, text), Err(Refusal::Damaged));
         for capability in [false, true] {
             assert_eq!(
                 raw::question(&copy, text, b"B", b"r", capability),
@@ -58,6 +63,12 @@ fn assert_every_call_gets_0(state: &RawState) {
     assert_eq!(raw::by_level(&copy, 9, &[2, 0, 0]), Err(Refusal::Damaged));
     assert_eq!(raw::by_level(&copy, 256, &[0, 0, 1]), Err(Refusal::Damaged));
     let mut buffer = [7; 40];
+    let option = [134, 12, 0, 0, 0, 3, 1, 6, 0, 250, 32, 128];
+    assert_eq!(
+        raw::write_option(&copy, b"A", &mut buffer),
+        Err(Refusal::Damaged)
+    );
+    assert_eq!(raw::read_option(&copy, &option), Err(Refusal::Damaged));
     for k in [0, 1, 999, u64::MAX] {
         assert_eq!(raw::list(&copy, k, &mut buffer), Err(Refusal::Damaged));
         assert_eq!(raw::list(&copy, k, &mut []), Err(Refusal::Damaged));

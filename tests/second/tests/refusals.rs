@@ -89,6 +89,16 @@ fn the_numbers() {
     for (number, refusal) in all.iter().enumerate() {
         assert_eq!(usize::from(refusal.number()), number);
     }
+    // 20 is no number of these calls.
+    for (refusal, number) in [
+        (Refusal::BadOption, 16),
+        (Refusal::OtherDoi, 17),
+        (Refusal::BadOptionCategory, 18),
+        (Refusal::UnmappedTooLong, 19),
+        (Refusal::NoMappingMatches, 21),
+    ] {
+        assert_eq!(refusal.number(), number);
+    }
 }
 
 // --- rule 1 2 3 4 5 6 7 ------------------------------------------------------
@@ -303,6 +313,7 @@ fn mapping() {
         assert_eq!(refused_mapping(&fresh, write.as_bytes()), 3, "{write:?}");
     }
     for write in [
+        "V 250",
         "V 256",
         "V 999",
         "V 0001",

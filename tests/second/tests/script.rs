@@ -100,7 +100,40 @@ fn every_form() {
         ("linetorecord =A -", "refused 2 -"),
         // ` A/ B r`: no place here
         ("linetorecord 20412f20422072 0708", "refused 3 0708"),
+        (
+            "writeoption =A 000000000000000000000000ff",
+            "length 12 860c00000003010600fa2080ff",
+        ),
+        (
+            "writeoption =Air 0000000000000000000000000000000000000708",
+            "length 18 861200000003010c000940000000000000010708",
+        ),
+        ("writeoption =A 0708", "refused 12 0708"),
+        ("writeoption =A -", "refused 12 -"),
+        // No place here either.
+        ("writeoption =A/ 0708", "refused 3 0708"),
+        ("writeoption - -", "refused 3 -"),
+        ("writeoption =LLLLLLLLLLLLLLLLLLLLLLLL 07", "refused 19 07"),
+        ("readoption 860c00000003010600fa2080", "peer 41"),
+        (
+            "readoption 861200000003010c00094000000000000001",
+            "peer 416972",
+        ),
+        ("readoption -", "refused 16"),
+        ("readoption 860a0000000401040009", "refused 17"),
+        ("readoption 860b000000030105000980", "refused 18"),
+        ("readoption 860a00000003010400fa", "refused 3"),
+        ("readoption 860a0000000301040009", "refused 21"),
+        ("mapping =Air", "refused 2"),
+        // `A 250`
+        ("mapping 4120323530", "refused 9"),
+        // The label's place gets the length 0.
+        ("poke labels 1536 00", "done"),
+        ("readoption 861200000003010c00094000000000000001", "peer -"),
+        ("poke labels 1536 03", "done"),
         ("poke words 0 65", "done"),
+        ("writeoption =A/ 0708", "refused 0 0708"),
+        ("readoption -", "refused 0"),
         // No table is lent to these two.
         (&to_line, &written_line),
         (&to_record, &written_record),
@@ -189,6 +222,13 @@ fn lines_that_are_no_calls() {
         "linetorecord 41",
         "linetorecord 4 42",
         "linetorecord 41 42 43",
+        "writeoption",
+        "writeoption 41",
+        "writeoption 41 4",
+        "writeoption 41 42 43",
+        "readoption",
+        "readoption 4",
+        "readoption 41 42",
     ] {
         assert_eq!(machine.execute(line).as_deref(), Some("bad line"), "{line}");
     }
@@ -288,6 +328,8 @@ fn random_calls_are_calls_and_refusals_leave_every_byte() {
                 "label",
                 "recordtoline",
                 "linetorecord",
+                "writeoption",
+                "readoption",
                 "dump",
             ];
             if reads.contains(&kind) {
@@ -300,7 +342,7 @@ fn random_calls_are_calls_and_refusals_leave_every_byte() {
 
 #[test]
 fn random_scripts_reach_every_refusal_of_every_call() {
-    let orders: [(&str, &[u8]); 14] = [
+    let orders: [(&str, &[u8]); 16] = [
         ("freshen", &[0]),
         ("piece", &[0]),
         ("end", &[0]),
@@ -315,6 +357,8 @@ fn random_scripts_reach_every_refusal_of_every_call() {
         ("list", &[0, 13, 12]),
         ("recordtoline", &[14, 3, 4, 5, 12]),
         ("linetorecord", &[1, 2, 3, 4, 5, 15, 12]),
+        ("writeoption", &[0, 3, 19, 12]),
+        ("readoption", &[0, 16, 17, 18, 3, 21]),
     ];
     let mut seen = std::collections::BTreeSet::new();
     let mut reasons = std::collections::BTreeSet::new();
@@ -614,6 +658,154 @@ fn random_categories_are_of_every_kind() {
             }
             assert!(count("bylevel", "refused 0") > 20);
         }
+    }
+}
+
+/// Of the calls about the packet option each answer comes often, and so do mapping
+/// writes at level 250. Labels and options of every length near a limit come, bits
+/// that are no categories, outputs of every kind of length, and labels that are
+/// stored twice, mapped alike, ill-formed or empty. Over a third of the calls are
+/// these two.
+#[test]
+fn random_options_are_of_every_kind() {
+    let mut answers = std::collections::BTreeMap::new();
+    let mut seen = std::collections::BTreeSet::new();
+    let (mut all, mut options, mut read_back) = (0, 0, 0);
+    for seed in 0..4 {
+        let mut machine = Machine::new();
+        let mut before = String::new();
+        for call in script_of(Kind::Options, seed, 10000) {
+            let answer = machine.execute(&call).unwrap();
+            assert_ne!(answer, "bad line", "{call}");
+            all += 1;
+            let words: Vec<&str> = call.split(' ').collect();
+            let said: Vec<&str> = answer.split(' ').collect();
+            let bytes = |word: &str| read_hex(word).unwrap();
+            let mut key = match said[0] {
+                "refused" => format!("{} refused {}", words[0], said[1]),
+                other => format!("{} {other}", words[0]),
+            };
+            match words[0] {
+                "writeoption" => {
+                    options += 1;
+                    let (label, output) = (bytes(words[1]).len(), bytes(words[2]).len());
+                    seen.insert(format!("label {label} {}", said[0]));
+                    if said[0] == "length" {
+                        let length: usize = said[1].parse().unwrap();
+                        seen.insert(format!("written {length}"));
+                        seen.insert(format!("output {}", output - length));
+                        let level = bytes(said[2])[9];
+                        key.push_str(if level == 250 { " 250" } else { " mapped" });
+                        let table = raw::table_of(&machine.state).unwrap();
+                        let found = table.by_label(&bytes(words[1])).unwrap();
+                        if level == 250 && found.is_some() {
+                            key.push_str(" stored");
+                        }
+                    } else if said[1] == "12" {
+                        let table = raw::table_of(&machine.state).unwrap();
+                        let exact = table.write_option(&bytes(words[1]), &mut [0; 40]);
+                        seen.insert(format!("lacks {}", exact.unwrap() - output));
+                        seen.insert(format!("short {output}"));
+                    }
+                }
+                "readoption" => {
+                    options += 1;
+                    let option = bytes(words[1]);
+                    seen.insert(format!("option {} {}", option.len(), said[0]));
+                    if said[0] == "peer" {
+                        let by_bits = option[9] == 250;
+                        key.push_str(if by_bits { " 250" } else { " mapped" });
+                        let label = bytes(said[1]);
+                        seen.insert(format!("peer {}", label.len()));
+                        if !second::plain::is_well_formed(&label) {
+                            key.push_str(" ill-formed");
+                        }
+                        let trailing = option.len() > 10 && option.last() == Some(&0);
+                        if trailing {
+                            seen.insert("trailing zeros".to_string());
+                        }
+                        let written = before.split(' ').nth(2).unwrap_or("");
+                        if before.starts_with("length ") && written.starts_with(words[1]) {
+                            read_back += 1;
+                        }
+                    }
+                    if said == ["refused", "18"] {
+                        for (at, byte) in option[10..].iter().enumerate() {
+                            for bit in (0..8).filter(|bit| byte & (0x80 >> bit) != 0) {
+                                seen.insert(format!("bit {}", 8 * at + bit));
+                            }
+                        }
+                    }
+                }
+                "mapping" => {
+                    let write = bytes(words[1]);
+                    let level = write.split(|byte| *byte == b' ').nth(1).unwrap_or(b"");
+                    seen.insert(format!("level {}", String::from_utf8_lossy(level)));
+                }
+                _ => {}
+            }
+            *answers.entry(key).or_insert(0) += 1;
+            before = answer;
+        }
+    }
+    assert!(options * 3 > all, "{options} {all}");
+    assert!(read_back > 500, "{read_back}");
+    let often = [
+        ("writeoption length 250", 500),
+        ("writeoption length 250 stored", 100),
+        ("writeoption length mapped", 500),
+        ("writeoption refused 0", 50),
+        ("writeoption refused 3", 300),
+        ("writeoption refused 12", 300),
+        ("writeoption refused 19", 300),
+        ("readoption peer 250", 500),
+        ("readoption peer mapped", 500),
+        ("readoption peer mapped ill-formed", 50),
+        ("readoption refused 0", 50),
+        ("readoption refused 3", 300),
+        ("readoption refused 16", 500),
+        ("readoption refused 17", 300),
+        ("readoption refused 18", 300),
+        ("readoption refused 21", 300),
+        ("mapping done", 300),
+        ("mapping refused 9", 100),
+    ];
+    for (key, least) in often {
+        let count = answers.get(key).copied().unwrap_or(0);
+        assert!(count > least, "{key} {count}");
+    }
+    for length in [1, 22, 23, 24, 255] {
+        assert!(seen.contains(&format!("label {length} length")), "{length}");
+        assert!(seen.contains(&format!("peer {length}")), "{length}");
+    }
+    for length in [24, 255, 256] {
+        assert!(
+            seen.contains(&format!("label {length} refused")),
+            "{length}"
+        );
+    }
+    assert!(seen.contains("peer 0"));
+    assert!(seen.contains("trailing zeros"));
+    for length in [10, 11, 12, 33, 34] {
+        assert!(seen.contains(&format!("written {length}")), "{length}");
+    }
+    for word in ["output 0", "output 1", "lacks 1", "short 0"] {
+        assert!(seen.contains(word), "{word}");
+    }
+    for length in 0..60 {
+        let refused = seen.contains(&format!("option {length} refused"));
+        assert!(refused, "{length}");
+        let read = seen.contains(&format!("option {length} peer"));
+        assert!(!read || (10..=40).contains(&length), "{length}");
+    }
+    for length in [10, 11, 12, 33, 34, 39, 40] {
+        assert!(seen.contains(&format!("option {length} peer")), "{length}");
+    }
+    for bit in (185..240).chain([0]) {
+        assert!(seen.contains(&format!("bit {bit}")), "{bit}");
+    }
+    for level in ["249", "250", "251"] {
+        assert!(seen.contains(&format!("level {level}")), "{level}");
     }
 }
 

@@ -7,8 +7,9 @@ use Rattle.alphabet.specs.Within.{part}
 use Rattle.numbers.specs.Numbers.{numberOf}
 use Rattle.numbers.specs.declared.Number.the-variants.{Value}
 use borrow.Author.Needs.{needs}
+use borrow.Author.Tests.{not-true, not-false}
 use Rattle.cipso.specs.Cipso.{refused}
-use Rattle.cipso.proofs.Laws.{One, Two, in-one, in-two, said-long, said-none, said-one, said-unformed, said-unread, said-high, said-set, label-fits}
+use Rattle.cipso.proofs.Laws.{One, Two, in-one, in-two, said-long, said-none, said-one, said-unformed, said-unread, said-no-level, said-set, level-small, label-fits}
 use Rattle.cipso.proofs.read_line.Statement.{statement}
 use Rattle.cipso.proofs.read_line.Tie as tie
 
@@ -98,8 +99,11 @@ enum-told-5 c = search needs
 returns-5 : tie.Need-returns-5
 returns-5 c = (sym (said-unread (two (c .before .before .before .before .before .before .before .before .before)) (formed (c .before .before .before .before)) (sym (c .before .before .read-number .ensures) ∙ c .enum-told5 .given .1)), tt)
 
+is-mapping-level-requires : tie.Need-is-mapping-level-requires
+is-mapping-level-requires c = search needs
+
 returns-6 : tie.Need-returns-6
-returns-6 c = (sym (said-high (two (c .before .before .before .before .before .before .before .before .before .before .before)) (formed (c .before .before .before .before .before .before)) (value (c .before .before)) (c .if2 .taken)), tt)
+returns-6 c = (sym (said-no-level (two (c .before .before .before .before .before .before .before .before .before .before .before .before)) (formed (c .before .before .before .before .before .before .before)) (value (c .before .before .before)) (sym (c .before .is-mapping-level .ensures) ∙ not-true _ (c .if2 .taken))), tt)
 
 read-categories-requires : tie.Need-read-categories-requires
 read-categories-requires c κs = search needs
@@ -111,15 +115,15 @@ enum-told-6 : tie.Need-enum-told-6
 enum-told-6 c = search needs
 
 returns-7 : tie.Need-returns-7
-returns-7 c = (sym (said-set (two (c .before .before .before .before .before .before .before .before .before .before .before .before .before .before)) (formed (c .before .before .before .before .before .before .before .before .before)) (value (c .before .before .before .before .before)) (c .before .before .before .if2 .left) (sym (c .before .before .read-categories .ensures) ∙ c .enum-told6 .given .1)), tt)
+returns-7 c = (sym (said-set (two (c .before .before .before .before .before .before .before .before .before .before .before .before .before .before .before)) (formed (c .before .before .before .before .before .before .before .before .before .before)) (value (c .before .before .before .before .before .before)) (sym (c .before .before .before .before .is-mapping-level .ensures) ∙ not-false _ (c .before .before .before .if2 .left)) (sym (c .before .before .read-categories .ensures) ∙ c .enum-told6 .given .1)), tt)
 
-cast-t28 : tie.Need-cast-t28
-cast-t28 c = search needs
+cast-t29 : tie.Need-cast-t29
+cast-t29 c = omega (arith, level-small (c .before .before .before .before .before .before .before .level .given .0 .0) (sym (c .before .before .before .before .before .is-mapping-level .ensures) ∙ not-false _ (c .before .before .before .before .if2 .left)))
 
 returns-8 : tie.Need-returns-8
 returns-8 c =
-    let f = in-one (one (c .before .before .before .before .before .before .before .before .before .before .before .before .before .before .before .before .before .before .before)) in
-    (sym (said-set (two (c .before .before .before .before .before .before .before .before .before .before .before .before .before .before .before)) (formed (c .before .before .before .before .before .before .before .before .before .before)) (value (c .before .before .before .before .before .before)) (c .before .before .before .before .if2 .left) (sym (c .before .before .before .read-categories .ensures) ∙ c .before .set .given .1)), (f .starts, f .ends, label-fits (two (c .before .before .before .before .before .before .before .before .before .before .before .before .before .before .before)) (formed (c .before .before .before .before .before .before .before .before .before .before))))
+    let f = in-one (one (c .before .before .before .before .before .before .before .before .before .before .before .before .before .before .before .before .before .before .before .before)) in
+    (sym (said-set (two (c .before .before .before .before .before .before .before .before .before .before .before .before .before .before .before .before)) (formed (c .before .before .before .before .before .before .before .before .before .before .before)) (value (c .before .before .before .before .before .before .before)) (sym (c .before .before .before .before .before .is-mapping-level .ensures) ∙ not-false _ (c .before .before .before .before .if2 .left)) (sym (c .before .before .before .read-categories .ensures) ∙ c .before .set .given .1)), (f .starts, f .ends, label-fits (two (c .before .before .before .before .before .before .before .before .before .before .before .before .before .before .before .before)) (formed (c .before .before .before .before .before .before .before .before .before .before .before))))
 
 pub read-line-spec : {M : Type 1} → statement M
 read-line-spec =
@@ -149,10 +153,11 @@ read-line-spec =
     enum-known-level
     enum-told-5
     returns-5
+    is-mapping-level-requires
     returns-6
     read-categories-requires
     enum-known-set
     enum-told-6
     returns-7
-    cast-t28
+    cast-t29
     returns-8)

@@ -22,6 +22,8 @@ returns c =
       listing = record { free = λ κs a. tt; says = λ κs a r l learnt. (learnt .0, learnt .1, refl, refl, refl) };
       record-to-line = record { free = λ κs a. tt; says = λ κs a r l learnt. (learnt .0, learnt .1, refl) };
       line-to-record = record { free = λ κs a. tt; says = λ κs a r l learnt. (learnt .0, learnt .1, refl) };
+      write-option = record { free = λ κs a. tt; says = λ κs a r l learnt. (learnt .0, learnt .1, refl, refl, refl, refl) };
+      read-option = record { free = λ κs a. tt; says = λ κs a r l learnt. (learnt, refl) };
       label-check = record { free = λ κs a. tt; says = λ κs a r l learnt. (learnt, refl) };
       label-by-number = record { free = λ κs a. tt; says = λ κs a r l learnt. (learnt .0, learnt .1, refl) };
       label-part = record { free = λ κs a. tt; says = λ κs a r l learnt. (learnt .0, learnt .1, refl) };
