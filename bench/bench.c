@@ -1,4 +1,5 @@
-/* Times the library, through its static library, beside a second implementation and three forms of a kernel's lookup, in one run: see run and docs/BENCHMARKS.md.
+/* Times the library, through its static library, beside a second implementation and three forms of a kernel's lookup, and its packet options beside plain C
+ * without tables, in one run: see run and docs/BENCHMARKS.md.
  *
  *   bench ROUNDS MEGABYTES DIRECTORY [PROGRAM SECOND]     all operations; DIRECTORY takes the rule text for the two programs
  *   bench count     all operations of the library, and of the one before, a few times, for callgrind: each is dumped under its name
@@ -27,7 +28,8 @@
 /* ---- the library before a change, where it is linked in: the same calls with another name */
 
 /* The major version of its interface, where that is another than the header's. Under version 1 no answer had a place, and the loader was flat. Under
- * versions 1 and 2 a set was one word, with the categories 1 to 63, and the part of words had 36. */
+ * versions 1 and 2 a set was one word, with the categories 1 to 63, and the part of words had 36. Version 3 has the structs and sizes of version 4. None
+ * of these has the calls of the packet option. */
 #ifndef BEFORE_MAJOR
 #define BEFORE_MAJOR BQ_VERSION_MAJOR
 #endif
@@ -61,7 +63,7 @@ typedef struct {
     uint8_t number;
     bool bringup;
 } before_bq_decision;
-#elif BEFORE_MAJOR == 2 || BEFORE_MAJOR == BQ_VERSION_MAJOR
+#elif BEFORE_MAJOR == 2 || BEFORE_MAJOR == 3 || BEFORE_MAJOR == BQ_VERSION_MAJOR
 typedef bq_written before_bq_written;
 typedef bq_loader before_bq_loader;
 typedef bq_taken before_bq_taken;
@@ -110,6 +112,8 @@ OLDER before_bq_mapped before_bq_by_label(TO_READ, const uint8_t *, size_t);
 OLDER bq_lowest before_bq_by_level(TO_READ, uint64_t, before_bq_set);
 OLDER bq_lowest before_bq_lowest_in_run(const before_bq_record *, size_t, uint64_t, before_bq_set);
 OLDER bq_lowest before_bq_lowest_of(const uint64_t *, size_t, const uint64_t *, size_t, const uint64_t *, size_t, uint64_t, before_bq_set);
+OLDER __typeof__(bq_write_option) before_bq_write_option;
+OLDER __typeof__(bq_read_option) before_bq_read_option;
 
 /* ---- the second implementation */
 
@@ -130,9 +134,10 @@ size_t second_list(const struct second *s, uint64_t k, uint8_t *out, size_t leng
 
 /* ---- common */
 
-enum { LIBRARY, BEFORE, KERNEL, KERNEL_TEXT, KERNEL_BYTES, SECOND, SIDES };
-static const char *const SIDE[SIDES] = {"library", "library before", "kernel", "kernel, rules by text", "kernel, byte compare", "second"};
-static const char *const RATIO[SIDES] = {"", "before", "kernel", "by text", "byte compare", "second"};
+/* PLAIN is for the packet option alone, and has no tables. */
+enum { LIBRARY, BEFORE, KERNEL, KERNEL_TEXT, KERNEL_BYTES, SECOND, PLAIN, SIDES };
+static const char *const SIDE[SIDES] = {"library", "library before", "kernel", "kernel, rules by text", "kernel, byte compare", "second", "plain C"};
+static const char *const RATIO[SIDES] = {"", "before", "kernel", "by text", "byte compare", "second", "plain C"};
 
 static bool is_there(int side)
 {
@@ -511,7 +516,7 @@ static void check_questions(void)
         for (int kind = 0; kind < KINDS; kind++)
             for (int by = 0; by < ASKED; by++)
                 for (int i = 0; i < QUESTIONS && is_asked(l, kind, by); i++)
-                    for (int side = 0; side < SIDES; side++) {
+                    for (int side = 0; side < PLAIN; side++) {
                         struct question *q = &asked[l][kind][by][i];
                         if (!is_there(side))
                             continue;
@@ -832,6 +837,7 @@ static void make_runs(void)
 static void make_mappings(void)
 {
     int number[59];
+    seed = 1; /* the texts were made before: whatever their size, the mappings are the same, when they are timed and when they are counted */
     for (int i = 0; i < 59; i++)
         number[i] = 5 + i;
     for (int i = 58; i > 0; i--) {
@@ -987,9 +993,225 @@ static void check_mappings(void)
                     }
 }
 
+/* ---- the packet option */
+
+/* The same in plain C, category by category. What the library looks up is handed in: the label's mapping, or none, and to the reader the one label that an
+ * option by mapping can say. So it tests no state for damage and seeks nothing; the label, the layout and the bits are judged as the library does. */
+static bool plain_is_label(const uint8_t *l, size_t n)
+{
+    if (n == 0 || n > BQ_LONGEST_LABEL || l[0] == '-')
+        return false;
+    for (size_t i = 0; i < n; i++)
+        if (l[i] < 33 || l[i] > 126 || l[i] == '/' || l[i] == '\\' || l[i] == '\'' || l[i] == '"')
+            return false;
+    return true;
+}
+
+static __attribute__((noinline)) bq_length plain_write(const uint8_t *l, size_t n, const struct mapping *m, uint8_t *out, size_t room)
+{
+    uint8_t bitmap[BQ_HIGHEST_CATEGORY / 8 + 1] = {0};
+    size_t bytes = sizeof bitmap;
+    if (!plain_is_label(l, n))
+        return (bq_length){true, BQ_BAD_LABEL, 0};
+    if (!m && n > BQ_LONGEST_OWN_LABEL)
+        return (bq_length){true, BQ_NOT_IN_AN_OPTION, 0};
+    for (size_t c = 1; c <= (m ? BQ_HIGHEST_CATEGORY : 8 * n); c++)
+        if (m ? (m->set.word[BQ_CATEGORY_WORD(c)] & BQ_CATEGORY_BIT(c)) != 0 : (l[(c - 1) / 8] & 0x80 >> (c - 1) % 8) != 0)
+            bitmap[c / 8] |= (uint8_t)(0x80 >> c % 8);
+    while (bytes > 0 && bitmap[bytes - 1] == 0)
+        bytes--;
+    if (room < 10 + bytes)
+        return (bq_length){true, BQ_OUTPUT_TOO_SHORT, 0};
+    const uint8_t head[10] = {134, (uint8_t)(10 + bytes), 0, 0, 0, 3, 1, (uint8_t)(4 + bytes), 0, m ? (uint8_t)m->level : BQ_OWN_LEVEL};
+    memcpy(out, head, sizeof head);
+    memcpy(out + sizeof head, bitmap, bytes);
+    return (bq_length){false, 0, 10 + bytes};
+}
+
+static __attribute__((noinline)) bq_peer plain_read(const uint8_t *option, size_t n, const struct mapping *m, const uint8_t *l, size_t l_len)
+{
+    bq_peer peer = {0};
+    bq_set set = {{0, 0, 0}};
+    peer.refused = true;
+    peer.number = BQ_BAD_OPTION;
+    if (n < 10 || n > BQ_LONGEST_OPTION_READ || option[0] != 134 || option[1] != n || option[6] != 1 || option[7] != n - 6 || option[8] != 0)
+        return peer;
+    peer.number = BQ_OTHER_DOI;
+    if (option[2] != 0 || option[3] != 0 || option[4] != 0 || option[5] != 3)
+        return peer;
+    peer.number = BQ_BAD_OPTION_CATEGORY;
+    for (size_t c = 0; c < 8 * (n - 10); c++)
+        if (option[10 + c / 8] & 0x80 >> c % 8) {
+            if (c == 0 || c > BQ_HIGHEST_CATEGORY)
+                return peer;
+            set.word[BQ_CATEGORY_WORD(c)] |= BQ_CATEGORY_BIT(c);
+        }
+    if (option[9] != BQ_OWN_LEVEL) {
+        peer.number = BQ_NO_SUCH_MAPPING;
+        if (!m || m->level != option[9] || memcmp(&m->set, &set, sizeof set) != 0)
+            return peer;
+        memcpy(peer.bytes, l, l_len);
+        peer.length = l_len;
+    } else {
+        peer.number = BQ_BAD_LABEL;
+        for (size_t c = 1; c <= BQ_HIGHEST_CATEGORY; c++)
+            if (set.word[BQ_CATEGORY_WORD(c)] & BQ_CATEGORY_BIT(c))
+                peer.bytes[(c - 1) / 8] |= (uint8_t)(0x80 >> (c - 1) % 8);
+        size_t length = BQ_LONGEST_OWN_LABEL;
+        while (length > 0 && peer.bytes[length - 1] == 0)
+            length--;
+        if (!plain_is_label(peer.bytes, length)) {
+            memset(peer.bytes, 0, sizeof peer.bytes);
+            return peer;
+        }
+        peer.length = length;
+    }
+    peer.refused = false;
+    peer.number = 0;
+    return peer;
+}
+
+/* In the tables with 32 mappings of all 184 categories. WRITE_OWN: a label of nine bytes that is in the table and has no mapping. WRITE_MAPPED: any of the
+ * 32. READ_OWN: what WRITE_OWN writes. READ_MAPPED: what is written for the mapped label with the highest number, which is found last. READ_PADDED: the same
+ * with two zero bytes behind it, as it stands in a packet, which is another layout. */
+enum { WRITE_OWN, WRITE_MAPPED, READ_OWN, READ_MAPPED, READ_PADDED, OPTION_CALLS };
+static const char *const OPTION_CALL[OPTION_CALLS] = {"write option, 9 bytes without a mapping", "write option, 32 mappings, categories 1 to 184",
+                                                      "read option, level 250, 9 bytes", "read option, found last of 32 mappings, categories 1 to 184",
+                                                      "read option, padding left on: refused 16"};
+static struct packet {
+    const uint8_t *label;
+    size_t label_len, option_len;
+    const struct mapping *mapping; /* NULL for a label that has none */
+    uint8_t option[BQ_LONGEST_OPTION + 2];
+} packet[OPTION_CALLS][SIZES][MAPPINGS];
+
+static bool is_written(int call)
+{
+    return call == WRITE_OWN || call == WRITE_MAPPED;
+}
+
+/* Which rows there are: no long label has nine bytes, and of a refused layout the label is not asked for. */
+static bool is_packed(int call, int kind)
+{
+    return kind == SHORT || call == WRITE_MAPPED || call == READ_MAPPED;
+}
+
+static void make_packets(void)
+{
+    int own[MAPPINGS], owns = 0, last = 0;
+    for (int k = 0; k < MAPPINGS; k++) {
+        if (label_len[SHORT][unmapped_label[k]] == 9)
+            own[owns++] = unmapped_label[k];
+        if (mapped_label[k] > mapped_label[last])
+            last = k;
+    }
+    if (owns == 0)
+        fail("no label of nine bytes is without a mapping");
+    for (int call = 0; call < OPTION_CALLS; call++)
+        for (int kind = 0; kind < SIZES; kind++)
+            for (int k = 0; k < MAPPINGS && is_packed(call, kind); k++) {
+                struct packet *p = &packet[call][kind][k];
+                bool is_own = call == WRITE_OWN || call == READ_OWN;
+                int which = call == WRITE_MAPPED ? k : last, l = is_own ? own[k % owns] : mapped_label[which];
+                p->label = (const uint8_t *)label[kind][l];
+                p->label_len = label_len[kind][l];
+                p->mapping = is_own ? NULL : &mapping[ALL_WIDE][which];
+                p->option_len = plain_write(p->label, p->label_len, p->mapping, p->option, BQ_LONGEST_OPTION).length;
+                if (call == READ_PADDED)
+                    p->option_len += 2;
+            }
+}
+
+/* What a call comes to: the length and the last byte of an option or a label, or a refusal. */
+static unsigned last_of(size_t n, const uint8_t *bytes)
+{
+    return (unsigned)n * 256 + bytes[n - 1];
+}
+
+static unsigned refused_with(uint8_t number)
+{
+    return NOTHING + number;
+}
+
+static unsigned option_expected(int call, int kind, int i)
+{
+    const struct packet *p = &packet[call][kind][map_asked[i]];
+    return call == READ_PADDED ? refused_with(BQ_BAD_OPTION) : is_written(call) ? last_of(p->option_len, p->option) : last_of(p->label_len, p->label);
+}
+
+/* One call for a packet: what was written, in `out`, or what was read. */
+static bq_length write_packet(int side, struct lent *t, const struct packet *p, uint8_t *out, size_t room)
+{
+    return side == LIBRARY  ? bq_write_option(TABLES(bq_, t), p->label, p->label_len, out, room)
+           : side == BEFORE ? before_bq_write_option(TABLES(before_bq_, t), p->label, p->label_len, out, room)
+                            : plain_write(p->label, p->label_len, p->mapping, out, room);
+}
+
+static bq_peer read_packet(int side, struct lent *t, const struct packet *p)
+{
+    return side == LIBRARY  ? bq_read_option(TABLES(bq_, t), p->option, p->option_len)
+           : side == BEFORE ? before_bq_read_option(TABLES(before_bq_, t), p->option, p->option_len)
+                            : plain_read(p->option, p->option_len, p->mapping, p->label, p->label_len);
+}
+
+static unsigned do_options(int side, int call, int kind)
+{
+    struct lent *t = &lent_mapped[ALL_WIDE][kind];
+    uint8_t out[BQ_LONGEST_OPTION];
+    unsigned sum = 0;
+    for (int i = 0; i < QUESTIONS; i++) {
+        const struct packet *p = &packet[call][kind][map_asked[i]];
+        if (is_written(call)) {
+            bq_length w = write_packet(side, t, p, out, sizeof out);
+            sum += w.refused ? refused_with(w.number) : last_of(w.length, out);
+        } else {
+            bq_peer peer = read_packet(side, t, p);
+            sum += peer.refused ? refused_with(peer.number) : last_of(peer.length, peer.bytes);
+        }
+    }
+    return sum;
+}
+
+static bool packs(int side)
+{
+    return side == LIBRARY || side == PLAIN || (side == BEFORE && before_bq_write_option && before_bq_read_option);
+}
+
+/* Every side writes the same bytes and reads the same label, or refuses alike. */
+static void check_options(void)
+{
+    for (int call = 0; call < OPTION_CALLS; call++)
+        for (int kind = 0; kind < SIZES; kind++)
+            for (int k = 0; k < MAPPINGS && is_packed(call, kind); k++)
+                for (int side = 0; side < SIDES; side++) {
+                    struct lent *t = &lent_mapped[ALL_WIDE][kind];
+                    const struct packet *p = &packet[call][kind][k];
+                    bool same;
+                    if (!packs(side))
+                        continue;
+                    if (is_written(call)) {
+                        uint8_t out[BQ_LONGEST_OPTION];
+                        bq_length w = write_packet(side, t, p, out, sizeof out);
+                        same = !w.refused && w.length == p->option_len && memcmp(out, p->option, w.length) == 0;
+                    } else {
+                        bq_peer peer = read_packet(side, t, p), want = {0};
+                        want.refused = call == READ_PADDED;
+                        want.number = call == READ_PADDED ? BQ_BAD_OPTION : 0;
+                        want.length = call == READ_PADDED ? 0 : p->label_len;
+                        memcpy(want.bytes, p->label, want.length);
+                        same = peer.refused == want.refused && peer.number == want.number && peer.length == want.length &&
+                               memcmp(peer.bytes, want.bytes, sizeof want.bytes) == 0;
+                    }
+                    if (!same) {
+                        fprintf(stderr, "bench: %s does not agree: %s; %s\n", SIDE[side], OPTION_CALL[call], KIND[kind].name);
+                        exit(1);
+                    }
+                }
+}
+
 /* ---- the operations and their table */
 
-enum { ASK, FEED, CHANGE, LIST, MAP };
+enum { ASK, FEED, CHANGE, LIST, MAP, OPTION };
 struct operation {
     int what, a, kind, by;
     char name[120];
@@ -1018,6 +1240,10 @@ static unsigned expected(const struct operation *o)
         for (int i = 0; i < map_calls(o->by); i++)
             sum += map_expected(o->by, o->a, i);
         return sum;
+    case OPTION:
+        for (int i = 0; i < QUESTIONS; i++)
+            sum += option_expected(o->by, o->kind, i);
+        return sum;
     default:
         return (unsigned)do_listing(SECOND, o->kind);
     }
@@ -1042,6 +1268,9 @@ static void run_once(const struct operation *o, int side, unsigned want)
     case MAP:
         got = do_mappings(side, o->by, o->a, o->kind, 0, map_calls(o->by));
         break;
+    case OPTION:
+        got = do_options(side, o->by, o->kind);
+        break;
     }
     if (got != want) {
         fprintf(stderr, "bench: %s: %s comes to %u, not %u\n", o->name, SIDE[side], got, want);
@@ -1065,7 +1294,7 @@ static void add(int what, int a, int kind, int by, double scale, const char *nam
 static void add_all(void)
 {
     static const char *const texts[TEXTS] = {"rule text, known pairs", "rule text, fresh tables", "rule text, refused lines", "rule text, blank lines"};
-    const unsigned all = (1u << SIDES) - 1, alone = 1u << LIBRARY | 1u << BEFORE, two = alone | 1u << SECOND, three = two | 1u << KERNEL;
+    const unsigned all = (1u << PLAIN) - 1, alone = 1u << LIBRARY | 1u << BEFORE, two = alone | 1u << SECOND, three = two | 1u << KERNEL;
     char name[120];
     for (int l = 0; l < LAYOUTS; l++)
         for (int kind = 0; kind < SIZES; kind++)
@@ -1100,6 +1329,13 @@ static void add_all(void)
                     snprintf(name, sizeof name, "%s; %s; %s", MAP_CALL[call], SET[sets], KIND[kind].name);
                 add(MAP, sets, kind, call, map_calls(call), name, maps(BEFORE, sets) ? alone : 1u << LIBRARY);
             }
+    for (int call = 0; call < OPTION_CALLS; call++)
+        for (int kind = 0; kind < SIZES; kind++) {
+            if (!is_packed(call, kind))
+                continue;
+            snprintf(name, sizeof name, is_packed(call, LONG) ? "%s; %s" : "%s", OPTION_CALL[call], KIND[kind].name);
+            add(OPTION, 0, kind, call, QUESTIONS, name, 1u << LIBRARY | 1u << PLAIN | (packs(BEFORE) ? 1u << BEFORE : 0));
+        }
     for (int t = 0; t < TEXTS; t++)
         for (int kind = 0; kind < (t == BLANK ? 1 : SIZES); kind++) {
             double bytes = (double)text_len[t][kind];
@@ -1134,41 +1370,56 @@ static int by_size(const void *a, const void *b)
     return x < y ? -1 : x > y;
 }
 
+/* The tables, and which rows and columns each has. */
+enum { CALLS_PART, OPTION_PART, TEXT_PART, PARTS };
+static const char *const PART[PARTS] = {"ns per call: best (median)", "The packet option, ns per call: best (median)",
+                                        "MB per second (10^6 bytes): best (median)"};
+
+static int part_of(const struct operation *o)
+{
+    return o->what == FEED ? TEXT_PART : o->what == OPTION ? OPTION_PART : CALLS_PART;
+}
+
+static bool has_column(int part, int side)
+{
+    return part == OPTION_PART ? packs(side) : side != PLAIN && is_there(side);
+}
+
 static void print_all(int rounds)
 {
-    for (int text_part = 0; text_part < 2; text_part++) {
-        printf("\n%s\n\n", text_part ? "MB per second (10^6 bytes): best (median)" : "ns per call: best (median)");
+    for (int part = 0; part < PARTS; part++) {
+        printf("\n%s\n\n", PART[part]);
         printf("| operation |");
         for (int side = 0; side < SIDES; side++)
-            if (is_there(side))
+            if (has_column(part, side))
                 printf(" %s |", SIDE[side]);
         const char *word = "library ";
         for (int side = 1; side < SIDES; side++)
-            if (is_there(side)) {
+            if (has_column(part, side)) {
                 printf(" %s/ %s |", word, RATIO[side]);
                 word = "";
             }
         printf("\n|---|");
         for (int side = 0; side < SIDES; side++)
-            if (is_there(side))
+            if (has_column(part, side))
                 printf(side ? "--:|--:|" : "--:|");
         printf("\n");
         for (int i = 0; i < n_ops; i++) {
             struct operation *o = &ops[i];
-            if ((o->what == FEED) != text_part)
+            if (part_of(o) != part)
                 continue;
             double best[SIDES] = {0};
             printf("| %s |", o->name);
             for (int side = 0; side < SIDES; side++) {
                 if (!o->runs_on[side]) {
-                    if (is_there(side))
+                    if (has_column(part, side))
                         printf(" |");
                     continue;
                 }
                 qsort(o->time[side], (size_t)rounds, sizeof(double), by_size);
                 double median = o->time[side][rounds / 2];
                 best[side] = o->time[side][0];
-                if (text_part)
+                if (part == TEXT_PART)
                     printf(" %.0f (%.0f) |", 1e3 / best[side], 1e3 / median);
                 else
                     printf(" %.1f (%.1f) |", best[side], median);
@@ -1176,7 +1427,7 @@ static void print_all(int rounds)
             for (int side = 1; side < SIDES; side++)
                 if (o->runs_on[side])
                     printf(" %.2f |", best[LIBRARY] / best[side]);
-                else if (is_there(side))
+                else if (has_column(part, side))
                     printf(" |");
             printf("\n");
         }
@@ -1317,12 +1568,14 @@ int main(int argc, char **argv)
         for (int kind = 0; kind < (which == BLANK ? 1 : SIZES); kind++)
             make_text(which, kind, which == FRESH ? 1 << 20 : total);
     make_mappings();
+    make_packets();
     if (profiling) {
         profile(argv[2], atoi(argv[3]), argc > 4 ? atoi(argv[4]) : 0);
         return 0;
     }
     check_questions();
     check_mappings();
+    check_options();
     add_all();
     if (counting) {
         count_instructions();

@@ -1,5 +1,5 @@
-/* A host of the library in C: it loads a rule file in pieces, asks, changes, revokes, maps and lists, says where a bad label goes wrong, and
- * turns a file of old records into rules and back.
+/* A host of the library in C: it loads a rule file in pieces, asks, changes, revokes, maps and lists, says where a bad label goes wrong, turns a
+ * file of old records into rules and back, and labels packets that another side reads. (examples/packet.c sends one.)
  *
  *   gcc -O2 -Iinclude examples/host.c target/staticlib/libhost.a -o host && ./host examples/store_north.rules examples/old_logger.records
  *
@@ -30,7 +30,8 @@ static void print_number(uint8_t number)
 {
     printf("refused %d", number);
     if (number == BQ_BAD_LEVEL_OR_CATEGORY)
-        printf(": a level is not 0 to 255, a category not 1 to %d, or a bit of the set is no category", BQ_HIGHEST_CATEGORY);
+        printf(": a level is not 0 to 255 or is %d in a write, a category not 1 to %d, or a bit of the set is no category", BQ_OWN_LEVEL,
+               BQ_HIGHEST_CATEGORY);
 }
 
 /* A refusal, and beside 3 the place, which no other number has. `of` is what the place is counted in. */
@@ -67,10 +68,12 @@ static bool done(const char *call, bq_written w)
     return !w.refused;
 }
 
-/* What a line of rule text, or one of the two calls of old records, is refused for, in words. */
+/* What a line of rule text, or one of the calls of old records and of the packet option, is refused for, in words. */
 static const char *in_words(uint8_t number)
 {
     switch (number) {
+    case BQ_DAMAGED:
+        return "the lent state is damaged";
     case BQ_TOO_LONG:
         return "it has over 600 bytes";
     case BQ_WRONG_FIELDS:
@@ -91,6 +94,16 @@ static const char *in_words(uint8_t number)
         return "it does not have 53 bytes, or a label place is all spaces, has another byte after a space or does not end in a space";
     case BQ_NOT_IN_A_RECORD:
         return "a label has over 23 bytes, or there is a b; no old record holds that, and a label is never cut";
+    case BQ_BAD_OPTION:
+        return "it is not the one option with one tag of type 1, or not whole, or has bytes behind it";
+    case BQ_OTHER_DOI:
+        return "it has another DOI than 3";
+    case BQ_BAD_OPTION_CATEGORY:
+        return "it has category 0 or one above 184";
+    case BQ_NOT_IN_AN_OPTION:
+        return "a label without a mapping has over 23 bytes; no packet option holds that, and a label is never cut";
+    case BQ_NO_SUCH_MAPPING:
+        return "no label has a mapping with its level and categories";
     default:
         return "no reason that is given here";
     }
@@ -334,6 +347,82 @@ static bool old_records(const char *path)
     return same;
 }
 
+/* The other side of the packets, here in the same program: it has tables of its own. */
+static uint8_t other_labels[BQ_LABELS], other_entries[BQ_ENTRIES];
+static uint64_t other_words[BQ_WORDS];
+#define OTHER_TABLES other_labels, BQ_LABELS, other_entries, BQ_ENTRIES, other_words, BQ_WORDS
+
+/* The options of a packet: at most 40 bytes, a multiple of four. What fills them up behind the option is zero bytes. */
+typedef struct {
+    uint8_t bytes[40];
+    size_t length;
+} packet_options;
+
+/* This side labels a packet. Where that is refused the packet has no options, and is not to be sent. */
+static packet_options label_packet(const char *label)
+{
+    packet_options options = {{0}, 0};
+    bq_length r = bq_write_option(TABLES, TEXT(label), options.bytes, BQ_LONGEST_OPTION);
+    printf("packet of '%s': ", label);
+    if (r.refused) {
+        printf("refused %d: %s\n", r.number, in_words(r.number));
+        return options;
+    }
+    for (size_t i = 0; i < r.length; i++)
+        printf("%s%d", i > 0 ? " " : "", options.bytes[i]);
+    printf("\n");
+    options.length = (r.length + 3) / 4 * 4;
+    return options;
+}
+
+/* The other side reads a packet. The option has as many bytes as its byte 1 says; where these are not there, all that there are go to the call, which
+ * refuses them. */
+static void read_packet(const packet_options *options)
+{
+    size_t length = options->length;
+    if (length > 1 && options->bytes[1] < length)
+        length = options->bytes[1];
+    bq_peer peer = bq_read_option(OTHER_TABLES, options->bytes, length);
+    printf("the other side reads: ");
+    if (peer.refused)
+        printf("refused %d: %s\n", peer.number, in_words(peer.number));
+    else
+        printf("'%.*s'\n", (int)peer.length, (const char *)peer.bytes);
+}
+
+/* A packet of this label, from this side to the other. */
+static void send_packet(const char *label)
+{
+    packet_options options = label_packet(label);
+    if (options.length > 0)
+        read_packet(&options);
+}
+
+/* Labels on packets. A label without a mapping goes as its own bits, which any side reads; one with a mapping is read where the other side has the
+ * same mapping. The numbers that labels have need not agree. False where there were no tables or no packet. */
+static bool packets(void)
+{
+    if (!done("fresh table", bq_fresh_table(TABLES)) || !done("fresh table of the other side", bq_fresh_table(OTHER_TABLES)))
+        return false;
+    done("mapping 'Desk 250 1'", bq_mapping(TABLES, TEXT("Desk 250 1"))); /* BQ_BAD_LEVEL_OR_CATEGORY: level 250 is for labels without a mapping */
+    send_packet("Recorder");
+    send_packet("ClimateProbe_StoreNorth_01_Temp"); /* BQ_NOT_IN_AN_OPTION: 31 bytes, and no mapping yet */
+    done("mapping 'ClimateProbe_StoreNorth_01_Temp 9 1 100 184'", bq_mapping(TABLES, TEXT("ClimateProbe_StoreNorth_01_Temp 9 1 100 184")));
+    send_packet("ClimateProbe_StoreNorth_01_Temp"); /* BQ_NO_SUCH_MAPPING: the other side does not have it yet */
+    done("mapping 'ClimateProbe_StoreNorth_01_Temp 9 1 100 184' of the other side",
+         bq_mapping(OTHER_TABLES, TEXT("ClimateProbe_StoreNorth_01_Temp 9 1 100 184")));
+    send_packet("ClimateProbe_StoreNorth_01_Temp");
+    send_packet("Archive/2026"); /* BQ_BAD_LABEL: of a packet no place is told */
+
+    packet_options options = label_packet("Alarm");
+    if (options.length == 0)
+        return false;
+    options.bytes[5] = 4; /* BQ_OTHER_DOI: 4 in place of 3 */
+    printf("with DOI 4, ");
+    read_packet(&options);
+    return true;
+}
+
 int main(int argc, char **argv)
 {
     if (argc != 3) {
@@ -373,7 +462,7 @@ int main(int argc, char **argv)
     show_lowest(run, sizeof run / sizeof *run, 9, one);
 
     done("mapping 'Desk 9 100 184'", bq_mapping(TABLES, TEXT("Desk 9 100 184")));
-    done("mapping 'Desk 9 100 185'", bq_mapping(TABLES, TEXT("Desk 9 100 185"))); /* BQ_BAD_LEVEL_OR_CATEGORY, as twice more below */
+    done("mapping 'Desk 9 100 185'", bq_mapping(TABLES, TEXT("Desk 9 100 185"))); /* BQ_BAD_LEVEL_OR_CATEGORY, as three more below */
     show_mapping("Desk");
     bq_set desk = with(with(none, 100), 184), stray = desk;
     show_label_of(9, desk);
@@ -391,5 +480,5 @@ int main(int argc, char **argv)
         return 1;
     show_record("Alarm Archive ra");
     show_record("ClimateProbe_StoreNorth_01_Temp Air_StoreNorth_01 w"); /* BQ_NOT_IN_A_RECORD */
-    return 0;
+    return packets() ? 0 : 1;
 }

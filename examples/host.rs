@@ -1,5 +1,5 @@
-//! A host of the library in Rust: it loads a rule file in pieces, asks, changes, revokes, maps and lists, says where a bad label goes wrong, and
-//! turns a file of old records into rules and back.
+//! A host of the library in Rust: it loads a rule file in pieces, asks, changes, revokes, maps and lists, says where a bad label goes wrong, turns a
+//! file of old records into rules and back, and labels packets that another side reads.
 //!
 //!   rustc -O --edition 2021 -L target/staticlib examples/host.rs -o host && ./host examples/store_north.rules examples/old_logger.records
 //!
@@ -28,6 +28,13 @@ mod balqirven {
 
     /// Categories are 1 to this.
     pub const HIGHEST_CATEGORY: u32 = 184;
+
+    /// The level of a packet option for a label without a mapping, the most bytes of such a label, and the most bytes of an option that is written and
+    /// of one that is read.
+    pub const OWN_LEVEL: u8 = 250;
+    pub const LONGEST_OWN_LABEL: usize = 23;
+    pub const LONGEST_OPTION: usize = 34;
+    pub const LONGEST_OPTION_READ: usize = 40;
 
     /// A set of categories: category 1 is the top bit of the first word, 65 of the second, 129 of the third. The eight lowest bits of the third are no
     /// categories; a set that is sought with one of them is refused.
@@ -165,6 +172,14 @@ mod balqirven {
         length: usize,
     }
 
+    #[repr(C)]
+    struct Peer {
+        refused: bool,
+        number: u8,
+        length: usize,
+        bytes: [u8; LONGEST_LABEL],
+    }
+
     // The kinds of an answer, as the header numbers them.
     const MAPPED: u8 = 0;
     const UNMAPPED: u8 = 1;
@@ -195,10 +210,12 @@ mod balqirven {
         fn bq_label(l: Bytes, ln: usize, e: Bytes, en: usize, w: *const u64, wn: usize, k: usize) -> Part;
         fn bq_record_to_line(record: Bytes, record_n: usize, out: *mut u8, out_n: usize) -> Length;
         fn bq_line_to_record(line: Bytes, line_n: usize, out: *mut u8, out_n: usize) -> Length;
+        fn bq_write_option(l: Bytes, ln: usize, e: Bytes, en: usize, w: *const u64, wn: usize, label: Bytes, label_n: usize, out: *mut u8, out_n: usize) -> Length;
+        fn bq_read_option(l: Bytes, ln: usize, e: Bytes, en: usize, w: *const u64, wn: usize, option: Bytes, option_n: usize) -> Peer;
     }
 
     /// A refusal: its number; and beside BAD_LABEL the place of the first bad byte, from 0, in the line, the write or the lent label. Beside any
-    /// other number, and from the calls of old records, the place is 0 and says nothing. include/balqirven.h tells it all.
+    /// other number, and from the calls of old records and of the packet option, the place is 0 and says nothing. include/balqirven.h tells it all.
     #[derive(Clone, Copy, Debug, PartialEq, Eq)]
     pub struct Refused {
         pub number: u8,
@@ -223,6 +240,11 @@ mod balqirven {
         pub const NO_SUCH_NUMBER: u8 = 13;
         pub const BAD_RECORD: u8 = 14;
         pub const NOT_IN_A_RECORD: u8 = 15;
+        pub const BAD_OPTION: u8 = 16;
+        pub const OTHER_DOI: u8 = 17;
+        pub const BAD_OPTION_CATEGORY: u8 = 18;
+        pub const NOT_IN_AN_OPTION: u8 = 19;
+        pub const NO_SUCH_MAPPING: u8 = 21;
     }
 
     /// A refusal of a call whose answer has no place.
@@ -244,6 +266,18 @@ mod balqirven {
         pub level: u8,
         pub set: Set,
         pub count: u32,
+    }
+
+    /// A label that was read of a packet option. It need not be one of the tables.
+    pub struct PeerLabel {
+        length: usize,
+        bytes: [u8; LONGEST_LABEL],
+    }
+
+    impl PeerLabel {
+        pub fn bytes(&self) -> &[u8] {
+            &self.bytes[..self.length]
+        }
     }
 
     /// The tables in memory of the host's. A damaged one is refused by every call.
@@ -339,6 +373,17 @@ mod balqirven {
             let p = call!(bq_label, read self, k);
             if p.refused { Err(plain(p.number)) } else { Ok(&self.labels[p.start..p.start + p.length]) }
         }
+
+        /// The packet option of a label, at the front of `out`; LONGEST_OPTION bytes are enough for any.
+        pub fn write_option<'a>(&self, label: &[u8], out: &'a mut [u8]) -> Result<&'a [u8], Refused> {
+            front(call!(bq_write_option, read self, label.as_ptr(), label.len(), out.as_mut_ptr(), out.len()), out)
+        }
+
+        /// The label that a packet option says. `option` is the one option, with no padding behind it.
+        pub fn read_option(&self, option: &[u8]) -> Result<PeerLabel, Refused> {
+            let p = call!(bq_read_option, read self, option.as_ptr(), option.len());
+            if p.refused { Err(plain(p.number)) } else { Ok(PeerLabel { length: p.length, bytes: p.bytes }) }
+        }
     }
 
     /// The lowest label number of a run's records that have this level and this set.
@@ -382,7 +427,7 @@ mod balqirven {
 }
 
 use balqirven::{line_to_record, lowest_in_run, record_to_line, Answer, Load, Record, Refused, Set, Tables};
-use balqirven::{FIXED_PLACE, FIXED_RECORD, HIGHEST_CATEGORY, LONGEST_FIXED_LINE, LONGEST_RULE};
+use balqirven::{FIXED_PLACE, FIXED_RECORD, HIGHEST_CATEGORY, LONGEST_FIXED_LINE, LONGEST_OPTION, LONGEST_RULE, OWN_LEVEL};
 use std::fs::File;
 use std::io::Read;
 
@@ -396,7 +441,8 @@ fn place_in_words(place: usize, of: &str) -> String {
 fn number_in_words(number: u8) -> String {
     match number {
         Refused::BAD_LEVEL_OR_CATEGORY => {
-            format!("refused 9: a level is not 0 to 255, a category not 1 to {HIGHEST_CATEGORY}, or a bit of the set is no category")
+            let level = format!("a level is not 0 to 255 or is {OWN_LEVEL} in a write");
+            format!("refused 9: {level}, a category not 1 to {HIGHEST_CATEGORY}, or a bit of the set is no category")
         }
         number => format!("refused {number}"),
     }
@@ -538,9 +584,10 @@ fn list(t: &Tables) {
     }
 }
 
-/// What a line of rule text, or one of the two calls of old records, is refused for, in words.
+/// What a line of rule text, or one of the calls of old records and of the packet option, is refused for, in words.
 fn in_words(number: u8) -> &'static str {
     match number {
+        Refused::DAMAGED => "the lent state is damaged",
         Refused::TOO_LONG => "it has over 600 bytes",
         Refused::WRONG_FIELDS => "it does not have three fields",
         Refused::BAD_LABEL => "a label is not well formed",
@@ -551,6 +598,11 @@ fn in_words(number: u8) -> &'static str {
         Refused::OUTPUT_TOO_SHORT => "the lent output is too short",
         Refused::BAD_RECORD => "it does not have 53 bytes, or a label place is all spaces, has another byte after a space or does not end in a space",
         Refused::NOT_IN_A_RECORD => "a label has over 23 bytes, or there is a b; no old record holds that, and a label is never cut",
+        Refused::BAD_OPTION => "it is not the one option with one tag of type 1, or not whole, or has bytes behind it",
+        Refused::OTHER_DOI => "it has another DOI than 3",
+        Refused::BAD_OPTION_CATEGORY => "it has category 0 or one above 184",
+        Refused::NOT_IN_AN_OPTION => "a label without a mapping has over 23 bytes; no packet option holds that, and a label is never cut",
+        Refused::NO_SUCH_MAPPING => "no label has a mapping with its level and categories",
         _ => "no reason that is given here",
     }
 }
@@ -617,6 +669,67 @@ fn old_records(path: &str) -> std::io::Result<Option<()>> {
     Ok(back_to_records(&t, &file))
 }
 
+/// This side labels a packet. The options of a packet are a multiple of four bytes, at most 40; what fills them up behind the option is zero bytes.
+/// None where it is refused: the packet is not to be sent.
+fn label_packet(t: &Tables, label: &str) -> Option<Vec<u8>> {
+    print!("packet of '{label}': ");
+    match t.write_option(label.as_bytes(), &mut [0; LONGEST_OPTION]) {
+        Ok(option) => {
+            println!("{}", option.iter().map(u8::to_string).collect::<Vec<_>>().join(" "));
+            let mut options = option.to_vec();
+            options.resize(option.len().next_multiple_of(4), 0);
+            Some(options)
+        }
+        Err(Refused { number, .. }) => {
+            println!("refused {number}: {}", in_words(number));
+            None
+        }
+    }
+}
+
+/// The other side reads a packet. The option has as many bytes as its byte 1 says; where these are not there, all that there are go to the call,
+/// which refuses them.
+fn read_packet(other: &Tables, options: &[u8]) {
+    let length = options.get(1).map_or(0, |&total| usize::from(total));
+    print!("the other side reads: ");
+    match other.read_option(options.get(..length).unwrap_or(options)) {
+        Ok(label) => println!("'{}'", String::from_utf8_lossy(label.bytes())),
+        Err(Refused { number, .. }) => println!("refused {number}: {}", in_words(number)),
+    }
+}
+
+/// A packet of this label, from this side to the other.
+fn send_packet(t: &Tables, other: &Tables, label: &str) {
+    if let Some(options) = label_packet(t, label) {
+        read_packet(other, &options);
+    }
+}
+
+/// Labels on packets. A label without a mapping goes as its own bits, which any side reads; one with a mapping is read where the other side, which
+/// has tables of its own, has the same mapping. The numbers that labels have need not agree. None where there were no tables or no packet.
+fn packets() -> Option<()> {
+    let t = &mut *fresh()?;
+    let mut other = accepted("fresh table of the other side", Tables::fresh())?;
+    println!("fresh table of the other side: done");
+    done("mapping 'Desk 250 1'", t.mapping(b"Desk 250 1")); // BAD_LEVEL_OR_CATEGORY: level 250 is for labels without a mapping
+    send_packet(t, &other, "Recorder");
+    send_packet(t, &other, "ClimateProbe_StoreNorth_01_Temp"); // NOT_IN_AN_OPTION: 31 bytes, and no mapping yet
+    done("mapping 'ClimateProbe_StoreNorth_01_Temp 9 1 100 184'", t.mapping(b"ClimateProbe_StoreNorth_01_Temp 9 1 100 184"));
+    send_packet(t, &other, "ClimateProbe_StoreNorth_01_Temp"); // NO_SUCH_MAPPING: the other side does not have it yet
+    done(
+        "mapping 'ClimateProbe_StoreNorth_01_Temp 9 1 100 184' of the other side",
+        other.mapping(b"ClimateProbe_StoreNorth_01_Temp 9 1 100 184"),
+    );
+    send_packet(t, &other, "ClimateProbe_StoreNorth_01_Temp");
+    send_packet(t, &other, "Archive/2026"); // BAD_LABEL: of a packet no place is told
+
+    let mut options = label_packet(t, "Alarm")?;
+    options[5] = 4; // OTHER_DOI: 4 in place of 3
+    print!("with DOI 4, ");
+    read_packet(&other, &options);
+    Some(())
+}
+
 /// Leaves with a failing status where a file could not be read or what was to be done with it was not.
 fn or_exit(path: &str, answer: std::io::Result<Option<()>>) {
     match answer {
@@ -671,7 +784,7 @@ fn main() {
     show_lowest(&run, 9, one);
 
     done("mapping 'Desk 9 100 184'", t.mapping(b"Desk 9 100 184"));
-    done("mapping 'Desk 9 100 185'", t.mapping(b"Desk 9 100 185")); // BAD_LEVEL_OR_CATEGORY, as twice more below
+    done("mapping 'Desk 9 100 185'", t.mapping(b"Desk 9 100 185")); // BAD_LEVEL_OR_CATEGORY, as three more below
     show_mapping(t, "Desk");
     let desk = Set::empty().with(100).with(184);
     show_label_of(t, 9, desk);
@@ -689,4 +802,7 @@ fn main() {
     or_exit(records, old_records(records));
     show_record("Alarm Archive ra");
     show_record("ClimateProbe_StoreNorth_01_Temp Air_StoreNorth_01 w"); // NOT_IN_A_RECORD
+    if packets().is_none() {
+        std::process::exit(1);
+    }
 }

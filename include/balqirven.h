@@ -21,22 +21,22 @@
  * label itself is lent, from the label's first byte; in a question it is in the subject or, where that is well formed, in the object, and which of the
  * two it is the answer does not say. At the place stands a byte that no label may have; or a dash that the label begins with; or, in a label that is
  * too long and has no earlier fault, its byte 255, the first too many. An empty label has place 0. So beside 3 the place 0 is the first byte, or
- * where it would be; beside every other number, and where nothing is refused, `place` is 0 and says nothing. bq_length has no place: the two calls of
- * old records tell none.
+ * where it would be; beside every other number, and where nothing is refused, `place` is 0 and says nothing. bq_length and bq_peer have no place: the
+ * two calls of old records and the two of the packet option tell none.
  *
  *    0  BQ_DAMAGED                the lent state has a part not of its full size, a count or length over its limit, a number that names
  *                                 no stored label, or an unknown mode or category bit. It comes before every other number.
  *    1  BQ_TOO_LONG               a line or a write has over 600 bytes, a mapping write over 1,000
  *    2  BQ_WRONG_FIELDS           wrong number of fields: not 3 (line), not 4 (change), under 2 (mapping), none (override list)
- *    3  BQ_BAD_LABEL              a label is not well formed
+ *    3  BQ_BAD_LABEL              a label is not well formed; a packet option at level 250 does not make one
  *    4  BQ_BAD_ACCESS             an access field has a byte that is not allowed there; an access byte of an old record is neither a dash nor
  *                                 the letter of its place
  *    5  BQ_SAME_LABELS            subject equals object
  *    6  BQ_LABELS_FULL            more new labels than free label places
  *    7  BQ_RULES_FULL             256 rules are stored, and the pair has none
  *    8  BQ_BAD_REQUEST            the request is empty or has another byte than r w x a, either case
- *    9  BQ_BAD_LEVEL_OR_CATEGORY  a level is not 0 to 255 or a category not 1 to 184; in a write each is 1 to 3 digits; a set that is sought
- *                                 has a bit that is no category
+ *    9  BQ_BAD_LEVEL_OR_CATEGORY  a level is not 0 to 255 or a category not 1 to 184; in a write each is 1 to 3 digits; a mapping write is at
+ *                                 level 250; a set that is sought has a bit that is no category
  *   10  BQ_MAPPINGS_FULL          32 mappings are stored, and the label has none
  *   11  BQ_TOO_MANY_OVERRIDES     over 8 different labels in an override list
  *   12  BQ_OUTPUT_TOO_SHORT       the lent output is too short
@@ -44,6 +44,11 @@
  *   14  BQ_BAD_RECORD             an old record has not 53 bytes, or a label place in it is all spaces, has another byte after a space or
  *                                 does not end in a space
  *   15  BQ_NOT_IN_A_RECORD        a line has a label over 23 bytes or a b, which no old record can hold
+ *   16  BQ_BAD_OPTION             a packet option has another layout than the one that is told at the two calls of it
+ *   17  BQ_OTHER_DOI              a packet option has another DOI than 3
+ *   18  BQ_BAD_OPTION_CATEGORY    a packet option has category 0 or one above 184
+ *   19  BQ_NOT_IN_AN_OPTION       a label has no mapping and over 23 bytes, which no packet option can hold
+ *   21  BQ_NO_SUCH_MAPPING        no label is mapped to the level and the categories of a packet option
  *
  * Text is bytes with a length and no closing zero. A label has 1 to 255 bytes, each from 33 to 126, none of / \ ' ", and does not begin
  * with a dash.
@@ -61,8 +66,8 @@ extern "C" {
 
 /* The version of this interface. MINOR is raised where something is added (a call, a name, a refusal number) and an older host need not
  * change; MAJOR, with MINOR at 0 again, where a struct, a size, a parameter or what a call answers changes, so that each host has to be
- * looked at and compiled again. */
-#define BQ_VERSION_MAJOR 3
+ * looked at and compiled again. (Version 3 took a mapping write at level 250: it gets 9 now.) */
+#define BQ_VERSION_MAJOR 4
 #define BQ_VERSION_MINOR 0
 
 /* The sizes of the lent parts, in elements: bytes, bytes, 64-bit words, bytes. (Version 2 had 36 words: such a state gets 0 now.) */
@@ -101,6 +106,14 @@ typedef struct {
     uint64_t word[3];
 } bq_set;
 
+/* The packet option. A label without a mapping goes at a level of its own, which no mapping write takes, and has at most 23 bytes. The most bytes of an
+ * option: as bq_write_option writes it, ten and a bitmap of 24, which has room for category 184; and as bq_read_option takes it, ten and a bitmap
+ * of 30. */
+#define BQ_OWN_LEVEL 250
+#define BQ_LONGEST_OWN_LABEL 23
+#define BQ_LONGEST_OPTION 34
+#define BQ_LONGEST_OPTION_READ 40
+
 /* The refusal numbers, as they are told above: `number` of an answer that is refused, and `reason` of a report in which a line was. */
 enum bq_refusal {
     BQ_DAMAGED = 0,
@@ -118,7 +131,12 @@ enum bq_refusal {
     BQ_OUTPUT_TOO_SHORT = 12,
     BQ_NO_SUCH_NUMBER = 13,
     BQ_BAD_RECORD = 14,
-    BQ_NOT_IN_A_RECORD = 15
+    BQ_NOT_IN_A_RECORD = 15,
+    BQ_BAD_OPTION = 16,
+    BQ_OTHER_DOI = 17,
+    BQ_BAD_OPTION_CATEGORY = 18,
+    BQ_NOT_IN_AN_OPTION = 19,
+    BQ_NO_SUCH_MAPPING = 21
 };
 
 /* The report: lines read, accepted, skipped and refused; the number (from 1) and the reason of the first refused line, 0 and 0 where
@@ -218,12 +236,13 @@ typedef struct {
     size_t length;
 } bq_part;
 
-/* What the option's reader answers: the label's length and its bytes. The bytes behind it are 0; on a refusal the length and all bytes are. */
+/* What the reader of a packet option answers: the label's length and its bytes, by value, since the label need not be a stored one. The bytes behind
+ * the label are 0; on a refusal the length and all bytes are. */
 typedef struct {
     bool refused;
     uint8_t number;
     size_t length;
-    uint8_t bytes[255];
+    uint8_t bytes[BQ_LONGEST_LABEL];
 } bq_peer;
 
 /* ---- a fresh table and a fresh loader */
@@ -267,7 +286,8 @@ bq_counted bq_revoke(const uint8_t *labels, size_t labels_len, uint8_t *entries,
 bq_written bq_onlycap(uint8_t *labels, size_t labels_len, uint8_t *entries, size_t entries_len, uint64_t *words, size_t words_len,
                       const uint8_t *text, size_t text_len);
 
-/* Mapping (CIPSO): label, level, then no or more categories, 1 to 184, in any order, repeats allowed. Refusals: 0 1 2 3 9 6 10. */
+/* Mapping (CIPSO): label, level, then no or more categories, 1 to 184, in any order, repeats allowed. Level BQ_OWN_LEVEL, 250, is refused with 9: in a
+ * packet option it is for labels without a mapping. Refusals: 0 1 2 3 9 6 10. */
 bq_written bq_mapping(uint8_t *labels, size_t labels_len, uint8_t *entries, size_t entries_len, uint64_t *words, size_t words_len,
                       const uint8_t *text, size_t text_len);
 
@@ -327,13 +347,37 @@ bq_length bq_record_to_line(const uint8_t *record, size_t record_len, uint8_t *o
  * Refusals: 1 2 3 4 5 15 12. */
 bq_length bq_line_to_record(const uint8_t *line, size_t line_len, uint8_t *out, size_t out_len);
 
-/* ---- the packet option */
+/* ---- the packet option, which says a packet's label: the CIPSO option (FIPS 188) with one tag, of type 1. Its bytes, from 0:
+ *
+ *    0         134
+ *    1         the total length: 10 and the bytes of the bitmap
+ *    2 to 5    the DOI, high byte first: 0 0 0 3
+ *    6         1
+ *    7         the tag's length: the total less 6
+ *    8         0
+ *    9         the level
+ *   10 and on  the bitmap: category n is the bit 0x80 >> n % 8 of bitmap byte n / 8. So the first bit would be category 0, which there is not
+ *
+ * The options of a packet are filled up to a multiple of four bytes. That padding is no part of the option: the host puts it behind what was
+ * written, and takes it off, by the total length, before the option is read. Neither call changes the tables, and a label that was read is not
+ * stored. Neither tells a place beside 3. */
 
-/* The option of a label, at the front of `out`: 10 to 34 bytes. Refusals: 0 3 19 12. */
+/* The option of a label, at the front of `out`; the rest of `out` stays. It has at least 10 bytes, and BQ_LONGEST_OPTION are enough for any. A label
+ * with a mapping, as bq_by_label finds it, goes at the mapping's level with the mapping's categories, however long it is. Any other label, stored or
+ * not, goes at level BQ_OWN_LEVEL as its own bits, and has at most BQ_LONGEST_OWN_LABEL bytes; a longer one is refused with 19 and never cut. Bit j
+ * of its byte i, both from 0 and j from the top, is category 8 * i + j + 1. Zero bytes at the end of a bitmap are not written: where there is no
+ * category, there is no bitmap. The label A, unmapped, is 134 12 0 0 0 3 1 6 0 250 32 128. Refusals: 0 3 19 12. */
 bq_length bq_write_option(const uint8_t *labels, size_t labels_len, const uint8_t *entries, size_t entries_len, const uint64_t *words,
                           size_t words_len, const uint8_t *label, size_t label_len, uint8_t *out, size_t out_len);
 
-/* The label that an option says. Refusals: 0 16 17 18 3 21. */
+/* The label that an option says. `option` is the one option and nothing else: byte 1 is option_len, 10 to BQ_LONGEST_OPTION_READ. Any other layout is
+ * refused with 16, padding left on and a second tag too; another DOI with 17; category 0 or one above 184 with 18. Zero bytes at the end of the bitmap
+ * are taken. At level BQ_OWN_LEVEL the label is made of the categories as its own bits, and zero bytes at its end are dropped; whether it is stored is
+ * not looked at. At any other level it is the label that bq_by_level finds for this level and these categories: the lowest-numbered. So with one table,
+ * grown from a fresh one, reading what was written gives the label back, unless a lower-numbered label has the same mapping. An option at level 250
+ * is read alike with any table, one at another level by the mappings of the table that it is read with. (A mapping at level 250, which only a lent
+ * state can hold that was not grown so, is written as any other, and read as a label's own bits.)
+ * Refusals: 0 16 17 18, then 3 at level 250, 21 at any other. */
 bq_peer bq_read_option(const uint8_t *labels, size_t labels_len, const uint8_t *entries, size_t entries_len, const uint64_t *words,
                        size_t words_len, const uint8_t *option, size_t option_len);
 

@@ -6456,6 +6456,60 @@ def options_refusals():
     s.store()
 
 
+def options_pairs():
+    s = Script("options_pairs", "02, Five: each two faults of an option at once: the first in the order is told. In a damaged state each of these, and each fault alone, is 0. And own bits of labels that are mapped.", True)
+
+    def with_byte(option, at, value):
+        return option[:at] + bytes([value]) + option[at + 1:]
+    layouts = [(0, 135), (1, 0), (6, 2), (7, 0), (7, 255), (8, 1), (8, 255)]
+    dois = [(at, value) for at in (2, 3, 4, 5) for value in ((1, 128, 255) if at < 5 else (0, 2, 4, 131))]
+    strays = [0] + list(range(185, 240))
+    for level in (250, 9, 10):
+        s.fresh()
+        s.mapping(b"V 9 2 8")
+        stored = {(9, (2, 8)): b"V"}
+        base = in_option(level, bitmap_of((2, 8)).ljust(30, b"\0"))
+        faulty = [base]
+        s.say("level %d: a byte of the layout, and one of the DOI" % level)
+        for at, value in layouts:
+            faulty.append(with_byte(base, at, value))
+            for where, other in dois:
+                faulty.append(with_byte(with_byte(base, at, value), where, other))
+        s_count = len(faulty)
+        for n in strays:
+            one = with_byte(base, 10 + n // 8, base[10 + n // 8] | 0x80 >> n % 8)
+            faulty.append(one)
+            for at, value in (layouts[n % len(layouts)], dois[n % len(dois)], dois[(n + 5) % len(dois)]):
+                faulty.append(with_byte(one, at, value))
+        for number, option in enumerate(faulty):
+            if number == s_count:
+                s.say("level %d: a bit that is no category, alone and with another fault" % level)
+            s.read_option(option, says_option(option, stored))
+        s.say("level %d: the same in a state with an unknown bit" % level)
+        s.poke("words", 68, 1)
+        for option in faulty:
+            s.read_option(option, 0)
+    s.say("Labels mapped alike, and one that is mapped to its own bits at another level: at level 250 the label is made of the bits, whoever is mapped.")
+    for order in ((b"A", b"B", b"C"), (b"C", b"B", b"A")):
+        s.fresh()
+        for label in order:
+            s.mapping(label + b" 9 2 8")
+        for label in order:
+            s.read_option(own_option(label), label)
+            s.write_option(label, option_of(9, (2, 8)))
+        s.read_option(option_of(9, (2, 8)), order[0])
+        s.mapping(b"D 9 " + listed(own_categories(b"D")))
+        s.read_option(own_option(b"D"), b"D")
+        s.read_option(option_of(9, own_categories(b"D")), b"D")
+        s.write_option(b"D", option_of(9, own_categories(b"D")))
+        s.read_option(own_option(b"E"), b"E")
+        s.poke("entries", 800 + 3, bytes([250]))
+        for label in order + (b"D", b"E"):
+            s.read_option(own_option(label), label)
+        s.write_option(b"D", own_option(b"D"))
+    s.store()
+
+
 def options_damaged():
     s = Script("options_damaged", "01, refusal 0, and 02, Five: a damaged state: 0 before each other number of both calls, and where nothing else is wrong. The loader is not lent to them.", True)
     kinds = [("words", 0, 65), ("words", 0, HUGE), ("words", 1, 257), ("words", 2, 33), ("words", 2, (1 << 32) + 2), ("words", 3, 9), ("words", 0, 8), ("words", 0, 0), ("entries", 0, b"\x09"), ("entries", 257, b"\xff"),
@@ -6662,6 +6716,7 @@ def options():
     options_full()
     options_sets()
     options_refusals()
+    options_pairs()
     options_damaged()
     options_kept()
     options_after()

@@ -80,7 +80,7 @@ use Rattle.cipso.specs.Cipso.{mapAnswer, mapStored}
 use Rattle.lookups.specs.Lookups.{byLabelOf, byLevelOf}
 use Rattle.listing.specs.Listing.{listAnswer, listOut, labelGiven, labelAnswer}
 use Rattle.access.specs.Access.{questionOf}
-use Rattle.cipso_option.specs.Option.{writeAnswer, writeOut, peerGiven, peerShown}
+use Rattle.cipso_option.specs.Option.{optionAnswer, optionOut, peerGiven, peerShown}
 use Rattle.answers.specs.Answers.{shown}
 use Rattle.reports.specs.declared.Loader.{Loader}
 use Rattle.reports.specs.Report.{freshLoader}
@@ -350,8 +350,8 @@ write-option-call st l out =
       lifetimes = ([], ([], ([], ([], ([], tt)))));
       args = (ref (st .labels), (ref (st .entries), (ref (st .words), (ref l, (ref out, tt)))));
       asked = tt;
-      result = outputShown (writeAnswer st l out);
-      last = (tt, (tt, (tt, (tt, (writeOut st l out, tt)))));
+      result = outputShown (optionAnswer st l out);
+      last = (tt, (tt, (tt, (tt, (optionOut st l out, tt)))));
       ensures = (refl, refl);
     }
 

@@ -12,7 +12,7 @@ use Rattle.store.specs.Layout.{tableOf}
 use Rattle.lines.specs.Lines.{ruleOf}
 use Rattle.writes.specs.Writes.{judged, changed}
 use Rattle.store.specs.Judged.{is-skipped, is-refused, is-accepted}
-use Rattle.cipso_option.specs.Option.{unread, peerShown}
+use Rattle.cipso_option.specs.Option.{not-read, peerShown}
 use Rattle.answers.specs.Answers.{shown, lookupShown, searchShown, outputShown}
 use Rattle.access.specs.declared.Answer.the-variants as answer
 use Rattle.lookups.specs.declared.Lookup.the-variants as lookup
@@ -107,4 +107,4 @@ refusal-of (r.ask (r.list-rule k out)) = r.listed (outputShown (listed.Refused (
 refusal-of (r.ask (r.label k)) = r.refusal damaged
 refusal-of (r.ask (r.label-check k)) = r.refusal damaged
 refusal-of (r.ask (r.write-option l out)) = r.listed (outputShown (listed.Refused (damaged .number))) out
-refusal-of (r.ask (r.read-option option)) = r.peer (peerShown (unread (damaged .number)))
+refusal-of (r.ask (r.read-option option)) = r.peer (peerShown (not-read (damaged .number)))

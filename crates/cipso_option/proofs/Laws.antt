@@ -25,7 +25,7 @@ use Rattle.output.specs.Output as text
 use Rattle.lookups.specs.Lookups.{labelLookup, byLabelOf, sought, hasBoth, numbered, levelLookup, byLevelOf}
 use Rattle.lookups.specs.declared.Lookup.the-variants as lookup
 use Rattle.lookups.specs.declared.Label.the-variants as found
-use Rattle.cipso_option.specs.Option.{optionBytes, ourDoi, untilLast, trimmed, optionBy, labelOption, optionGiven, doiIn, levelIn, bitmapIn, isOption, Peer, unread, ownPeer, mappedPeer, peerAt, peerOf, peerGiven}
+use Rattle.cipso_option.specs.Option.{optionBytes, ourDoi, untilLast, trimmed, optionBy, labelOption, optionGiven, doiIn, levelIn, bitmapIn, isOption, Peer, not-read, ownPeer, mappedPeer, peerAt, peerOf, peerGiven}
 use Rattle.cipso_option.specs.Within.{saidOf, mappedGiven}
 use Rattle.cipso_option.specs.declared.Said.{Said}
 use Rattle.cipso_option.specs.declared.Said.the-variants as said
@@ -218,7 +218,7 @@ option-given st l = by-test (undamagedOf st)
     by-test false = refl
 
 abbrev pub peerSaid : Table → Said → Peer
-peerSaid t (said.Refused n) = unread n
+peerSaid t (said.Refused n) = not-read n
 peerSaid t (said.At level s) = peerAt t level s
 
 pub peer-said : (t : Table) (o : List ℕ) → peerOf t o ≡ peerSaid t (saidOf o)
@@ -226,7 +226,7 @@ unfolding peerOf saidOf
 peer-said t o = by-tests (isOption o) (sameBytes (doiIn o) ourDoi) (onlyCategories (bitmapIn o))
   where
     by-tests : (a b c : Bool)
-        → cond a (cond b (cond c (peerAt t (levelIn o) (setOfBitmap (bitmapIn o))) (unread 18)) (unread 17)) (unread 16)
+        → cond a (cond b (cond c (peerAt t (levelIn o) (setOfBitmap (bitmapIn o))) (not-read 18)) (not-read 17)) (not-read 16)
         ≡ peerSaid t (cond a (cond b (cond c (said.At (levelIn o) (setOfBitmap (bitmapIn o))) (said.Refused 18)) (said.Refused 17)) (said.Refused 16))
     by-tests true true true = refl
     by-tests true true false = refl
@@ -234,7 +234,7 @@ peer-said t o = by-tests (isOption o) (sameBytes (doiIn o) ourDoi) (onlyCategori
     by-tests false b c = refl
 
 module _ (st : Store) (o : List ℕ) where
-  pub peer-damaged : undamagedOf st ≡ false → peerGiven st o ≡ unread 0
+  pub peer-damaged : undamagedOf st ≡ false → peerGiven st o ≡ not-read 0
   unfolding peerGiven
   peer-damaged u = rw u
 
@@ -244,9 +244,9 @@ module _ (st : Store) (o : List ℕ) where
 
   pub peer-mapped : {level : ℕ} {s : CategorySet} → (level ≡ 250 → ⊥) → saidOf o ≡ said.At level s → peerGiven st o ≡ mappedGiven st level s
   unfolding peerGiven peerAt byLevelOf
-  peer-mapped {level} {s} h e = ap (λ (x : Peer). cond (undamagedOf st) x (unread 0)) (peer-said (tableOf st) o ∙ ap (peerSaid (tableOf st)) e ∙ rw (ne-eqb level 250 h)) ∙ by-test (undamagedOf st)
+  peer-mapped {level} {s} h e = ap (λ (x : Peer). cond (undamagedOf st) x (not-read 0)) (peer-said (tableOf st) o ∙ ap (peerSaid (tableOf st)) e ∙ rw (ne-eqb level 250 h)) ∙ by-test (undamagedOf st)
     where
-      by-test : (t : Bool) → cond t (mappedPeer (tableOf st) (levelLookup (tableOf st) level s)) (unread 0) ≡ mappedPeer (tableOf st) (cond t (levelLookup (tableOf st) level s) (found.Refused 0))
+      by-test : (t : Bool) → cond t (mappedPeer (tableOf st) (levelLookup (tableOf st) level s)) (not-read 0) ≡ mappedPeer (tableOf st) (cond t (levelLookup (tableOf st) level s) (found.Refused 0))
       by-test true = refl
       by-test false = refl
 

@@ -33,11 +33,12 @@ optionBytes doi level bitmap = 134 ∷ (10 + length bitmap) ∷ (doi ++ (1 ∷ (
 abbrev pub ourDoi : List ℕ
 ourDoi = 0 ∷ 0 ∷ 0 ∷ 3 ∷ []
 
--- bytes without the zero bytes behind the last other one
+-- a byte in front of such bytes: a zero byte goes where nothing is behind it
 abbrev pub untilLast : ℕ → List ℕ → List ℕ
 untilLast b [] = cond (eqb b 0) [] (b ∷ [])
 untilLast b (c ∷ rest) = b ∷ c ∷ rest
 
+-- bytes without the zero bytes behind the last other one
 unfoldable pub trimmed : List ℕ → List ℕ
 trimmed [] = []
 trimmed (b ∷ bytes) = untilLast b (trimmed bytes)
@@ -66,11 +67,12 @@ labelOption t l = optionBy l (labelLookup t l)
 unfoldable pub optionGiven : Store → List ℕ → Text
 optionGiven st l = cond (undamagedOf st) (labelOption (tableOf st) l) (refused (damaged .number))
 
-unfoldable pub writeAnswer : Store → List ℕ → List ℕ → Output
-writeAnswer st l out = textAnswer (optionGiven st l) out
+-- the answer, and the lent output afterwards
+unfoldable pub optionAnswer : Store → List ℕ → List ℕ → Output
+optionAnswer st l out = textAnswer (optionGiven st l) out
 
-unfoldable pub writeOut : Store → List ℕ → List ℕ → List ℕ
-writeOut st l out = textOut (optionGiven st l) out
+unfoldable pub optionOut : Store → List ℕ → List ℕ → List ℕ
+optionOut st l out = textOut (optionGiven st l) out
 
 -- ---- the reader
 
@@ -78,7 +80,7 @@ writeOut st l out = textOut (optionGiven st l) out
 abbrev pub bitmapLimit : ℕ
 bitmapLimit = 30
 
--- what an option of that layout has in its places
+-- what an option has in its places: the DOI in bytes 2 to 5, the level in byte 9, the bitmap behind it
 abbrev pub doiIn : List ℕ → List ℕ
 doiIn option = take 4 (drop 2 option)
 
@@ -92,42 +94,47 @@ bitmapIn option = drop 10 option
 unfoldable pub isOption : List ℕ → Bool
 isOption option = leb (length (bitmapIn option)) bitmapLimit && sameBytes option (optionBytes (doiIn option) (levelIn option) (bitmapIn option))
 
--- who sent a packet: a label, or a refusal
+-- what an option says: the label of the packet; or the number of a refusal
 pub data Peer : Type 0 where
   label : List ℕ → Peer
-  unread : ℕ → Peer
+  not-read : ℕ → Peer
 
--- 'At level 250 the reader rebuilds the label, dropping trailing zero bytes'; 3 where that is no label
+-- of a level 250: 3 where the bytes are no label
 abbrev pub ownPeer : List ℕ → Peer
-ownPeer l = cond (wellFormed l) (label l) (unread (badLabel .number))
+ownPeer l = cond (wellFormed l) (label l) (not-read (badLabel .number))
 
--- 21 no mapping matches
+-- of another level: 21 where no mapping matches. (A byte and a set of categories can always be looked up: the last does not come)
 abbrev pub mappedPeer : Table → Label → Peer
 mappedPeer t (found.Number n) = label (labelNumbered t n)
-mappedPeer t found.Nothing = unread (noSuchMapping .number)
-mappedPeer t (found.Refused n) = unread n
+mappedPeer t found.Nothing = not-read (noSuchMapping .number)
+mappedPeer t (found.Refused n) = not-read n
 
+-- 'At level 250 the reader rebuilds the label, dropping trailing zero bytes'; at any other it is the label that the look-up by level and set finds
 unfoldable pub peerAt : Table → ℕ → CategorySet → Peer
 peerAt t level s = cond (eqb level ownLevel) (ownPeer (trimmed (ownBytes s))) (mappedPeer t (levelLookup t level s))
 
--- 18 category 0 or above 184, 17 another DOI, 16 any other layout
+-- 16 any other layout, then 17 another DOI, then 18 category 0 or above 184
 unfoldable pub peerOf : Table → List ℕ → Peer
 peerOf t option =
     cond (isOption option)
     (cond (sameBytes (doiIn option) ourDoi)
-    (cond (onlyCategories (bitmapIn option)) (peerAt t (levelIn option) (setOfBitmap (bitmapIn option))) (unread (badOptionCategory .number)))
-    (unread (otherDoi .number)))
-    (unread (badOption .number))
+    (cond (onlyCategories (bitmapIn option)) (peerAt t (levelIn option) (setOfBitmap (bitmapIn option))) (not-read (badOptionCategory .number)))
+    (not-read (otherDoi .number)))
+    (not-read (badOption .number))
 
 -- of a lent state: 0 before every other where it is damaged
 unfoldable pub peerGiven : Store → List ℕ → Peer
-peerGiven st option = cond (undamagedOf st) (peerOf (tableOf st) option) (unread (damaged .number))
+peerGiven st option = cond (undamagedOf st) (peerOf (tableOf st) option) (not-read (damaged .number))
+
+-- k zero bytes
+abbrev pub zeroBytes : ℕ → List ℕ
+zeroBytes k = entries (λ (i : ℕ). 0) k
 
 -- ---- 'It answers by value': the label in front of 255 bytes, those behind it 0; on a refusal its number, and no label
 
 abbrev pub room : List ℕ
-room = entries (λ (i : ℕ). 0) labelLongest
+room = zeroBytes labelLongest
 
 abbrev pub peerShown : Peer → PeerLabel
 peerShown (label l) = record { refused = false; number = 0; length = length l; bytes = written room 0 l }
-peerShown (unread n) = record { refused = true; number = n; length = 0; bytes = room }
+peerShown (not-read n) = record { refused = true; number = n; length = 0; bytes = room }

@@ -11,13 +11,13 @@ ghost use Rattle.output.specs.Output.{putAnswer, putOut};
 ghost use Rattle.store.specs.Layout.{lent};
 ghost use Rattle.set_bytes.specs.SetBytes.{ownBytes};
 ghost use Rattle.search.specs.Bytes.{sameBytes};
-ghost use Rattle.cipso_option.specs.Option.{trimmed, optionOf, writeAnswer, writeOut, isOption, doiIn, ourDoi, peerGiven, peerShown, label as sender, unread, ownPeer};
+ghost use Rattle.cipso_option.specs.Option.{trimmed, optionOf, optionAnswer, optionOut, isOption, doiIn, ourDoi, peerGiven, peerShown, label as sender, not-read, ownPeer};
 ghost use Rattle.cipso_option.specs.Within.{saidOf, mappedGiven};
 
 // The most bytes of a label that goes as its own bits.
 pub const OWN_LONGEST: usize = 23;
 
-// Who sent a packet: the label's length and its bytes, behind which the others are 0; or a refusal's number.
+// What an option says: the label's length and its bytes, behind which the others are 0; or a refusal's number.
 #[repr(C)]
 pub struct PeerLabel {
     pub refused: bool,
@@ -73,8 +73,8 @@ pub fn write_option(
     label: &[u8],
     out: &mut [u8],
 ) -> Output
-    ensures { λ r. ⌜ r ≡ writeAnswer (lent labels entries words) (now (label .entry)) (now (out .entry)) ⌝ }
-    ensures { λ _. ⌜ now (out .exit) ≡ writeOut (lent labels entries words) (now (label .entry)) (now (out .entry)) ⌝ }
+    ensures { λ r. ⌜ r ≡ optionAnswer (lent labels entries words) (now (label .entry)) (now (out .entry)) ⌝ }
+    ensures { λ _. ⌜ now (out .exit) ≡ optionOut (lent labels entries words) (now (label .entry)) (now (out .entry)) ⌝ }
 {
     let mapped = lookups::by_label(labels, entries, words, label);
     match mapped {
@@ -132,7 +132,7 @@ fn said_by(option: &[u8]) -> Said
 
 // A refusal as a host sees it.
 fn refused(number: u8) -> PeerLabel
-    ensures { λ r. ⌜ r ≡ peerShown (unread number) ⌝ }
+    ensures { λ r. ⌜ r ≡ peerShown (not-read number) ⌝ }
 {
     PeerLabel {
         refused: true,
@@ -188,7 +188,7 @@ fn mapped_peer(
     }
 }
 
-// Reads an option: who sent the packet.
+// The label that an option says.
 pub fn read_option(labels: &[u8], entries: &[u8], words: &[u64], option: &[u8]) -> PeerLabel
     ensures { λ r. ⌜ r ≡ peerShown (peerGiven (lent labels entries words) (now (option .entry))) ⌝ }
 {

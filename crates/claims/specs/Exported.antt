@@ -66,7 +66,7 @@ use Rattle.places.specs.Places.{PartFrom}
 use Rattle.listing.specs.Listing.{listAnswer, listOut, labelGiven, labelAnswer, labelFrom}
 use Rattle.output.specs.Output.{textAnswer, textOut}
 use Rattle.fixed_load.specs.Records.{lineFrom, recordFrom}
-use Rattle.cipso_option.specs.Option.{writeAnswer, writeOut, peerGiven, peerShown}
+use Rattle.cipso_option.specs.Option.{optionAnswer, optionOut, peerGiven, peerShown}
 use Rattle.reports.specs.Report.{freshLoader}
 use Rattle.load.specs.Loader.{pieceAnswer, pieceAfter, endAnswer, endAfter}
 use Rattle.lists.specs.Called.{first, second, third, fourth, fifth, sixth, seventh, lent, left, loading, loaded}
@@ -176,8 +176,8 @@ pub record ExportedCalls : Type 0 where
       × (second l ≡ textOut (recordFrom (now (first a))) (now (second a))) × (first l ≡ tt))
   -- the packet option of a label, at the front of the lent buffer; and the label of an option
   pub write-option : Promise write-option.ended write-option-reads.Asked write-option-reads.Learnt
-      (λ κs a r l. (r ≡ outputShown (writeAnswer (lent a) (now (fourth a)) (now (fifth a))))
-      × (fifth l ≡ writeOut (lent a) (now (fourth a)) (now (fifth a))) × (first l ≡ tt) × (second l ≡ tt) × (third l ≡ tt) × (fourth l ≡ tt))
+      (λ κs a r l. (r ≡ outputShown (optionAnswer (lent a) (now (fourth a)) (now (fifth a))))
+      × (fifth l ≡ optionOut (lent a) (now (fourth a)) (now (fifth a))) × (first l ≡ tt) × (second l ≡ tt) × (third l ≡ tt) × (fourth l ≡ tt))
   pub read-option : Promise read-option.ended read-option-reads.Asked read-option-reads.Learnt
       (λ κs a r l. (r ≡ peerShown (peerGiven (lent a) (now (fourth a)))) × (l ≡ (tt, (tt, (tt, (tt, tt))))))
   -- the very part of the lent labels, as a host in Rattle gets it: its bytes, and where it points

@@ -126,6 +126,6 @@ pub record NumbersOf02 : Type 0 where
       × (take (length l) (peerShown (option.label l) .bytes) ≡ l) × (length (peerShown (option.label l) .bytes) ≡ 255)
       × ((i : ℕ) → length l ≤ i → getD (peerShown (option.label l) .bytes) i 0 ≡ 0)
   pub peer-refused : (n : ℕ) →
-      (peerShown (option.unread n) .refused ≡ true) × (peerShown (option.unread n) .number ≡ n) × (peerShown (option.unread n) .length ≡ 0)
-      × (length (peerShown (option.unread n) .bytes) ≡ 255) × ((i : ℕ) → getD (peerShown (option.unread n) .bytes) i 0 ≡ 0)
+      (peerShown (option.not-read n) .refused ≡ true) × (peerShown (option.not-read n) .number ≡ n) × (peerShown (option.not-read n) .length ≡ 0)
+      × (length (peerShown (option.not-read n) .bytes) ≡ 255) × ((i : ℕ) → getD (peerShown (option.not-read n) .bytes) i 0 ≡ 0)
   pub no-category : noCategories ≡ record { first = 0; second = 0; third = 0 }

@@ -145,8 +145,8 @@ text-says text l level s e = by-length (ltb 1000 (length text)) refl e
         foldl withField (read.Set noCategories) cs ≡ c →
         withSet x n c ≡ mapping l level s →
         MappingText text l level s
-    by-set x f cs n short parts formed number is-level read.Bad q e = let z : _≡_ {A = ℕ} 0 1 = cc in absurd (omega arith)
-    by-set x f cs n short parts formed number is-level (read.Set v) q e =
+    by-set x f cs n short parts formed number mapping-level read.Bad q e = let z : _≡_ {A = ℕ} 0 1 = cc in absurd (omega arith)
+    by-set x f cs n short parts formed number mapping-level (read.Set v) q e =
         let i : x ≡ l = cc in
         let j : n ≡ level = cc in
         let k : v ≡ s = cc in
@@ -159,7 +159,7 @@ text-says text l level s e = by-length (ltb 1000 (length text)) refl e
           parts = parts;
           label = formed;
           number = number;
-          is-level = is-level;
+          mapping-level = mapping-level;
           categories = m .categories;
           has = begun cs v m;
           known = m .known;
@@ -176,8 +176,8 @@ text-says text l level s e = by-length (ltb 1000 (length text)) refl e
         isMappingLevel n ≡ b →
         cond b (withSet x n (foldl withField (read.Set noCategories) cs)) (refused badLevelOrCategory) ≡ mapping l level s →
         MappingText text l level s
-    by-level x f cs n short parts formed q true is-level e = by-set x f cs n short parts formed q is-level (foldl withField (read.Set noCategories) cs) refl e
-    by-level x f cs n short parts formed q false is-level e = let z : _≡_ {A = ℕ} 0 1 = cc in absurd (omega arith)
+    by-level x f cs n short parts formed q true mapping-level e = by-set x f cs n short parts formed q mapping-level (foldl withField (read.Set noCategories) cs) refl e
+    by-level x f cs n short parts formed q false mapping-level e = let z : _≡_ {A = ℕ} 0 1 = cc in absurd (omega arith)
 
     by-number :
         (x f : List ℕ) (cs : List (List ℕ)) →
@@ -226,7 +226,7 @@ says-text text l level s w =
     category-sets .equal (r .0) s .0
     (category-sets .same (r .0) s (m .words) (w .words) (m .known) (w .known)
     (λ k c. same-test (hasCategory (r .0) k) (hasCategory s k) (begun (w .category-fields) (r .0) m k c) (w .has k c))) in
-    rw (le-ltb 1000 (length text) (w .short), w .parts, w .label, w .number, w .is-level, r .1, z)
+    rw (le-ltb 1000 (length text) (w .short), w .parts, w .label, w .number, w .mapping-level, r .1, z)
 
 -- WHAT A MAPPING WRITE SAYS
 pub mapping-says : (text l : List ℕ) (level : ℕ) (s : CategorySet) → (mappingOf text ≡ mapping l level s) ↔ MappingText text l level s

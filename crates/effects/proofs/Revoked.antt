@@ -13,18 +13,19 @@ use Rattle.search.specs.Bytes.{sameBytes}
 use Rattle.search.specs.declared.Found.{Found}
 use Rattle.search.specs.declared.Found.the-variants.{At, Nothing}
 use Rattle.search.proofs.Laws.{no, and-both, not-so, same-refl, same-equal, first-is, first-map, first-same, map-at}
-use Rattle.refusals.specs.Refusals.{tooLong, badLabelAt}
+use Rattle.refusals.specs.Refusals.{damaged, tooLong, badLabelAt}
 use Rattle.alphabet.specs.Alphabet.{wellFormed, badByte}
 use Rattle.store.specs.declared.Rule.{Rule}
 use Rattle.store.specs.Table.{Table, labelIn, labelNumbered, isPair, soundRule}
 use Rattle.store.specs.Pairs.{has-modes, ruleBetween, modesFound, modesBetween}
-use Rattle.store.specs.Layout.{Store, tableOf}
+use Rattle.store.specs.Layout.{Store, tableOf, undamagedOf}
 use Rattle.store.specs.Judged.{Judged, is-skipped, is-refused, is-accepted, onState}
 use Rattle.revoke.specs.declared.Revoked.the-variants.{Count}
 use Rattle.revoke.specs.Revoke.{hasSubject, howMany, revokedRule, withoutModes, subjectCount, revokeWrite, countOf, revokeCount, revokeAnswer}
 use Rattle.access.specs.Access.{effective, answer}
 use Rattle.grown.specs.Sane.{LabelsOnce}
 use Rattle.grown.specs.Pairs.{SoundTable}
+use Rattle.grown.proofs.Pairs.{undamaged-sound}
 use Rattle.grown.proofs.Sane.{one-label, sound-parts, rule-known}
 use Rattle.grown.proofs.Pairs.{answer-same}
 use Rattle.effects.specs.Effects.{cleared, Revokes, CountsRules, rulesOf}
@@ -261,7 +262,16 @@ answer-counts st l count e =
       unknown = λ at. q ∙ ap (subjectCount (tableOf st)) at;
     }
 
+-- a state whose rules are counted is undamaged, and so its table is sound
+counted-sound : (st : Store) (l : List ℕ) (count : ℕ) → revokeAnswer st l ≡ Count count → SoundTable (tableOf st)
+unfolding revokeAnswer onState
+counted-sound st l count e = by-test (undamagedOf st) refl e
+  where
+    by-test : (t : Bool) → undamagedOf st ≡ t → countOf (revokeCount l (tableOf st)) (cond t (revokeWrite l (tableOf st)) (is-refused damaged)) ≡ Count count → SoundTable (tableOf st)
+    by-test true u q = undamaged-sound st u
+    by-test false u q = let z : _≡_ {A = ℕ} 0 1 = cc in absurd (omega arith)
+
 pub answer-counts-once :
-    (st : Store) (l : List ℕ) (count : ℕ) → LabelsOnce (tableOf st) → SoundTable (tableOf st) → revokeAnswer st l ≡ Count count → count ≡ length (rulesOf (tableOf st) l)
+    (st : Store) (l : List ℕ) (count : ℕ) → LabelsOnce (tableOf st) → revokeAnswer st l ≡ Count count → count ≡ length (rulesOf (tableOf st) l)
 unfolding revokeAnswer
-answer-counts-once st l count h whole e = answered-count _ count (onState st (revokeWrite l)) e ∙ revoke-counts (tableOf st) l h whole
+answer-counts-once st l count h e = answered-count _ count (onState st (revokeWrite l)) e ∙ revoke-counts (tableOf st) l h (counted-sound st l count e)

@@ -16,7 +16,7 @@ use Rattle.cipso.specs.Cipso.{mappingLongest}
 abbrev pub OneIs : List (List ℕ) → ℕ → Type 0
 OneIs fs k = (j : ℕ) × (j < length fs) × (numberOf (getD fs j []) ≡ Value k)
 
--- 01: label, level, then no or more categories. The set has those categories that are written, repeats or not, and no other bit
+-- 01: label, level (02, Five: not 250), then no or more categories. The set has those categories that are written, repeats or not, and no other bit
 pub record MappingText (text l : List ℕ) (level : ℕ) (set : CategorySet) : Type 0 where
   pub short : length text ≤ mappingLongest
   pub level-field : List ℕ
@@ -24,7 +24,7 @@ pub record MappingText (text l : List ℕ) (level : ℕ) (set : CategorySet) : T
   pub parts : fields text ≡ l ∷ level-field ∷ category-fields
   pub label : wellFormed l ≡ true
   pub number : numberOf level-field ≡ Value level
-  pub is-level : isMappingLevel level ≡ true
+  pub mapping-level : isMappingLevel level ≡ true
   pub categories : (j : ℕ) → j < length category-fields → (k : ℕ) × (numberOf (getD category-fields j []) ≡ Value k) × (isCategory k ≡ true)
   pub has : (k : ℕ) → isCategory k ≡ true → (hasCategory set k ≡ true) ↔ OneIs category-fields k
   pub known : knownSet set ≡ true

@@ -31,10 +31,10 @@ pub fn accepted_revoke_clears_its_subject()
 {}
 
 // Its answer is how many rules have that subject: of every state by the label's number, and by the label's bytes where
-// no label is stored twice.
+// every label is well formed and stored once.
 pub fn revoke_counts_its_rules()
     ensures { λ _. ⌜ ((st : Store) (l : List ℕ) (count : ℕ) → revokeAnswer st l ≡ Count count → CountsRules (tableOf st) l count) ⌝ }
-    ensures { λ _. ⌜ ((st : Store) (l : List ℕ) (count : ℕ) → LabelsOnce (tableOf st) → SoundTable (tableOf st) → revokeAnswer st l ≡ Count count →
+    ensures { λ _. ⌜ ((st : Store) (l : List ℕ) (count : ℕ) → LabelsOnce (tableOf st) → revokeAnswer st l ≡ Count count →
         count ≡ length (rulesOf (tableOf st) l)) ⌝ }
 {}
 
@@ -70,7 +70,7 @@ pub fn what_a_label_is_mapped_to()
     ensures { λ _. ⌜ ((t : Table) (l : List ℕ) → LabelsMapping t l) ⌝ }
 {}
 
-// The look-up by level and set finds the lowest-numbered label that has both, or none.
+// The look-up by level and set, where they can be sought, finds the lowest-numbered label that has both, or none; where every label is well formed and stored once.
 pub fn lowest_label_of_a_level_and_set()
     ensures { λ _. ⌜ ((t : Table) (level : ℕ) (set : CategorySet) → LabelsOnce t → sought level set ≡ true → LowestLabel t level set) ⌝ }
 {}

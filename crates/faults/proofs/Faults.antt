@@ -50,7 +50,7 @@ use Rattle.lookups.specs.declared.Lookup.{Lookup}
 use Rattle.lookups.specs.declared.Lookup.the-variants as lookup
 use Rattle.lookups.specs.declared.Label.{Label}
 use Rattle.lookups.specs.declared.Label.the-variants as label
-use Rattle.cipso_option.specs.Option.{ourDoi, optionBy, labelOption, optionGiven, writeAnswer, doiIn, isOption, Peer, unread, ownPeer, mappedPeer, peerAt, peerOf, peerGiven}
+use Rattle.cipso_option.specs.Option.{ourDoi, optionBy, labelOption, optionGiven, optionAnswer, doiIn, isOption, Peer, not-read, ownPeer, mappedPeer, peerAt, peerOf, peerGiven}
 use Rattle.cipso_option.specs.Option as peer
 use Rattle.cipso_option.proofs.Laws.{option-short, option-long, option-tests, option-sized, doi-tests}
 use Rattle.run.specs.declared.Record.{Record}
@@ -115,7 +115,7 @@ use Rattle.faults.specs.Faults.{
   writeOptionFaults,
   isNot,
   otherLayout,
-  anotherDoi,
+  doiIsNot3,
   optionLevel,
   optionBitmap,
   rebuilt,
@@ -219,14 +219,14 @@ of-label = refuses label.Refused label-by (λ n. refl) from
 
 abbrev peer-by : Peer → First ℕ
 peer-by (peer.label x) = none
-peer-by (unread n) = by n
+peer-by (not-read n) = by n
 
-of-peer : (x : Peer) (faults : List (Fault ℕ)) → peer-by x ≡ firstFault faults → Refuses x unread faults
-of-peer = refuses unread peer-by (λ n. refl) from
+of-peer : (x : Peer) (faults : List (Fault ℕ)) → peer-by x ≡ firstFault faults → Refuses x not-read faults
+of-peer = refuses not-read peer-by (λ n. refl) from
   where
-    from : (x : Peer) (n : ℕ) → peer-by x ≡ by n → x ≡ unread n
+    from : (x : Peer) (n : ℕ) → peer-by x ≡ by n → x ≡ not-read n
     from (peer.label x) n q = let z : _≡_ {A = ℕ} 0 1 = cc in absurd (omega arith)
-    from (unread m) n q = let z : m ≡ n = cc in ap unread z
+    from (not-read m) n q = let z : m ≡ n = cc in ap not-read z
 
 abbrev answer-by : Answer → First Refusal
 answer-by (a.Granted x y) = none
@@ -788,8 +788,8 @@ run-refused records level set =
 
 -- ---- the packet option, written
 
-write-option-refused : (st : Store) (x out : List ℕ) → Refuses (writeAnswer st x out) l.Refused (writeOptionFaults st x out)
-unfolding writeAnswer optionGiven labelOption labelLookup
+write-option-refused : (st : Store) (x out : List ℕ) → Refuses (optionAnswer st x out) l.Refused (writeOptionFaults st x out)
+unfolding optionAnswer optionGiven labelOption labelLookup
 write-option-refused st x out =
     of-output _ (writeOptionFaults st x out)
     (state-first (λ y. output-by (textAnswer y out)) (undamagedOf st) _ (output.refused 0) _ refl (λ u. by-formed (wellFormed x)))
@@ -856,7 +856,7 @@ layout-tested o = by-length (ltb (length o) 10) refl (ltb 40 (length o)) refl
         ∙ by-tests (eqb (getD o 0 0) 134) (eqb (getD o 1 0) (length o)) (eqb (getD o 6 0) 1) (eqb (getD o 7 0) (length o - 6)) (eqb (getD o 8 0) 0)
 
 -- and its DOI is ours exactly where it is no other
-doi-tested : (o : List ℕ) → 10 ≤ length o → sameBytes (doiIn o) ourDoi ≡ not (anotherDoi o)
+doi-tested : (o : List ℕ) → 10 ≤ length o → sameBytes (doiIn o) ourDoi ≡ not (doiIsNot3 o)
 doi-tested o h = sym (doi-tests o h) ∙ by-tests (eqb (getD o 2 0) 0) (eqb (getD o 3 0) 0) (eqb (getD o 4 0) 0) (eqb (getD o 5 0) 3)
   where
     by-tests : (p q r s : Bool) → (p && (q && (r && s))) ≡ not (not p || (not q || (not r || not s)))
@@ -897,7 +897,7 @@ module _ (t : Table) (o : List ℕ) (h : isLevel (optionLevel o) ≡ true) where
       among : Found
       among = first (hasBoth t (optionLevel o) (setOfBitmap (optionBitmap o))) (entries (λ (k : ℕ). k) (length (t .labels)))
 
-      by-own : (b : Bool) → peer-by (cond b (peer.label (rebuilt o)) (unread 3)) ≡ cond (not b) (by 3) none
+      by-own : (b : Bool) → peer-by (cond b (peer.label (rebuilt o)) (not-read 3)) ≡ cond (not b) (by 3) none
       by-own true = refl
       by-own false = refl
 
@@ -916,7 +916,7 @@ module _ (t : Table) (o : List ℕ) (h : isLevel (optionLevel o) ≡ true) where
 
   peer-first :
       peer-by (peerOf t o)
-      ≡ cond (otherLayout o) (by 16) (cond (anotherDoi o) (by 17) (cond (not (onlyCategories (optionBitmap o))) (by 18) (firstFault peerFaults)))
+      ≡ cond (otherLayout o) (by 16) (cond (doiIsNot3 o) (by 17) (cond (not (onlyCategories (optionBitmap o))) (by 18) (firstFault peerFaults)))
   unfolding peerOf
   peer-first = rw (layout-tested o) (by-layout (otherLayout o) refl)
     where
@@ -925,7 +925,7 @@ module _ (t : Table) (o : List ℕ) (h : isLevel (optionLevel o) ≡ true) where
 
       by-tests :
           (b c : Bool) →
-          peer-by (cond (not b) (cond c given (unread 18)) (unread 17)) ≡ cond b (by 17) (cond (not c) (by 18) (firstFault peerFaults))
+          peer-by (cond (not b) (cond c given (not-read 18)) (not-read 17)) ≡ cond b (by 17) (cond (not c) (by 18) (firstFault peerFaults))
       by-tests true c = refl
       by-tests false true = peer-at
       by-tests false false = refl
@@ -933,16 +933,16 @@ module _ (t : Table) (o : List ℕ) (h : isLevel (optionLevel o) ≡ true) where
       by-layout :
           (a : Bool) →
           otherLayout o ≡ a →
-          peer-by (cond (not a) (cond (sameBytes (doiIn o) ourDoi) (cond (onlyCategories (optionBitmap o)) given (unread 18)) (unread 17)) (unread 16))
-          ≡ cond a (by 16) (cond (anotherDoi o) (by 17) (cond (not (onlyCategories (optionBitmap o))) (by 18) (firstFault peerFaults)))
+          peer-by (cond (not a) (cond (sameBytes (doiIn o) ourDoi) (cond (onlyCategories (optionBitmap o)) given (not-read 18)) (not-read 17)) (not-read 16))
+          ≡ cond a (by 16) (cond (doiIsNot3 o) (by 17) (cond (not (onlyCategories (optionBitmap o))) (by 18) (firstFault peerFaults)))
       by-layout true q = refl
-      by-layout false q = rw (doi-tested o (option-sized o (layout-tested o ∙ ap not q) .0)) (by-tests (anotherDoi o) (onlyCategories (optionBitmap o)))
+      by-layout false q = rw (doi-tested o (option-sized o (layout-tested o ∙ ap not q) .0)) (by-tests (doiIsNot3 o) (onlyCategories (optionBitmap o)))
 
-read-option-refused : (st : Store) (o : List ℕ) → isLevel (optionLevel o) ≡ true → Refuses (peerGiven st o) unread (readOptionFaults st o)
+read-option-refused : (st : Store) (o : List ℕ) → isLevel (optionLevel o) ≡ true → Refuses (peerGiven st o) not-read (readOptionFaults st o)
 unfolding peerGiven
 read-option-refused st o h =
     of-peer _ (readOptionFaults st o)
-    (state-first peer-by (undamagedOf st) (peerOf (tableOf st) o) (unread 0) _ refl (λ u. peer-first (tableOf st) o h))
+    (state-first peer-by (undamagedOf st) (peerOf (tableOf st) o) (not-read 0) _ refl (λ u. peer-first (tableOf st) o h))
 
 -- ---- a question
 

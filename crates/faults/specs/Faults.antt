@@ -41,7 +41,7 @@ use Rattle.lookups.specs.Lookups.{labelLookup, hasBoth, byLabelOf, byLevelOf}
 use Rattle.lookups.specs.declared.Lookup.{Lookup}
 use Rattle.lookups.specs.declared.Lookup.the-variants as lookup
 use Rattle.lookups.specs.declared.Label.the-variants as label
-use Rattle.cipso_option.specs.Option.{trimmed, optionOf, ownLongest, writeAnswer, unread, peerGiven}
+use Rattle.cipso_option.specs.Option.{trimmed, optionOf, ownLongest, optionAnswer, not-read, peerGiven}
 use Rattle.run.specs.declared.Record.{Record}
 use Rattle.run.specs.Run.{runOf}
 use Rattle.access.specs.Access.{isFound, answer, questionOf}
@@ -246,7 +246,8 @@ byLevelFaults st level set = refusal.damaged .number when not (undamagedOf st) �
 
 -- ---- packet option (02, Five): written 3 19 12; read 16 17 18, then 3 at level 250 and 21 at any other
 
--- the option of a label: that of its mapping; its own bits at level 250 where it has none. A label that is not well formed has no option
+-- the option of a label: that of its mapping; its own bits at level 250 where it has none (one over 23 bytes has got 19 before). A label that is not well formed
+-- has no option
 abbrev pub optionFor : List ℕ → Lookup → List ℕ
 optionFor x (lookup.Mapped level set count) = optionOf level set
 optionFor x lookup.Unmapped = optionOf ownLevel (setOfOwn x)
@@ -277,8 +278,8 @@ otherLayout option =
     || isNot option 8 0)))))
 
 -- another DOI than 3, high byte first
-abbrev pub anotherDoi : List ℕ → Bool
-anotherDoi option = isNot option 2 0 || (isNot option 3 0 || (isNot option 4 0 || isNot option 5 3))
+abbrev pub doiIsNot3 : List ℕ → Bool
+doiIsNot3 option = isNot option 2 0 || (isNot option 3 0 || (isNot option 4 0 || isNot option 5 3))
 
 -- the level, and the bitmap behind it
 abbrev pub optionLevel : List ℕ → ℕ
@@ -300,7 +301,7 @@ abbrev pub readOptionFaults : Store → List ℕ → List (Fault ℕ)
 readOptionFaults st option =
     refusal.damaged .number when not (undamagedOf st)
     ∷ refusal.badOption .number when otherLayout option
-    ∷ refusal.otherDoi .number when anotherDoi option
+    ∷ refusal.otherDoi .number when doiIsNot3 option
     ∷ refusal.badOptionCategory .number when not (onlyCategories (optionBitmap option))
     ∷ refusal.badLabel .number when (eqb (optionLevel option) ownLevel && not (wellFormed (rebuilt option)))
     ∷ refusal.noSuchMapping .number when (not (eqb (optionLevel option) ownLevel) && not (someLabelHas (tableOf st) (optionLevel option) (setOfBitmap (optionBitmap option))))
@@ -443,9 +444,9 @@ pub record FirstInOrder : Type 0 where
   pub mapping-by-label : (st : Store) (x : List ℕ) → Refuses (byLabelOf st x) lookup.Refused (byLabelFaults st x)
   pub by-level-and-set : (st : Store) (level : ℕ) (set : CategorySet) → Refuses (byLevelOf st level set) label.Refused (byLevelFaults st level set)
   pub in-a-run : (run : List Record) (level : ℕ) (set : CategorySet) → Refuses (runOf run level set) label.Refused (inRunFaults level set)
-  pub write-option : (st : Store) (x out : List ℕ) → Refuses (writeAnswer st x out) l.Refused (writeOptionFaults st x out)
+  pub write-option : (st : Store) (x out : List ℕ) → Refuses (optionAnswer st x out) l.Refused (writeOptionFaults st x out)
   -- (where byte 9 is a byte: at most 255)
-  pub read-option : (st : Store) (option : List ℕ) → isLevel (optionLevel option) ≡ true → Refuses (peerGiven st option) unread (readOptionFaults st option)
+  pub read-option : (st : Store) (option : List ℕ) → isLevel (optionLevel option) ≡ true → Refuses (peerGiven st option) not-read (readOptionFaults st option)
   pub question :
       (st : Store) (s o request : List ℕ) (capable : Bool) →
       Refuses (questionOf st s o request capable) a.Refused (questionFaults st s o request)

@@ -35,7 +35,7 @@ use Rattle.lists.specs.Reader.{Write, change, revoke, onlycap, mapping, judgeWr
 use Rattle.cipso.specs.Cipso as cipso
 use Rattle.cipso.proofs.Laws.{Maps, maps}
 use Rattle.grown.specs.Grown.{Grown, from-fresh, by-line, by-write}
-use Rattle.grown.specs.Sane.{levelled, twoLabels, Sane}
+use Rattle.grown.specs.Sane.{atMappingLevel, twoLabels, Sane}
 use Rattle.grown.proofs.Sane.{samePair, sound-parts, sound-whole, five-front, front-five, fresh-sane, said-sane}
 
 -- ---- revoke-subject: rules lose their modes, and nothing else changes
@@ -141,7 +141,7 @@ entered-sane :
     length ls ≤ 64 →
     all (soundMapping (length ls)) ms ≡ true →
     Distinct (λ (m : Mapping). names (m .label)) none ms →
-    all levelled ms ≡ true →
+    all atMappingLevel ms ≡ true →
     ((k : ℕ) → k < length ms → InWords (getD ms k none .set)) →
     length ms ≤ 32 →
     all (λ (k : ℕ). ltb k (length ls)) os ≡ true →
@@ -270,7 +270,7 @@ module _ (t : Table) (l : List ℕ) (level : ℕ) (s : CategorySet) (h : Sane t)
       (rw enter-length (place-count (labelIn t l) (length (t .labels)) 64 (h .labels) room))
       (all-put (soundMapping (length (enter (t .labels) l))) (mappingIn t numbered) (t .mappings) newMapping (mappings-more t (enter (t .labels) l) h front) new-sound)
       (distinct-put sameNames none (t .mappings) newMapping same-names (h .mapping-once))
-      (all-put levelled (mappingIn t numbered) (t .mappings) newMapping (h .levels) mapped)
+      (all-put atMappingLevel (mappingIn t numbered) (t .mappings) newMapping (h .levels) mapped)
       (put-words (mappingIn t numbered) (first-place (names numbered) none (t .mappings)))
       (rw length-put (place-count (mappingIn t numbered) (length (t .mappings)) 32 (h .mappings) place))
       (onlycap-more t (enter (t .labels) l) h front)

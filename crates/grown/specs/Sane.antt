@@ -1,5 +1,5 @@
--- What holds of every table grown from a fresh one. Of a lent state it need not hold: that can have a label, a pair or a mapping twice, or a
--- rule from a label to itself. Assumes nothing.
+-- What holds of every table grown from a fresh one. Of a lent state it need not hold: that can have a label, a pair or a mapping twice, a
+-- rule from a label to itself, or a mapping at level 250. Assumes nothing.
 use Prim.Native.Nat.{ℕ, _<_, _≤_}
 use mathlib.Core.Bool.{Bool, true, not}
 use mathlib.Core.Path.{_≡_}
@@ -19,8 +19,8 @@ pub record LabelsOnce (t : Table) : Type 0 where
   pub label-once : (k : ℕ) → k < length (t .labels) → labelIn t (labelNumbered t k) ≡ At k
 
 -- 02, Five: whether a mapping's level is one that a write may give, which 250 is not
-abbrev pub levelled : Mapping → Bool
-levelled m = isMappingLevel (m .level)
+abbrev pub atMappingLevel : Mapping → Bool
+atMappingLevel m = isMappingLevel (m .level)
 
 -- whether a rule's subject is not its object
 abbrev pub twoLabels : Rule → Bool
@@ -37,8 +37,8 @@ pub record Sane (t : Table) : Type 0 where
   pub sound : soundTable (length (t .labels)) t ≡ true
   -- no label has two mappings: each mapping is found at its own place
   pub mapping-once : (k : ℕ) → k < length (t .mappings) → mappingIn t (mappingNumbered t k .label) ≡ At k
-  -- no mapping is at level 250
-  pub levels : all levelled (t .mappings) ≡ true
+  -- every mapping's level is 0 to 255 and not 250
+  pub levels : all atMappingLevel (t .mappings) ≡ true
   -- every set is three words of 64 bits
   pub in-words : (k : ℕ) → k < length (t .mappings) → InWords (mappingNumbered t k .set)
   -- at most 64 labels, 256 rules, 32 mappings and 8 labels in the onlycap list

@@ -20,7 +20,7 @@ use Rattle.lookups.specs.Lookups.{byLabelOf, byLevelOf}
 use Rattle.lookups.specs.declared.Lookup.the-variants as lookup
 use Rattle.lookups.specs.declared.Label.the-variants as label
 use Rattle.listing.specs.Listing.{listAnswer, listOut, labelGiven, labelAnswer}
-use Rattle.cipso_option.specs.Option.{optionGiven, writeAnswer, writeOut, unread, peerGiven, peerShown}
+use Rattle.cipso_option.specs.Option.{optionGiven, optionAnswer, optionOut, not-read, peerGiven, peerShown}
 use Rattle.output.specs.declared.Output.the-variants as listed
 use Rattle.access.specs.Access.{questionOf}
 use Rattle.answers.specs.Answers.{shown}
@@ -92,8 +92,8 @@ module _ (st : Store) (u : undamagedOf st ≡ true) where
   unfolding listAnswer listOut
   list-says k out = rw u
 
-  pub option-says : (l out : List ℕ) → r.listed (outputShown (writeAnswer st l out)) (writeOut st l out) ≡ askSays (tableOf st) (r.write-option l out)
-  unfolding writeAnswer writeOut optionGiven
+  pub option-says : (l out : List ℕ) → r.listed (outputShown (optionAnswer st l out)) (optionOut st l out) ≡ askSays (tableOf st) (r.write-option l out)
+  unfolding optionAnswer optionOut optionGiven
   option-says l out = rw u
 
   pub peer-says : (option : List ℕ) → r.peer (peerShown (peerGiven st option)) ≡ askSays (tableOf st) (r.read-option option)
@@ -157,11 +157,11 @@ module _ (st : Store) (u : undamagedOf st ≡ false) where
   unfolding byLevelOf
   by-level-refused level set = rw u
 
-  pub option-refused : (l out : List ℕ) → (writeAnswer st l out ≡ listed.Refused 0) × (writeOut st l out ≡ out)
-  unfolding writeAnswer writeOut optionGiven
+  pub option-refused : (l out : List ℕ) → (optionAnswer st l out ≡ listed.Refused 0) × (optionOut st l out ≡ out)
+  unfolding optionAnswer optionOut optionGiven
   option-refused l out = (rw u, rw u)
 
-  pub peer-refused : (option : List ℕ) → peerGiven st option ≡ unread 0
+  pub peer-refused : (option : List ℕ) → peerGiven st option ≡ not-read 0
   unfolding peerGiven
   peer-refused option = rw u
 

@@ -19,10 +19,11 @@ levelLimit = 255
 abbrev pub isLevel : ℕ → Bool
 isLevel n = leb n levelLimit
 
--- 02, Five: the level at which an unmapped label goes as its own bits; a mapping is written at any other
+-- 02, Five: the level at which an unmapped label goes as its own bits
 abbrev pub ownLevel : ℕ
 ownLevel = 250
 
+-- no mapping is written at it. (It can be looked up, and a lent state can have it)
 abbrev pub isMappingLevel : ℕ → Bool
 isMappingLevel n = isLevel n && not (eqb n ownLevel)
 

@@ -1,4 +1,4 @@
-// The decimal numbers of levels and categories, and a set of categories as bits of three u64 (01, Mapping; 02, Four).
+// The decimal numbers of levels and categories, and a set of categories as bits of three u64 (01, Mapping; 02, Four and Five).
 ghost use mathlib.Core.Path.{_≡_};
 ghost use Prim.Native.Nat.{_^_, _<_};
 ghost use lib.ListN.{length};
@@ -9,10 +9,10 @@ ghost use Rattle.numbers.specs.Within.{Category};
 // Level 0 to 255, category 1 to 184.
 pub const LEVEL_LIMIT: u64 = 255;
 
+pub const CATEGORY_LIMIT: u64 = 184;
+
 // The level at which an unmapped label goes as its own bits (02, Five).
 pub const OWN_LEVEL: u64 = 250;
-
-pub const CATEGORY_LIMIT: u64 = 184;
 
 // A set of categories: a number of 192 bits, the highest 64 in `first`. Category 1 is the top bit, and the eight lowest are no category.
 #[repr(C)]

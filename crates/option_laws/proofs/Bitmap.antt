@@ -19,9 +19,9 @@ use Rattle.numbers.proofs.Sets.{same-set, passing-has, passing-words, passing-k
 use Rattle.set_bytes.specs.SetBytes.{bitAt, bitmapBytes, setOfBitmap, onlyCategories}
 use Rattle.set_bytes.proofs.Laws.{bitmap-length, bitmap-bits, bitmap-tells, bits-and-categories}
 use Rattle.store.specs.Table.{Table}
-use Rattle.cipso_option.specs.Option.{optionBytes, ourDoi, untilLast, trimmed, optionOf, levelIn, bitmapIn, doiIn, isOption, Peer, unread, peerAt, peerOf}
+use Rattle.cipso_option.specs.Option.{optionBytes, ourDoi, untilLast, trimmed, optionOf, zeroBytes, levelIn, bitmapIn, doiIn, isOption, Peer, not-read, peerAt, peerOf}
 use Rattle.cipso_option.proofs.Laws.{trimmed-short, same-refl}
-use Rattle.option_laws.specs.Bitmap.{zeros, OptionBits}
+use Rattle.option_laws.specs.Bitmap.{OptionBits}
 
 -- ---- bytes without trailing zero bytes
 
@@ -113,7 +113,7 @@ module _ (a b : List ℕ) (h : (i : ℕ) → getD a i 0 ≡ getD b i 0) where
 
 -- our option of any level and bitmap, of at most 30 bytes: what is left is its categories
 pub read-ours : (t : Table) (level : ℕ) (bitmap : List ℕ) → length bitmap ≤ 30
-    → peerOf t (optionBytes ourDoi level bitmap) ≡ cond (onlyCategories bitmap) (peerAt t level (setOfBitmap bitmap)) (unread 18)
+    → peerOf t (optionBytes ourDoi level bitmap) ≡ cond (onlyCategories bitmap) (peerAt t level (setOfBitmap bitmap)) (not-read 18)
 unfolding peerOf isOption
 read-ours t level bitmap h = rw (le-leb (length bitmap) 30 h, same-refl (optionBytes ourDoi level bitmap), same-refl ourDoi)
 
@@ -130,25 +130,29 @@ module _ (s : CategorySet) (w : InWords s) (known : knownSet s ≡ true) where
       read-ours t level (trimmed (bitmapBytes s)) (omega (arith, trimmed-short (bitmapBytes s), bitmap-length s))
       ∙ rw only-written (ap (peerAt t level) (bitmap-tells s w known (trimmed (bitmapBytes s)) written-bits))
 
-zeros-length : (k : ℕ) → length (zeros k) ≡ k
-zeros-length k = entries-length {A = ℕ} (λ (j : ℕ). 0) k
+zero-bytes-length : (k : ℕ) → length (zeroBytes k) ≡ k
+zero-bytes-length k = entries-length {A = ℕ} (λ (j : ℕ). 0) k
 
 -- zero bytes behind a bitmap
-behind-zeros : (b : List ℕ) (k i : ℕ) → getD (b ++ zeros k) i 0 ≡ getD b i 0
-behind-zeros [] k i = by-test (ltb i k) refl
+behind-zero-bytes : (b : List ℕ) (k i : ℕ) → getD (b ++ zeroBytes k) i 0 ≡ getD b i 0
+behind-zero-bytes [] k i = by-test (ltb i k) refl
   where
-    by-test : (t : Bool) → ltb i k ≡ t → getD (zeros k) i 0 ≡ 0
+    by-test : (t : Bool) → ltb i k ≡ t → getD (zeroBytes k) i 0 ≡ 0
     by-test true e = entries-at (λ (j : ℕ). 0) 0 k i (ltb-true i k e)
-    by-test false e = List·getD-eq-default (zeros k) 0 (omega (arith, ltb-false i k e, zeros-length k))
-behind-zeros (x ∷ xs) k zero = refl
-behind-zeros (x ∷ xs) k (suc i) = behind-zeros xs k i
+    by-test false e = List·getD-eq-default (zeroBytes k) 0 (omega (arith, ltb-false i k e, zero-bytes-length k))
+behind-zero-bytes (x ∷ xs) k zero = refl
+behind-zero-bytes (x ∷ xs) k (suc i) = behind-zero-bytes xs k i
 
-padded : (t : Table) (level : ℕ) (bitmap : List ℕ) (k : ℕ) → length bitmap + k ≤ 30 → peerOf t (optionBytes ourDoi level (bitmap ++ zeros k)) ≡ peerOf t (optionBytes ourDoi level bitmap)
+padded : (t : Table) (level : ℕ) (bitmap : List ℕ) (k : ℕ) → length bitmap + k ≤ 30 → peerOf t (optionBytes ourDoi level (bitmap ++ zeroBytes k)) ≡ peerOf t (optionBytes ourDoi level bitmap)
 padded t level bitmap k h =
-    let long = length-append bitmap (zeros k) in
-    let few = zeros-length k in
-    read-ours t level (bitmap ++ zeros k) (omega (arith, long, few))
-    ∙ rw (only-same (bitmap ++ zeros k) bitmap (behind-zeros bitmap k), set-same (bitmap ++ zeros k) bitmap (behind-zeros bitmap k)) (sym (read-ours t level bitmap (omega arith)))
+    let long = length-append bitmap (zeroBytes k) in
+    let few = zero-bytes-length k in
+    read-ours t level (bitmap ++ zeroBytes k) (omega (arith, long, few))
+    ∙ rw (only-same (bitmap ++ zeroBytes k) bitmap (behind-zero-bytes bitmap k), set-same (bitmap ++ zeroBytes k) bitmap (behind-zero-bytes bitmap k)) (sym (read-ours t level bitmap (omega arith)))
+
+option-is : (level : ℕ) (s : CategorySet) → optionOf level s ≡ 134 ∷ (10 + length (trimmed (bitmapBytes s))) ∷ 0 ∷ 0 ∷ 0 ∷ 3 ∷ 1 ∷ (4 + length (trimmed (bitmapBytes s))) ∷ 0 ∷ level ∷ trimmed (bitmapBytes s)
+unfolding optionOf
+option-is level s = refl
 
 option-length : (level : ℕ) (s : CategorySet) → length (optionOf level s) ≡ 10 + length (trimmed (bitmapBytes s))
 unfolding optionOf
@@ -160,6 +164,7 @@ option-bits =
       same = trimmed-at;
       shorter = trimmed-short;
       last = trimmed-last;
+      bytes = option-is;
       bits = written-bits;
       least = λ level s. omega (arith, option-length level s);
       most = λ level s. omega (arith, option-length level s, trimmed-short (bitmapBytes s), bitmap-length s);

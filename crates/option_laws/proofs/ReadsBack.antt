@@ -19,7 +19,7 @@ use Rattle.numbers.specs.declared.CategorySet.{CategorySet}
 use Rattle.numbers.proofs.Sets.{passing-words, passing-known}
 use Rattle.set_bytes.specs.SetBytes.{bitAt, ownBytes, setOfOwn, Bytes}
 use Rattle.set_bytes.proofs.Laws.{own-length, own-byte}
-use Rattle.output.specs.Output.{Text, text, refused}
+use Rattle.output.specs.Output.{text, refused, textAnswer}
 use Rattle.output.specs.declared.Output.the-variants.{Length}
 use Rattle.output.proofs.Laws.{length-answered}
 use Rattle.store.specs.declared.Mapping.{Mapping}
@@ -30,9 +30,9 @@ use Rattle.lookups.specs.declared.Lookup.{Lookup}
 use Rattle.lookups.specs.declared.Lookup.the-variants.{Mapped, Unmapped}
 use Rattle.lookups.specs.declared.Label.{Label}
 use Rattle.lookups.specs.declared.Label.the-variants as found
-use Rattle.cipso_option.specs.Option.{trimmed, optionOf, optionBy, labelOption, optionGiven, writeAnswer, writeOut, Peer, label, unread, ownPeer, mappedPeer, peerAt, peerOf, peerGiven}
+use Rattle.cipso_option.specs.Option.{trimmed, optionOf, optionBy, labelOption, optionGiven, optionAnswer, optionOut, Peer, label, not-read, ownPeer, mappedPeer, peerAt, peerOf, peerGiven}
 use Rattle.grown.specs.Grown.{Grown}
-use Rattle.grown.specs.Sane.{levelled, Sane}
+use Rattle.grown.specs.Sane.{atMappingLevel, Sane}
 use Rattle.grown.proofs.Sane.{sound-parts}
 use Rattle.grown.proofs.Growing.{grown-sane}
 use Rattle.effects.specs.OverrideAndLookUp.{HasBoth}
@@ -107,7 +107,7 @@ module _ (t : Table) (h : Sane t) (l b : List ℕ) (e : labelOption t l ≡ text
         let below = first-is (names (m .2 .0)) none (t .mappings) k (m .2 .2) .0 in
         let m′ = getD (t .mappings) k none in
         let sound = and-both (ltb (m′ .label) (length (t .labels))) (knownSet (m′ .set)) (all-at (soundMapping (length (t .labels))) none (t .mappings) (sound-parts t (length (t .labels)) (h .sound) .1) k below) in
-        (m .0, ap isMappingLevel (sym (m .3)) ∙ all-at levelled none (t .mappings) (h .levels) k below, subst InWords (m .4) (h .in-words k below), ap knownSet (sym (m .4)) ∙ sound .1, m .5)
+        (m .0, ap isMappingLevel (sym (m .3)) ∙ all-at atMappingLevel none (t .mappings) (h .levels) k below, subst InWords (m .4) (h .in-words k below), ap knownSet (sym (m .4)) ∙ sound .1, m .5)
 
     can-be-sought : sought level s ≡ true
     unfolding sought
@@ -149,15 +149,25 @@ given-is : (st : Store) (l : List ℕ) → undamagedOf st ≡ true → optionGiv
 unfolding optionGiven
 given-is st l u = rw u
 
-pub reads-back : (st : Store) (l out : List ℕ) (n : ℕ) → undamagedOf st ≡ true → Grown (tableOf st) → writeAnswer st l out ≡ Length n → ReadsBack st l (take n (writeOut st l out))
-unfolding writeAnswer writeOut
-reads-back st l out n u g e =
+-- a state in which something is written is undamaged
+written-tested : (st : Store) (l out : List ℕ) (n : ℕ) → optionAnswer st l out ≡ Length n → undamagedOf st ≡ true
+unfolding optionAnswer optionGiven
+written-tested st l out n e = by-test (undamagedOf st) e
+  where
+    by-test : (t : Bool) → textAnswer (cond t (labelOption (tableOf st) l) (refused 0)) out ≡ Length n → t ≡ true
+    by-test true q = refl
+    by-test false q = let z : _≡_ {A = ℕ} 0 1 = cc in absurd (omega arith)
+
+pub reads-back : (st : Store) (l out : List ℕ) (n : ℕ) → Grown (tableOf st) → optionAnswer st l out ≡ Length n → ReadsBack st l (take n (optionOut st l out))
+unfolding optionAnswer optionOut
+reads-back st l out n g e =
+    let u = written-tested st l out n e in
     let w = length-answered .written (optionGiven st l) out n e in
     let b = w .bytes in
-    let is : take n (writeOut st l out) ≡ b = ap (take n) (w .front) ∙ take-at b (drop n out) n (w .long) in
+    let is : take n (optionOut st l out) ≡ b = ap (take n) (w .front) ∙ take-at b (drop n out) n (w .long) in
     let said = sym (given-is st l u) ∙ w .is in
     let h = grown-sane g in
-    let reads : peerGiven st (take n (writeOut st l out)) ≡ peerOf (tableOf st) b = ap (peerGiven st) is ∙ peer-is st b u in
+    let reads : peerGiven st (take n (optionOut st l out)) ≡ peerOf (tableOf st) b = ap (peerGiven st) is ∙ peer-is st b u in
     record {
       unmapped = λ q. reads ∙ table-unmapped (tableOf st) h l b said q;
       mapped = λ level s count k q at before. reads ∙ table-given (tableOf st) h l b said level s count q k at before;

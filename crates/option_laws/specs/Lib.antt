@@ -1,3 +1,4 @@
 pub mod Bitmap
 pub mod ReadsBack
 pub mod Example
+pub mod Says

@@ -47,7 +47,7 @@ rulesFull = plain 7
 abbrev pub badRequest : Refusal
 badRequest = plain 8
 
--- a level is not as 01 says, or a category not as 02, Four
+-- a level is not as 01 says, or is 250 in a mapping write (02, Five); or a category is not as 02, Four, says
 abbrev pub badLevelOrCategory : Refusal
 badLevelOrCategory = plain 9
 

@@ -60,7 +60,7 @@ pub const BAD_REQUEST: Refusal = Refusal {
     place: 0,
 };
 
-// A level is not as 01 says, or a category not as 02, Four.
+// A level is not as 01 says, or is 250 in a mapping write (02, Five); or a category is not as 02, Four, says.
 pub const BAD_LEVEL_OR_CATEGORY: Refusal = Refusal {
     number: 9,
     place: 0,

@@ -630,6 +630,11 @@ module _ (s : CategorySet) (w : InWords s) (known : knownSet s ≡ true) where
       (λ k hk. passing-has p k hk ∙ bits-made (λ (m : ℕ). hasCategory s (m + 1)) 23 (k - 1) (omega (arith, hk)) ∙ ap (hasCategory s) (omega (arith, hk)))
       (eqb-true _ _ (passing-known p) ∙ sym (eqb-true _ _ known))
 
+-- the bits of a set's own bytes
+pub own-bits : (s : CategorySet) (m : ℕ) → m < 184 → bitAt (ownBytes s) m ≡ hasCategory s (m + 1)
+unfolding ownBytes
+own-bits s m h = bits-made (λ (k : ℕ). hasCategory s (k + 1)) 23 m (omega arith)
+
 pub own-has-bit : (b : List ℕ) (i j : ℕ) → i < 23 → j < 8 → hasCategory (setOfOwn b) (8 * i + j + 1) ≡ eqb (getD b i 0 / 2 ^ (7 - j) % 2) 1
 unfolding setOfOwn
 own-has-bit b i j hi hj =

@@ -1,6 +1,6 @@
 -- 02, Five: bytes by their bits, and the two orders in which the bits of bytes are categories: that of an option's bitmap, and that of a label's own bits.
 -- Assumes nothing.
-use Prim.Native.Nat.{ℕ, _+_, _-_, _*_, _/_, _%_, _^_, _<_, _≤_}
+use Prim.Native.Nat.{ℕ, _+_, _-_, _*_, _/_, _%_, _^_, _<_}
 use mathlib.Core.Path.{_≡_}
 use mathlib.Core.Bool.{Bool, true, false, not, _&&_, _||_}
 use mathlib.Core.Logic.{_↔_}
@@ -17,11 +17,12 @@ use Rattle.numbers.specs.declared.CategorySet.{CategorySet}
 abbrev pub bitAt : List ℕ → ℕ → Bool
 bitAt bytes m = eqb (getD bytes (m / 8) 0 / 2 ^ (7 - m % 8) % 2) 1
 
--- the byte whose bit j, from the top, is 1 where j passes a test
+-- the digit of a test
 abbrev pub one : Bool → ℕ
 one true = 1
 one false = 0
 
+-- the byte whose bit j, from the top, is 1 where j passes a test
 unfoldable pub byteWhere : (ℕ → Bool) → ℕ
 byteWhere p =
     one (p 0) * 128 + one (p 1) * 64 + one (p 2) * 32 + one (p 3) * 16 + one (p 4) * 8 + one (p 5) * 4 + one (p 6) * 2 + one (p 7)
@@ -32,10 +33,11 @@ bytesWhere p k = entries (λ (i : ℕ). byteWhere (λ (j : ℕ). p (8 * i + j)))
 
 -- ---- the bitmap: category n is bit n
 
--- 24 bytes hold category 184
+-- the bytes of a set: 24 hold category 184
 unfoldable pub bitmapBytes : CategorySet → List ℕ
 bitmapBytes s = bytesWhere (hasCategory s) 24
 
+-- the set that bytes are
 unfoldable pub setOfBitmap : List ℕ → CategorySet
 setOfBitmap bitmap = setOf (bitAt bitmap)
 
@@ -45,9 +47,11 @@ onlyCategories bitmap = all (λ (n : ℕ). isCategory n || not (bitAt bitmap n))
 
 -- ---- own bits: bit j, from the top, of byte i is category 8i+j+1, so that category n is bit n - 1
 
+-- the bytes of a set: 23 hold every category
 unfoldable pub ownBytes : CategorySet → List ℕ
 ownBytes s = bytesWhere (λ (m : ℕ). hasCategory s (m + 1)) 23
 
+-- the set that bytes are
 unfoldable pub setOfOwn : List ℕ → CategorySet
 setOfOwn bytes = setOf (λ (n : ℕ). bitAt bytes (n - 1))
 
@@ -62,8 +66,8 @@ pub record BitsAndCategories : Type 0 where
   pub made : (p : ℕ → Bool) (k m : ℕ) → m < 8 * k → bitAt (bytesWhere p k) m ≡ p m
   pub whole : (b : List ℕ) → Bytes b → bytesWhere (bitAt b) (length b) ≡ b
   pub in-byte : (b : List ℕ) (i j : ℕ) → j < 8 → bitAt b (8 * i + j) ≡ eqb (getD b i 0 / 2 ^ (7 - j) % 2) 1
-  -- a set's bitmap has its categories and no other bit, and tells the set; a bitmap's set has the categories that are in it; and it has only categories
-  -- exactly where no other bit is 1
+  -- a set's bitmap has its categories and no other bit, and tells the set; a bitmap's set has the categories that are in it; and a bitmap passes
+  -- `onlyCategories` exactly where no other bit of it is 1
   pub bitmap : (s : CategorySet) → InWords s → knownSet s ≡ true → (n : ℕ) → bitAt (bitmapBytes s) n ≡ (isCategory n && hasCategory s n)
   pub bitmap-back : (s : CategorySet) → InWords s → knownSet s ≡ true → setOfBitmap (bitmapBytes s) ≡ s
   pub bitmap-set : (b : List ℕ) (n : ℕ) → isCategory n ≡ true → hasCategory (setOfBitmap b) n ≡ bitAt b n

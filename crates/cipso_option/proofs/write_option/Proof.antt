@@ -8,7 +8,7 @@ use lib.ListN.{length}
 use Rattle.output.specs.Output.{Text, text, refused, textAnswer, textOut}
 use Rattle.store.specs.Layout.{Store, store}
 use Rattle.lookups.specs.declared.Lookup.{Lookup}
-use Rattle.cipso_option.specs.Option.{optionOf, optionBy, optionGiven, writeAnswer, writeOut}
+use Rattle.cipso_option.specs.Option.{optionOf, optionBy, optionGiven, optionAnswer, optionOut}
 use Rattle.cipso_option.proofs.Laws.{option-given}
 use borrow.Author.Needs.{needs}
 use Rattle.cipso_option.proofs.write_option.Statement.{statement}
@@ -43,7 +43,7 @@ enum-told : tie.Need-enum-told
 enum-told c = search needs
 
 returns : tie.Need-returns
-unfolding writeAnswer writeOut
+unfolding optionAnswer optionOut
 returns c =
     let b = c .before .before .before in
     let g : optionGiven (lent b) (name b) ≡ refused 19 = given b (c .before .enum-told .given .1) ∙ rw (lt-leb (length (name b)) 23 (c .if1 .taken)) in
@@ -59,7 +59,7 @@ put-option-requires-2 : tie.Need-put-option-requires-2
 put-option-requires-2 c κs = search needs
 
 returns-2 : tie.Need-returns-2
-unfolding writeAnswer writeOut
+unfolding optionAnswer optionOut
 returns-2 c =
     let b = c .before .before .before in
     let g = given b (c .before .mapped .given .1) in
@@ -69,7 +69,7 @@ same-length : tie.Need-same-length
 same-length c = search needs
 
 returns-3 : tie.Need-returns-3
-unfolding writeAnswer writeOut
+unfolding optionAnswer optionOut
 returns-3 c =
     let p = c .before .before in
     let m = p .before .before .before in
@@ -81,7 +81,7 @@ same-length-2 : tie.Need-same-length-2
 same-length-2 c = search needs
 
 returns-4 : tie.Need-returns-4
-unfolding writeAnswer writeOut
+unfolding optionAnswer optionOut
 returns-4 c =
     let p = c .before .before in
     let i = p .before .before .before in
