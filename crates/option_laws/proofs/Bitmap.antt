@@ -1,25 +1,21 @@
 -- Laws of bytes without trailing zero bytes and of the bitmap that is written, and that the reader takes it. Assumes nothing.
 use mathlib.Core.Path.{_≡_, refl, sym, ap, _∙_}
 use mathlib.Core.Bool.{Bool, true, false, cond, _&&_}
-use mathlib.Core.Logic.{_↔_}
 use mathlib.Core.List.{List, [], _∷_, _++_}
 use Prim.Native.Nat.{ℕ, zero, suc, _+_, _-_, _/_, _%_, _^_, _<_, _≤_}
-use native.Mathlib.Nat.{le-of-suc-le-suc}
 use native.Mathlib.Omega.{arith}
 use lib.Dec.{eqb, ltb}
 use borrow.Author.Tests.{eqb-true, eqb-false, ltb-true, ltb-false, le-leb}
-use lib.ListN.{length, getD, length-append, List·getD-append, List·getD-eq-default}
+use lib.ListN.{length, getD, length-append, List·getD-eq-default}
 use Rattle.search.specs.Search.{entries}
-use Rattle.search.specs.Bytes.{sameBytes}
 use Rattle.search.proofs.Laws.{no, and-both, entries-length, entries-at}
 use Rattle.numbers.specs.Categories.{isCategory, hasCategory, setOf, knownSet, InWords}
-use Rattle.numbers.specs.Within.{Category}
 use Rattle.numbers.specs.declared.CategorySet.{CategorySet}
 use Rattle.numbers.proofs.Sets.{same-set, passing-has, passing-words, passing-known}
 use Rattle.set_bytes.specs.SetBytes.{bitAt, bitmapBytes, setOfBitmap, onlyCategories}
 use Rattle.set_bytes.proofs.Laws.{bitmap-length, bitmap-bits, bitmap-tells, bits-and-categories}
 use Rattle.store.specs.Table.{Table}
-use Rattle.cipso_option.specs.Option.{optionBytes, ourDoi, untilLast, trimmed, optionOf, zeroBytes, levelIn, bitmapIn, doiIn, isOption, Peer, not-read, peerAt, peerOf}
+use Rattle.cipso_option.specs.Option.{optionBytes, ourDoi, untilLast, trimmed, optionOf, zeroBytes, isOption, not-read, peerAt, peerOf}
 use Rattle.cipso_option.proofs.Laws.{trimmed-short, same-refl}
 use Rattle.option_laws.specs.Bitmap.{OptionBits}
 

@@ -1,12 +1,11 @@
 -- Reading what was written. Assumes nothing.
 use mathlib.Core.Path.{_≡_, refl, sym, ap, _∙_, subst}
 use mathlib.Core.Bool.{Bool, true, false, cond, not}
-use mathlib.Core.Logic.{_↔_}
 use mathlib.Core.List.{List, []}
 use Prim.Native.Nat.{ℕ, _-_, _<_, _≤_}
 use native.Mathlib.Omega.{arith}
 use lib.Dec.{eqb, leb, ltb}
-use borrow.Author.Tests.{eqb-false, leb-true, ltb-true, ltb-false, ne-eqb}
+use borrow.Author.Tests.{leb-true, ltb-true, ltb-false}
 use lib.ListN.{length, getD, take, drop, List·getD-eq-default}
 use lib.Seq.{take-at}
 use Rattle.search.specs.Bytes.{sameBytes}
@@ -14,7 +13,7 @@ use Rattle.search.specs.declared.Found.the-variants.{At}
 use Rattle.search.proofs.Laws.{no, and-both, all-at, first-is, same-equal}
 use Rattle.alphabet.specs.Alphabet.{wellFormed}
 use Rattle.alphabet.proofs.Laws.{label-form}
-use Rattle.numbers.specs.Categories.{isLevel, categories, noCategories, setOf, knownSet, InWords, isMappingLevel}
+use Rattle.numbers.specs.Categories.{categories, noCategories, knownSet, InWords, isMappingLevel}
 use Rattle.numbers.specs.declared.CategorySet.{CategorySet}
 use Rattle.numbers.proofs.Sets.{passing-words, passing-known}
 use Rattle.set_bytes.specs.SetBytes.{bitAt, ownBytes, setOfOwn, Bytes}
@@ -23,14 +22,12 @@ use Rattle.output.specs.Output.{text, refused, textAnswer}
 use Rattle.output.specs.declared.Output.the-variants.{Length}
 use Rattle.output.proofs.Laws.{length-answered}
 use Rattle.store.specs.declared.Mapping.{Mapping}
-use Rattle.store.specs.Table.{Table, labelIn, labelNumbered, mappingIn, mappingNumbered, names, soundMapping}
+use Rattle.store.specs.Table.{Table, labelIn, labelNumbered, names, soundMapping}
 use Rattle.store.specs.Layout.{Store, tableOf, undamagedOf}
 use Rattle.lookups.specs.Lookups.{labelLookup, levelLookup, sought}
 use Rattle.lookups.specs.declared.Lookup.{Lookup}
 use Rattle.lookups.specs.declared.Lookup.the-variants.{Mapped, Unmapped}
-use Rattle.lookups.specs.declared.Label.{Label}
-use Rattle.lookups.specs.declared.Label.the-variants as found
-use Rattle.cipso_option.specs.Option.{trimmed, optionOf, optionBy, labelOption, optionGiven, optionAnswer, optionOut, Peer, label, not-read, ownPeer, mappedPeer, peerAt, peerOf, peerGiven}
+use Rattle.cipso_option.specs.Option.{trimmed, optionOf, optionBy, labelOption, optionGiven, optionAnswer, optionOut, label, ownPeer, mappedPeer, peerAt, peerOf, peerGiven}
 use Rattle.grown.specs.Grown.{Grown}
 use Rattle.grown.specs.Sane.{atMappingLevel, Sane}
 use Rattle.grown.proofs.Sane.{sound-parts}

@@ -2,7 +2,7 @@
 use mathlib.Core.Path.{_≡_, refl, sym, ap, _∙_}
 use mathlib.Core.Bool.{Bool, true, false, cond}
 use mathlib.Core.List.{List}
-use Prim.Native.Nat.{ℕ, _+_, _*_, _<_, _≤_}
+use Prim.Native.Nat.{ℕ, _+_, _*_, _≤_}
 use native.Mathlib.Omega.{arith}
 use lib.Dec.{eqb}
 use borrow.Author.Tests.{eq-eqb, ne-eqb, le-leb}
@@ -14,12 +14,12 @@ use Rattle.numbers.proofs.Sets.{category-is}
 use Rattle.set_bytes.specs.SetBytes.{bitAt, ownBytes, setOfBitmap, setOfOwn, onlyCategories}
 use Rattle.set_bytes.proofs.Laws.{own-length, bits-and-categories, own-bits}
 use Rattle.output.specs.Output.{text}
-use Rattle.store.specs.Table.{Table, labelNumbered}
+use Rattle.store.specs.Table.{Table}
 use Rattle.lookups.specs.declared.Lookup.the-variants.{Mapped, Unmapped}
 use Rattle.lookups.specs.declared.Label.{Label}
 use Rattle.lookups.specs.declared.Label.the-variants as found
 use Rattle.lookups.specs.Lookups.{labelLookup, levelLookup}
-use Rattle.cipso_option.specs.Option.{ourDoi, doiIn, isOption, trimmed, optionOf, labelOption, Peer, label, not-read, ownPeer, mappedPeer, peerAt, peerOf}
+use Rattle.cipso_option.specs.Option.{ourDoi, doiIn, isOption, trimmed, optionOf, labelOption, label, not-read, ownPeer, mappedPeer, peerAt, peerOf}
 use Rattle.cipso_option.proofs.Laws.{trimmed-short}
 use Rattle.option_laws.specs.Says.{OwnBits, FoundLabel, OptionSays}
 use Rattle.option_laws.proofs.Bitmap.{bits-same, trimmed-at}

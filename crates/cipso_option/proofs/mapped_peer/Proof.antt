@@ -11,7 +11,7 @@ use Rattle.lookups.specs.declared.Label.{Label}
 use Rattle.lookups.specs.declared.Label.the-variants as found
 use Rattle.store.proofs.Laws.{undamaged-is}
 use Rattle.store.proofs.Laid.{label-short}
-use Rattle.cipso_option.specs.Option.{Peer, peerShown, mappedPeer, label}
+use Rattle.cipso_option.specs.Option.{peerShown, mappedPeer, label}
 use Rattle.cipso_option.proofs.Laws.{found-tested, found-label}
 use borrow.Author.Needs.{needs}
 use Rattle.cipso_option.proofs.mapped_peer.Statement.{statement}

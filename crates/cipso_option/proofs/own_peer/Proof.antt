@@ -8,7 +8,7 @@ use Rattle.alphabet.specs.Alphabet.{faultOf}
 use Rattle.alphabet.proofs.Laws.{fault-formed, fault-unformed}
 use Rattle.set_bytes.specs.SetBytes.{ownBytes}
 use Rattle.set_bytes.proofs.Laws.{own-length}
-use Rattle.cipso_option.specs.Option.{trimmed, ownPeer, peerShown, label}
+use Rattle.cipso_option.specs.Option.{trimmed, peerShown, label}
 use Rattle.cipso_option.proofs.Laws.{own-whole, trimmed-fits, front-trimmed}
 use borrow.Author.Needs.{needs}
 use Rattle.cipso_option.proofs.own_peer.Statement.{statement}

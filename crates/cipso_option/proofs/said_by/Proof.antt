@@ -1,12 +1,10 @@
 -- `cipso_option::said_by` meets its contract: by the tests in their order. Assumes nothing.
-use Prim.Native.Nat.{ℕ, _≤_}
 use mathlib.Core.Path.{_≡_, sym, ap, _∙_}
 use mathlib.Core.Bool.{true}
-use mathlib.Core.List.{List}
 use borrow.Author.Tests.{not-true, not-false}
 use native.Mathlib.Omega.{arith}
 use lib.ListN.{length, length-drop}
-use Rattle.set_bytes.specs.SetBytes.{onlyCategories, setOfBitmap}
+use Rattle.set_bytes.specs.SetBytes.{onlyCategories}
 use Rattle.cipso_option.specs.Option.{isOption}
 use Rattle.cipso_option.specs.Within.{saidOf}
 use Rattle.cipso_option.proofs.Laws.{option-sized, rest-whole}

@@ -1,11 +1,5 @@
 -- `cipso_option::shown` meets its contract: the label in front of 255 bytes of 0. Assumes nothing.
-use Prim.Native.Nat.{ℕ}
-use mathlib.Core.Path.{_≡_, ap}
-use mathlib.Core.Bool.{false}
-use mathlib.Core.List.{List}
-use lib.ListN.{length}
 use Rattle.search.specs.Search.{entries}
-use Rattle.cipso_option.specs.declared.PeerLabel.{PeerLabel}
 use borrow.Author.Needs.{needs}
 use Rattle.cipso_option.proofs.shown.Statement.{statement}
 use Rattle.cipso_option.proofs.shown.Tie as tie

@@ -1,9 +1,8 @@
 -- `cipso_option::write_option` meets its contract: by what is looked up. Assumes nothing.
 use Prim.Native.Nat.{ℕ}
-use mathlib.Core.Path.{_≡_, refl, sym, ap, _∙_}
+use mathlib.Core.Path.{_≡_, sym, ap, _∙_}
 use mathlib.Core.List.{List}
 use borrow.Author.Tests.{le-leb, lt-leb}
-use native.Mathlib.Omega.{arith}
 use lib.ListN.{length}
 use Rattle.output.specs.Output.{Text, text, refused, textAnswer, textOut}
 use Rattle.store.specs.Layout.{Store, store}

@@ -1,8 +1,8 @@
 -- `set_bytes::only_categories` meets its contract: of the bytes passed those behind byte 23 are 0. Assumes nothing.
 use Prim.Native.Nat.{ℕ, _+_, _<_, _≤_, _-_, _%_}
-use mathlib.Core.Path.{_≡_, refl, sym, ap, _∙_}
+use mathlib.Core.Path.{_≡_, sym, ap, _∙_}
 use mathlib.Core.Logic.{⊎-elim}
-use native.Mathlib.Nat.{eq-or-lt-of-le, le-of-suc-le-suc}
+use native.Mathlib.Nat.{eq-or-lt-of-le}
 use native.Mathlib.Omega.{arith}
 use lib.ListN.{length, getD}
 use Rattle.set_bytes.proofs.Laws.{first-bit, later-byte, last-byte, only-these}

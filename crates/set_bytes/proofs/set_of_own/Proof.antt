@@ -1,5 +1,4 @@
 -- `set_bytes::set_of_own` meets its contract: the words are those of the bytes. Assumes nothing.
-use mathlib.Core.Path.{_∙_}
 use Rattle.set_bytes.proofs.Laws.{own-set}
 use borrow.Author.Needs.{needs}
 use Rattle.set_bytes.proofs.set_of_own.Statement.{statement}

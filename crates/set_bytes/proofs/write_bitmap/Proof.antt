@@ -1,5 +1,5 @@
 -- `set_bytes::write_bitmap` meets its contract: the bytes of the number one bit further down. Assumes nothing.
-use mathlib.Core.Path.{_≡_, sym, ap, _∙_}
+use mathlib.Core.Path.{sym, ap, _∙_}
 use Rattle.search.specs.Search.{entries}
 use Rattle.search.specs.Bytes.{written}
 use Rattle.numbers.specs.Categories.{byteOf}

@@ -1,5 +1,5 @@
 -- `set_bytes::write_own` meets its contract: the bytes of the set's own words. Assumes nothing.
-use mathlib.Core.Path.{_≡_, sym, ap, _∙_}
+use mathlib.Core.Path.{sym, ap, _∙_}
 use Rattle.search.specs.Bytes.{written}
 use Rattle.set_bytes.proofs.Laws.{own-bytes}
 use borrow.Author.Needs.{needs}
