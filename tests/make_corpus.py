@@ -819,6 +819,19 @@ def small_state(s):
     s.override(b"B D")
 
 
+def damaged_by(s, kinds):
+    """The small state with each of these damages, one after the other: a part, where, and what stands there; or a part of so many elements."""
+    for number, (part, at, value) in enumerate(kinds):
+        s.say("%s: %s" % (part, "%d of them" % value if at is None else "at %d stands %s" % (at, value if part == "words" else value[0])))
+        small_state(s)
+        if at is None:
+            s.call("resize %s %d" % (part, value), "done")
+        else:
+            s.poke(part, at, value)
+        s.dump("kind %d" % number)
+        yield number
+
+
 def refused_by_all(s):
     s.from_here("refused 0")
     for call in TABLE_CALLS:
@@ -5074,14 +5087,7 @@ def categories_damaged():
     s = Script("categories_damaged", "01, refusal 0, and 02, Four: a damaged state and a mapping write of over 600 bytes, or over 1,000: always 0, whatever else the write deserves.", True)
     kinds = [("words", 0, 65), ("words", 1, 257), ("words", 2, 33), ("words", 3, 9), ("words", 0, 8), ("entries", 0, b"\x09"), ("entries", 257, b"\xff"), ("entries", 514, b"\x40"),
              ("entries", 769, b"\x09"), ("entries", 833, b"\x40"), ("words", 68, 1), ("words", 69, HUGE), ("labels", None, 16383), ("entries", None, 841), ("words", None, 36), ("words", None, 99)]
-    for number, (part, at, value) in enumerate(kinds):
-        s.say("%s: %s" % (part, "%d of them" % value if at is None else "at %d stands %s" % (at, value if part == "words" else value[0])))
-        small_state(s)
-        if at is None:
-            s.call("resize %s %d" % (part, value), "done")
-        else:
-            s.poke(part, at, value)
-        s.dump("kind %d" % number)
+    for number in damaged_by(s, kinds):
         s.mapping(to_length(b"A 9 184", 601), "refused 0")
         s.call("mapping =" + "A" * 601, "refused 0")
         s.mapping(b"\t" * 990 + b"A 9 65 184", "refused 0")
@@ -6516,14 +6522,7 @@ def options_damaged():
              ("entries", 514, b"\x40"), ("entries", 769, b"\x09"), ("entries", 768, b"\xff"), ("entries", 833, b"\x40"), ("words", 68, 1), ("words", 69, 128), ("words", 69, HUGE), ("labels", None, 16383), ("labels", None, 16385),
              ("labels", None, 0), ("entries", None, 839), ("entries", None, 841), ("words", None, 99), ("words", None, 101), ("words", None, 36)]
     good = [b"A", b"D", b"New", b"_"]
-    for number, (part, at, value) in enumerate(kinds):
-        s.say("%s: %s" % (part, "%d of them" % value if at is None else "at %d stands %s" % (at, value if part == "words" else value[0])))
-        small_state(s)
-        if at is None:
-            s.call("resize %s %d" % (part, value), "done")
-        else:
-            s.poke(part, at, value)
-        s.dump("kind %d" % number)
+    for number in damaged_by(s, kinds):
         for label in good + [b"A/", b"", b"L" * 24, b"L" * 256]:
             s.write_option(label, 0, b"\xee" * 34)
         s.write_option(b"A", 0, b"")

@@ -33,7 +33,7 @@ optionBytes doi level bitmap = 134 ∷ (10 + length bitmap) ∷ (doi ++ (1 ∷ (
 abbrev pub ourDoi : List ℕ
 ourDoi = 0 ∷ 0 ∷ 0 ∷ 3 ∷ []
 
--- a byte in front of such bytes: a zero byte goes where nothing is behind it
+-- a byte in front of bytes that end in no zero byte: a zero byte goes where nothing is behind it
 abbrev pub untilLast : ℕ → List ℕ → List ℕ
 untilLast b [] = cond (eqb b 0) [] (b ∷ [])
 untilLast b (c ∷ rest) = b ∷ c ∷ rest
@@ -99,11 +99,11 @@ pub data Peer : Type 0 where
   label : List ℕ → Peer
   not-read : ℕ → Peer
 
--- of a level 250: 3 where the bytes are no label
+-- at level 250: 3 where the bytes are no label
 abbrev pub ownPeer : List ℕ → Peer
 ownPeer l = cond (wellFormed l) (label l) (not-read (badLabel .number))
 
--- of another level: 21 where no mapping matches. (A byte and a set of categories can always be looked up: the last does not come)
+-- at another level: 21 where no mapping matches. (A byte and a set of categories can always be looked up: the last does not come)
 abbrev pub mappedPeer : Table → Label → Peer
 mappedPeer t (found.Number n) = label (labelNumbered t n)
 mappedPeer t found.Nothing = not-read (noSuchMapping .number)

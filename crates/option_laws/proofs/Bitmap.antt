@@ -146,7 +146,7 @@ padded t level bitmap k h =
     read-ours t level (bitmap ++ zeroBytes k) (omega (arith, long, few))
     ∙ rw (only-same (bitmap ++ zeroBytes k) bitmap (behind-zero-bytes bitmap k), set-same (bitmap ++ zeroBytes k) bitmap (behind-zero-bytes bitmap k)) (sym (read-ours t level bitmap (omega arith)))
 
-option-is : (level : ℕ) (s : CategorySet) → optionOf level s ≡ 134 ∷ (10 + length (trimmed (bitmapBytes s))) ∷ 0 ∷ 0 ∷ 0 ∷ 3 ∷ 1 ∷ (4 + length (trimmed (bitmapBytes s))) ∷ 0 ∷ level ∷ trimmed (bitmapBytes s)
+option-is : (level : ℕ) (s : CategorySet) → optionOf level s ≡ optionBytes ourDoi level (trimmed (bitmapBytes s))
 unfolding optionOf
 option-is level s = refl
 

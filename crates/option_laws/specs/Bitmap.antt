@@ -3,7 +3,7 @@
 use Prim.Native.Nat.{ℕ, _+_, _-_, _≤_}
 use mathlib.Core.Bool.{true, _&&_}
 use mathlib.Core.Path.{_≡_}
-use mathlib.Core.List.{List, _∷_, _++_}
+use mathlib.Core.List.{List, _++_}
 use lib.ListN.{length, getD}
 use Rattle.numbers.specs.Categories.{isCategory, hasCategory, knownSet, InWords}
 use Rattle.numbers.specs.declared.CategorySet.{CategorySet}
@@ -16,11 +16,9 @@ pub record OptionBits : Type 0 where
   pub same : (b : List ℕ) (i : ℕ) → getD (trimmed b) i 0 ≡ getD b i 0
   pub shorter : (b : List ℕ) → length (trimmed b) ≤ length b
   pub last : (b : List ℕ) → 1 ≤ length (trimmed b) → getD (trimmed b) (length (trimmed b) - 1) 0 ≡ 0 → ⊥
-  -- an option is these bytes, and its bitmap is the 24 bytes of the set's without trailing zero bytes: it has the set's categories and no other bit
-  pub bytes :
-      (level : ℕ) (s : CategorySet) →
-      optionOf level s
-      ≡ 134 ∷ (10 + length (trimmed (bitmapBytes s))) ∷ 0 ∷ 0 ∷ 0 ∷ 3 ∷ 1 ∷ (4 + length (trimmed (bitmapBytes s))) ∷ 0 ∷ level ∷ trimmed (bitmapBytes s)
+  -- an option's bitmap is the 24 bytes of the set's without trailing zero bytes: it has the set's categories and no other bit. (Its other bytes, in numbers:
+  -- `claims::numbers_of_02`)
+  pub bytes : (level : ℕ) (s : CategorySet) → optionOf level s ≡ optionBytes ourDoi level (trimmed (bitmapBytes s))
   pub bits : (s : CategorySet) → InWords s → knownSet s ≡ true → (n : ℕ) → bitAt (trimmed (bitmapBytes s)) n ≡ (isCategory n && hasCategory s n)
   -- an option has 10 to 34 bytes
   pub least : (level : ℕ) (s : CategorySet) → 10 ≤ length (optionOf level s)

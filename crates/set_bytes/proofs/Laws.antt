@@ -17,15 +17,15 @@ use Rattle.numbers.specs.Categories.{isCategory, value, hasCategory, byteOf, se
 use Rattle.numbers.specs.Within.{Category}
 use Rattle.numbers.specs.declared.CategorySet.{CategorySet}
 use Rattle.numbers.proofs.Sets.{value-lt, value-first, value-second, value-third, byte-digit, in-byte, in-first, in-second, in-third, same-set, passing-has, passing-words, passing-known, is-category, category-is, category-sets}
-use Rattle.set_bytes.specs.SetBytes.{bitAt, one, byteWhere, bytesWhere, bitmapBytes, setOfBitmap, onlyCategories, ownBytes, setOfOwn, Bytes, BitsAndCategories}
+use Rattle.set_bytes.specs.SetBytes.{bitAt, digit, byteWhere, bytesWhere, bitmapBytes, setOfBitmap, onlyCategories, ownBytes, setOfOwn, Bytes, BitsAndCategories}
 use Rattle.set_bytes.specs.Within.{wordFrom, halved}
 
 -- ---- a byte and its bits
 
-one-is : (x : ℕ) → x < 2 → one (eqb x 1) ≡ x
-one-is zero h = refl
-one-is (suc zero) h = refl
-one-is (suc (suc x)) h = absurd (omega arith)
+digit-is : (x : ℕ) → x < 2 → digit (eqb x 1) ≡ x
+digit-is zero h = refl
+digit-is (suc zero) h = refl
+digit-is (suc (suc x)) h = absurd (omega arith)
 
 halves : (x : ℕ) → x ≡ x / 2 * 2 + x % 2
 halves x = omega arith
@@ -34,7 +34,7 @@ halves x = omega arith
 pub byte-whole : (b : ℕ) (p : ℕ → Bool) → b < 256 → ((j : ℕ) → j < 8 → p j ≡ eqb (b / 2 ^ (7 - j) % 2) 1) → byteWhere p ≡ b
 unfolding byteWhere
 byte-whole b p h same =
-    let at : (j : ℕ) → j < 8 → one (p j) ≡ b / 2 ^ (7 - j) % 2 = λ j hj. ap one (same j hj) ∙ one-is (b / 2 ^ (7 - j) % 2) (mod-lt _ (omega arith)) in
+    let at : (j : ℕ) → j < 8 → digit (p j) ≡ b / 2 ^ (7 - j) % 2 = λ j hj. ap digit (same j hj) ∙ digit-is (b / 2 ^ (7 - j) % 2) (mod-lt _ (omega arith)) in
     let e₀ = at 0 (omega arith) in
     let e₁ = at 1 (omega arith) in
     let e₂ = at 2 (omega arith) in
@@ -465,7 +465,7 @@ module _ (b : List ℕ) (small : Bytes b) where
       alone (bitAt b 184)
       (byte-whole (getD b 23 0) p (small 23) (λ j hj. each j hj))
     where
-      alone : (t : Bool) → one t * 128 + 0 * 64 + 0 * 32 + 0 * 16 + 0 * 8 + 0 * 4 + 0 * 2 + 0 ≡ getD b 23 0 → getD b 23 0 % 128 ≡ 0
+      alone : (t : Bool) → digit t * 128 + 0 * 64 + 0 * 32 + 0 * 16 + 0 * 8 + 0 * 4 + 0 * 2 + 0 ≡ getD b 23 0 → getD b 23 0 % 128 ≡ 0
       alone true q = omega (arith, q)
       alone false q = omega (arith, q)
 
@@ -512,13 +512,13 @@ module _ (b : List ℕ) (small : Bytes b) where
 
 -- ---- bytes made of bits
 
-one-bit : (b : Bool) → eqb (one b) 1 ≡ b
-one-bit true = refl
-one-bit false = refl
+digit-bit : (b : Bool) → eqb (digit b) 1 ≡ b
+digit-bit true = refl
+digit-bit false = refl
 
-one-small : (b : Bool) → one b < 2
-one-small true = omega arith
-one-small false = omega arith
+digit-small : (b : Bool) → digit b < 2
+digit-small true = omega arith
+digit-small false = omega arith
 
 -- a digit of eight
 eight-digits : (a b c d e f g h : ℕ) → a < 2 → b < 2 → c < 2 → d < 2 → e < 2 → f < 2 → g < 2 → h < 2 → (j : ℕ) → j < 8
@@ -537,24 +537,24 @@ byte-has : (p : ℕ → Bool) (j : ℕ) → j < 8 → eqb (byteWhere p / 2 ^ (7 
 unfolding byteWhere
 byte-has p j h =
     ap (λ (x : ℕ). eqb x 1)
-    (eight-digits (one (p 0)) (one (p 1)) (one (p 2)) (one (p 3)) (one (p 4)) (one (p 5)) (one (p 6)) (one (p 7))
-    (one-small (p 0)) (one-small (p 1)) (one-small (p 2)) (one-small (p 3)) (one-small (p 4)) (one-small (p 5)) (one-small (p 6)) (one-small (p 7)) j h)
-    ∙ pick-one j h
+    (eight-digits (digit (p 0)) (digit (p 1)) (digit (p 2)) (digit (p 3)) (digit (p 4)) (digit (p 5)) (digit (p 6)) (digit (p 7))
+    (digit-small (p 0)) (digit-small (p 1)) (digit-small (p 2)) (digit-small (p 3)) (digit-small (p 4)) (digit-small (p 5)) (digit-small (p 6)) (digit-small (p 7)) j h)
+    ∙ pick-digit j h
   where
-    pick-one : (j : ℕ) → j < 8 → eqb (getD (one (p 0) ∷ one (p 1) ∷ one (p 2) ∷ one (p 3) ∷ one (p 4) ∷ one (p 5) ∷ one (p 6) ∷ one (p 7) ∷ []) j 0) 1 ≡ p j
-    pick-one zero l = one-bit (p 0)
-    pick-one (suc zero) l = one-bit (p 1)
-    pick-one (suc (suc zero)) l = one-bit (p 2)
-    pick-one (suc (suc (suc zero))) l = one-bit (p 3)
-    pick-one (suc (suc (suc (suc zero)))) l = one-bit (p 4)
-    pick-one (suc (suc (suc (suc (suc zero))))) l = one-bit (p 5)
-    pick-one (suc (suc (suc (suc (suc (suc zero)))))) l = one-bit (p 6)
-    pick-one (suc (suc (suc (suc (suc (suc (suc zero))))))) l = one-bit (p 7)
-    pick-one (suc (suc (suc (suc (suc (suc (suc (suc j)))))))) l = absurd (omega arith)
+    pick-digit : (j : ℕ) → j < 8 → eqb (getD (digit (p 0) ∷ digit (p 1) ∷ digit (p 2) ∷ digit (p 3) ∷ digit (p 4) ∷ digit (p 5) ∷ digit (p 6) ∷ digit (p 7) ∷ []) j 0) 1 ≡ p j
+    pick-digit zero l = digit-bit (p 0)
+    pick-digit (suc zero) l = digit-bit (p 1)
+    pick-digit (suc (suc zero)) l = digit-bit (p 2)
+    pick-digit (suc (suc (suc zero))) l = digit-bit (p 3)
+    pick-digit (suc (suc (suc (suc zero)))) l = digit-bit (p 4)
+    pick-digit (suc (suc (suc (suc (suc zero))))) l = digit-bit (p 5)
+    pick-digit (suc (suc (suc (suc (suc (suc zero)))))) l = digit-bit (p 6)
+    pick-digit (suc (suc (suc (suc (suc (suc (suc zero))))))) l = digit-bit (p 7)
+    pick-digit (suc (suc (suc (suc (suc (suc (suc (suc j)))))))) l = absurd (omega arith)
 
 byte-small : (p : ℕ → Bool) → byteWhere p < 256
 unfolding byteWhere
-byte-small p = omega (arith, one-small (p 0), one-small (p 1), one-small (p 2), one-small (p 3), one-small (p 4), one-small (p 5), one-small (p 6), one-small (p 7))
+byte-small p = omega (arith, digit-small (p 0), digit-small (p 1), digit-small (p 2), digit-small (p 3), digit-small (p 4), digit-small (p 5), digit-small (p 6), digit-small (p 7))
 
 module _ (p : ℕ → Bool) (k : ℕ) where
   abbrev byte : ℕ → ℕ

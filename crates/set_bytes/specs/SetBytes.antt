@@ -17,15 +17,15 @@ use Rattle.numbers.specs.declared.CategorySet.{CategorySet}
 abbrev pub bitAt : List ℕ → ℕ → Bool
 bitAt bytes m = eqb (getD bytes (m / 8) 0 / 2 ^ (7 - m % 8) % 2) 1
 
--- the digit of a test
-abbrev pub one : Bool → ℕ
-one true = 1
-one false = 0
+-- a test as a digit
+abbrev pub digit : Bool → ℕ
+digit true = 1
+digit false = 0
 
 -- the byte whose bit j, from the top, is 1 where j passes a test
 unfoldable pub byteWhere : (ℕ → Bool) → ℕ
 byteWhere p =
-    one (p 0) * 128 + one (p 1) * 64 + one (p 2) * 32 + one (p 3) * 16 + one (p 4) * 8 + one (p 5) * 4 + one (p 6) * 2 + one (p 7)
+    digit (p 0) * 128 + digit (p 1) * 64 + digit (p 2) * 32 + digit (p 3) * 16 + digit (p 4) * 8 + digit (p 5) * 4 + digit (p 6) * 2 + digit (p 7)
 
 -- k bytes whose bit m is 1 where m passes a test
 unfoldable pub bytesWhere : (ℕ → Bool) → ℕ → List ℕ
@@ -33,11 +33,11 @@ bytesWhere p k = entries (λ (i : ℕ). byteWhere (λ (j : ℕ). p (8 * i + j)))
 
 -- ---- the bitmap: category n is bit n
 
--- the bytes of a set: 24 hold category 184
+-- the bitmap of a set, with trailing zero bytes: 24 bytes hold category 184
 unfoldable pub bitmapBytes : CategorySet → List ℕ
 bitmapBytes s = bytesWhere (hasCategory s) 24
 
--- the set that bytes are
+-- the set of a bitmap: the categories whose bits are 1
 unfoldable pub setOfBitmap : List ℕ → CategorySet
 setOfBitmap bitmap = setOf (bitAt bitmap)
 
@@ -47,11 +47,11 @@ onlyCategories bitmap = all (λ (n : ℕ). isCategory n || not (bitAt bitmap n))
 
 -- ---- own bits: bit j, from the top, of byte i is category 8i+j+1, so that category n is bit n - 1
 
--- the bytes of a set: 23 hold every category
+-- the bytes whose own bits are a set: 23 hold every category
 unfoldable pub ownBytes : CategorySet → List ℕ
 ownBytes s = bytesWhere (λ (m : ℕ). hasCategory s (m + 1)) 23
 
--- the set that bytes are
+-- the set of the own bits of bytes
 unfoldable pub setOfOwn : List ℕ → CategorySet
 setOfOwn bytes = setOf (λ (n : ℕ). bitAt bytes (n - 1))
 
