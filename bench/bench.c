@@ -27,25 +27,22 @@
 
 /* ---- the library before a change, where it is linked in: the same calls with another name */
 
-/* The major version of its interface, where that is another than the header's. Under version 1 no answer had a place, and the loader was flat. Under
- * versions 1 and 2 a set was one word, with the categories 1 to 63, and the part of words had 36. Version 3 has the structs and sizes of version 4. None
- * of these has the calls of the packet option. */
+/* The major version of its interface, where that is another than the header's. Version 4 has the calls and the sizes of version 5, but keeps b as a mode: a
+ * question tells of it, and no report counts the lines that hold it. */
 #ifndef BEFORE_MAJOR
 #define BEFORE_MAJOR BQ_VERSION_MAJOR
 #endif
-#if BEFORE_MAJOR == 1
-typedef struct {
-    bool refused;
-    uint8_t number;
-} before_bq_written;
+/* By a report, how many lines of a text were accepted in which every line holds b. */
+#define bq_holding_b(report) (report).bringup
+#if BEFORE_MAJOR == 4
 typedef struct {
     uint32_t lines, accepted, skipped, refused, first;
     uint8_t reason;
+    size_t place;
 } before_bq_report;
 typedef struct {
     size_t kept;
-    uint32_t lines, accepted, skipped, refused, first;
-    uint8_t reason;
+    before_bq_report report;
 } before_bq_loader;
 typedef struct {
     bool refused;
@@ -62,56 +59,36 @@ typedef struct {
     uint8_t kind;
     uint8_t number;
     bool bringup;
+    size_t place;
 } before_bq_decision;
-#elif BEFORE_MAJOR == 2 || BEFORE_MAJOR == 3 || BEFORE_MAJOR == BQ_VERSION_MAJOR
-typedef bq_written before_bq_written;
+#define BEFORE_KEEPS_B true
+#define before_bq_holding_b(report) (report).accepted
+#elif BEFORE_MAJOR == BQ_VERSION_MAJOR
 typedef bq_loader before_bq_loader;
 typedef bq_taken before_bq_taken;
 typedef bq_finished before_bq_finished;
 typedef bq_decision before_bq_decision;
+#define BEFORE_KEEPS_B false
+#define before_bq_holding_b bq_holding_b
 #else
 #error "the structs of that version are not here"
-#endif
-#if BEFORE_MAJOR < 3
-#define BEFORE_IS_NARROW true
-typedef uint64_t before_bq_set;
-typedef struct {
-    uint64_t label, level, set;
-} before_bq_record;
-typedef struct {
-    uint8_t kind;
-    uint8_t number;
-    uint8_t level;
-    uint32_t count;
-    uint64_t set;
-#if BEFORE_MAJOR == 2
-    size_t place;
-#endif
-} before_bq_mapped;
-enum { bq_WORDS = BQ_WORDS, before_bq_WORDS = 36, SET_WORDS = 3, BEFORE_SET_WORDS = 1 };
-#else
-#define BEFORE_IS_NARROW false
-typedef bq_set before_bq_set;
-typedef bq_record before_bq_record;
-typedef bq_mapped before_bq_mapped;
-enum { bq_WORDS = BQ_WORDS, before_bq_WORDS = BQ_WORDS, SET_WORDS = 3, BEFORE_SET_WORDS = 3 };
 #endif
 
 #define TO_READ const uint8_t *, size_t, const uint8_t *, size_t, const uint64_t *, size_t
 #define TO_WRITE uint8_t *, size_t, uint8_t *, size_t, uint64_t *, size_t
 #define OLDER extern __attribute__((weak))
-OLDER before_bq_written before_bq_fresh_table(uint8_t *, size_t, const uint8_t *, size_t, uint64_t *, size_t);
 OLDER before_bq_loader before_bq_fresh_loader(void);
 OLDER before_bq_taken before_bq_piece(TO_WRITE, uint8_t *, size_t, before_bq_loader, const uint8_t *, size_t);
 OLDER before_bq_finished before_bq_end(TO_WRITE, uint8_t *, size_t, before_bq_loader);
-OLDER before_bq_written before_bq_change(TO_WRITE, const uint8_t *, size_t);
 OLDER before_bq_decision before_bq_question(TO_READ, const uint8_t *, size_t, const uint8_t *, size_t, const uint8_t *, size_t, bool);
+OLDER __typeof__(bq_fresh_table) before_bq_fresh_table;
+OLDER __typeof__(bq_change) before_bq_change;
 OLDER __typeof__(bq_list_rule) before_bq_list_rule;
-OLDER before_bq_written before_bq_mapping(TO_WRITE, const uint8_t *, size_t);
-OLDER before_bq_mapped before_bq_by_label(TO_READ, const uint8_t *, size_t);
-OLDER bq_lowest before_bq_by_level(TO_READ, uint64_t, before_bq_set);
-OLDER bq_lowest before_bq_lowest_in_run(const before_bq_record *, size_t, uint64_t, before_bq_set);
-OLDER bq_lowest before_bq_lowest_of(const uint64_t *, size_t, const uint64_t *, size_t, const uint64_t *, size_t, uint64_t, before_bq_set);
+OLDER __typeof__(bq_mapping) before_bq_mapping;
+OLDER __typeof__(bq_by_label) before_bq_by_label;
+OLDER __typeof__(bq_by_level) before_bq_by_level;
+OLDER __typeof__(bq_lowest_in_run) before_bq_lowest_in_run;
+OLDER __typeof__(bq_lowest_of) before_bq_lowest_of;
 OLDER __typeof__(bq_write_option) before_bq_write_option;
 OLDER __typeof__(bq_read_option) before_bq_read_option;
 
@@ -150,7 +127,7 @@ static bool is_library(int side)
 }
 /* A field of what a call of the library, or of the one before, answers about the lent tables t. */
 #define OF(side, name, field, t, ...)                                                                                                        \
-    ((side) == BEFORE ? before_bq_##name(TABLES(before_bq_, t), __VA_ARGS__).field : bq_##name(TABLES(bq_, t), __VA_ARGS__).field)
+    ((side) == BEFORE ? before_bq_##name(TABLES(t), __VA_ARGS__).field : bq_##name(TABLES(t), __VA_ARGS__).field)
 
 enum { QUESTIONS = 4096, PIECE = 65536, MOST_ROUNDS = 64 };
 
@@ -242,7 +219,7 @@ static unsigned bits_of(const char *modes)
 {
     unsigned bits = 0;
     for (; *modes; modes++)
-        bits |= 32u >> (strchr("rwxatb", *modes) - "rwxatb");
+        bits |= 32u >> (strchr("rwxat", *modes) - "rwxat");
     return bits;
 }
 
@@ -275,13 +252,12 @@ static void make_rules(void)
             has_rule[l][rules[l][i].subject][rules[l][i].object] = true;
 }
 
-/* The library's tables as they are lent. The one before takes as many of the words as its version has: they are the counts and the first words of the
- * sets, in the same places. */
+/* The library's tables as they are lent. */
 struct lent {
     uint64_t words[BQ_WORDS];
     uint8_t labels[BQ_LABELS], entries[BQ_ENTRIES], line[BQ_LINE];
 };
-#define TABLES(ITS, t) (t)->labels, BQ_LABELS, (t)->entries, BQ_ENTRIES, (t)->words, ITS##WORDS
+#define TABLES(t) (t)->labels, BQ_LABELS, (t)->entries, BQ_ENTRIES, (t)->words, BQ_WORDS
 
 /* The library and the one before are lent the same tables, at the same addresses. The kinds after SIZES have the spread rules alone. */
 static struct lent lent[LAYOUTS][KINDS];
@@ -324,11 +300,11 @@ static void make_lent(struct lent *t, int l, int kind)
 {
     char line[600];
     bq_loader loader = bq_fresh_loader();
-    if (bq_fresh_table(TABLES(bq_, t)).refused)
+    if (bq_fresh_table(TABLES(t)).refused)
         fail("no fresh table");
     for (int i = 5; i < 64; i++) {
         int n = sprintf(line, "%s _ -\n", label[kind][i]);
-        loader = bq_piece(TABLES(bq_, t), t->line, BQ_LINE, loader, (const uint8_t *)line, (size_t)n).loader;
+        loader = bq_piece(TABLES(t), t->line, BQ_LINE, loader, (const uint8_t *)line, (size_t)n).loader;
     }
     if (loader.report.accepted != 59 || t->words[0] != 64)
         fail("the labels did not enter");
@@ -340,11 +316,24 @@ static void make_lent(struct lent *t, int l, int kind)
     t->words[1] = (uint64_t)count[l];
 }
 
-static void make_tables(void)
+/* Whether the library before takes what BEFORE_MAJOR says: these calls, parts of these sizes, and a rule with b, which is damage since version 5. */
+static bool is_of_its_version(void)
 {
     static struct lent t;
-    if (is_there(BEFORE) && before_bq_fresh_table(TABLES(before_bq_, &t)).refused)
-        fail("the library before refuses parts of these sizes: its header had another major version than BEFORE_MAJOR says");
+    uint8_t out[BQ_LONGEST_RULE];
+    if (!before_bq_read_option || before_bq_fresh_table(TABLES(&t)).refused)
+        return false;
+    t.entries[0] = 0;
+    t.entries[256] = 1;
+    t.entries[512] = 1;
+    t.words[1] = 1;
+    return before_bq_list_rule(TABLES(&t), 0, out, sizeof out).refused == !BEFORE_KEEPS_B;
+}
+
+static void make_tables(void)
+{
+    if (is_there(BEFORE) && !is_of_its_version())
+        fail("the header of the library before had another major version than BEFORE_MAJOR says");
     for (int l = 0; l < LAYOUTS; l++)
         for (int kind = 0; kind < KINDS; kind++) {
             if (!is_laid_out(l, kind))
@@ -470,7 +459,7 @@ static unsigned ask(int side, int l, int kind, const struct question *q, size_t 
     {                                                                                                                                        \
         struct lent *t = &lent[l][kind];                                                                                                     \
         for (size_t i = 0; i < n; i++) {                                                                                                     \
-            ITS##decision d = ITS##question(TABLES(ITS, t), q[i].subject, q[i].subject_len, q[i].object, q[i].object_len, q[i].request,           \
+            ITS##decision d = ITS##question(TABLES(t), q[i].subject, q[i].subject_len, q[i].object, q[i].object_len, q[i].request,           \
                                             q[i].request_len, false);                                                                        \
             sum += d.kind * 16u + d.number;                                                                                                  \
         }                                                                                                                                    \
@@ -532,10 +521,16 @@ static void check_questions(void)
 
 /* ---- rule text */
 
-enum { KNOWN, FRESH, REFUSED, BLANK, TEXTS };
+enum { KNOWN, FRESH, REFUSED, BLANK, WITH_B, WITH_DASH, TEXTS };
 static char *text[TEXTS][SIZES];
 static size_t text_len[TEXTS][SIZES];
 static unsigned text_lines[TEXTS][SIZES];
+
+/* Which rows there are: blank lines have no labels, and what b costs is told with short ones. */
+static int sizes_of(int which)
+{
+    return which == BLANK || which == WITH_B || which == WITH_DASH ? 1 : SIZES;
+}
 
 static size_t put_rule(char *out, int kind, const struct rule *r, const char *modes)
 {
@@ -543,19 +538,26 @@ static size_t put_rule(char *out, int kind, const struct rule *r, const char *mo
 }
 
 /* KNOWN: pairs of the spread table in any order. FRESH: the 256 rules of that table, in their order; a table is made anew after each. REFUSED: lines
- * with refusals 2, 3, 4, 5, 6 and 7. BLANK: lines of 0 to 600 blanks. */
+ * with refusals 2, 3, 4, 5, 6 and 7. BLANK: lines of 0 to 600 blanks. WITH_B: known pairs, with the retired letter b behind the others; WITH_DASH: the very
+ * same lines with a dash in its place. */
 static void make_text(int which, int kind, size_t bytes)
 {
     char *t = malloc(bytes + 2048);
     size_t n = 0;
     unsigned lines = 0;
     const struct rule *r = rules[SPREAD];
+    if (which == WITH_B || which == WITH_DASH)
+        seed = 1;
     while (n < bytes) {
         const struct rule *p = &r[pick(256)];
         const char *a = label[kind][p->subject], *b = label[kind][p->object];
         switch (which) {
         case KNOWN:
             n += put_rule(t + n, kind, p, MODES[pick(8)]);
+            break;
+        case WITH_B:
+        case WITH_DASH:
+            n += (size_t)sprintf(t + n, "%s %s %s%c\n", a, b, MODES[pick(8)], which == WITH_B ? 'b' : '-');
             break;
         case FRESH:
             n += put_rule(t + n, kind, &r[lines % 256], MODES[pick(8)]);
@@ -610,18 +612,29 @@ static void make_text(int which, int kind, size_t bytes)
     {                                                                                                                                        \
         ITS##loader loader = ITS##fresh_loader();                                                                                            \
         for (size_t at = 0; at < n; at += PIECE)                                                                                             \
-            loader = ITS##piece(TABLES(ITS, own), own->line, BQ_LINE, loader, (const uint8_t *)t + at, n - at < PIECE ? n - at : PIECE).loader;   \
-        ITS##finished f = ITS##end(TABLES(ITS, own), own->line, BQ_LINE, loader);                                                                 \
-        return f.refused ? 0 : which == KNOWN ? f.report.accepted : which == BLANK ? f.report.skipped : f.report.refused;                    \
+            loader = ITS##piece(TABLES(own), own->line, BQ_LINE, loader, (const uint8_t *)t + at, n - at < PIECE ? n - at : PIECE).loader;   \
+        ITS##finished f = ITS##end(TABLES(own), own->line, BQ_LINE, loader);                                                                 \
+        return f.refused           ? 0                                                                                                       \
+               : which == BLANK    ? f.report.skipped                                                                                        \
+               : which == REFUSED  ? f.report.refused                                                                                        \
+               : which == WITH_B   ? ITS##holding_b(f.report)                                                                                \
+                                   : f.report.accepted;                                                                                      \
     }                                                                                                                                        \
     static unsigned feed_fresh_##WHICH(struct lent *fresh, const char *t, size_t n)                                                          \
     {                                                                                                                                        \
-        ITS##fresh_table(TABLES(ITS, fresh));                                                                                                     \
-        ITS##taken taken = ITS##piece(TABLES(ITS, fresh), fresh->line, BQ_LINE, ITS##fresh_loader(), (const uint8_t *)t, n);                      \
-        return ITS##end(TABLES(ITS, fresh), fresh->line, BQ_LINE, taken.loader).report.accepted;                                                  \
+        ITS##fresh_table(TABLES(fresh));                                                                                                     \
+        ITS##taken taken = ITS##piece(TABLES(fresh), fresh->line, BQ_LINE, ITS##fresh_loader(), (const uint8_t *)t, n);                      \
+        return ITS##end(TABLES(fresh), fresh->line, BQ_LINE, taken.loader).report.accepted;                                                  \
     }
 FEED(library, bq_)
 FEED(before, before_bq_)
+
+/* Takes b out of every rule, which would be damage to the library. */
+static void drop_b(struct lent *t)
+{
+    for (int i = 0; i < 256; i++)
+        t->entries[512 + i] &= (uint8_t)~1u;
+}
 
 /* Feeds a text of `total` bytes in pieces; what is counted of the lines comes back, for all sides the same. */
 static unsigned feed(int side, int which, int kind, size_t total)
@@ -629,17 +642,23 @@ static unsigned feed(int side, int which, int kind, size_t total)
     const char *t = text[which][kind];
     size_t n = text_len[which][kind], done = 0;
     unsigned counted = 0;
-    uint32_t report[6];
+    uint32_t report[7];
     static struct lent fresh;
     if (which != FRESH) {
-        if (is_library(side))
-            return side == BEFORE ? feed_before(&lent_text[kind], t, n, which) : feed_library(&lent_text[kind], t, n, which);
+        if (side == LIBRARY)
+            return feed_library(&lent_text[kind], t, n, which);
+        if (side == BEFORE) {
+            counted = feed_before(&lent_text[kind], t, n, which);
+            if (which == WITH_B && BEFORE_KEEPS_B)
+                drop_b(&lent_text[kind]);
+            return counted;
+        }
         if (side == SECOND) {
             struct second *s = second_text[kind];
             for (size_t at = 0; at < n; at += PIECE)
                 second_piece(s, (const uint8_t *)t + at, n - at < PIECE ? n - at : PIECE);
             second_end(s, report);
-            return which == KNOWN ? report[1] : which == BLANK ? report[2] : report[3];
+            return which == BLANK ? report[2] : which == REFUSED ? report[3] : which == WITH_B ? report[6] : report[1];
         }
         return (unsigned)k_load(world_text[kind], t, n);
     }
@@ -711,7 +730,7 @@ static size_t do_listing(int side, int kind)
 /* ---- mappings */
 
 /* Tables with 64 labels, the spread rules and 32 mappings, which are all that there can be. FEW: three categories, other ones in each mapping, all at one
- * level; every version has them. MOST: the categories 1 to 63, every mapping at a level of its own. FEW_WIDE and ALL_WIDE are the same for a set of three
+ * level. MOST: the categories 1 to 63, every mapping at a level of its own. FEW_WIDE and ALL_WIDE are the same for a set of three
  * words: the sets of FEW_WIDE have one category in each word and differ in the last word alone. */
 enum { FEW, MOST, FEW_WIDE, ALL_WIDE, SETS };
 static const char *const SET[SETS] = {"3 categories up to 63", "categories 1 to 63", "3 categories up to 184", "categories 1 to 184"};
@@ -732,17 +751,10 @@ static size_t map_write_len[SETS][SIZES][MAPPINGS];
 static int map_asked[QUESTIONS];
 
 /* A run of records, with sets of FEW or of FEW_WIDE, in one array and with its fields apart. */
-static _Alignas(4096) bq_record run_library[SETS][RECORDS];
-static _Alignas(4096) before_bq_record run_before[SETS][RECORDS];
+static _Alignas(4096) bq_record run[SETS][RECORDS];
 static _Alignas(4096) uint64_t run_labels[RECORDS], run_levels[RECORDS];
-static _Alignas(4096) uint64_t run_words_library[SETS][RECORDS * SET_WORDS];
-static _Alignas(4096) uint64_t run_words_before[SETS][RECORDS * BEFORE_SET_WORDS];
+static _Alignas(4096) uint64_t run_words[SETS][RECORDS * 3];
 static int run_lowest[SETS][MAPPINGS]; /* what a search for mapping k's level and set finds, -1 for none */
-
-static bool is_wide(int sets)
-{
-    return sets == FEW_WIDE || sets == ALL_WIDE;
-}
 
 static void put_category(struct mapping *m, int n)
 {
@@ -751,32 +763,12 @@ static void put_category(struct mapping *m, int n)
     m->set.word[BQ_CATEGORY_WORD(n)] |= BQ_CATEGORY_BIT(n);
 }
 
-/* A set as each of the two takes it; and a number that is made of the words of a set that was answered. */
-static bq_set set_library(bq_set set)
-{
-    return set;
-}
-
-static unsigned number_library(bq_set set)
+/* A number that is made of the words of a set. */
+static unsigned number_of(bq_set set)
 {
     uint64_t all = set.word[0] ^ set.word[1] * 3 ^ set.word[2] * 5;
     return (unsigned)(all >> 32) ^ (unsigned)all;
 }
-
-#if BEFORE_IS_NARROW
-static uint64_t set_before(bq_set set)
-{
-    return set.word[0];
-}
-
-static unsigned number_before(uint64_t set)
-{
-    return number_library((bq_set){{set, 0, 0}});
-}
-#else
-#define set_before set_library
-#define number_before number_library
-#endif
 
 /* Mapping k of a table, the write that makes it, and, where there are few categories, a set that no mapping has. */
 static void make_mapping(int sets, int k)
@@ -823,11 +815,8 @@ static void make_runs(void)
         run_levels[i] = pick(4) ? 9 : 8;
         for (int sets = FEW; sets <= FEW_WIDE; sets += FEW_WIDE - FEW) {
             bq_set set = mapping[sets][k].set;
-            run_library[sets][i] = (bq_record){run_labels[i], run_levels[i], set};
-            run_before[sets][i] = (before_bq_record){run_labels[i], run_levels[i], set_before(set)};
-            memcpy(&run_words_library[sets][i * SET_WORDS], &set, sizeof set);
-            before_bq_set older = set_before(set);
-            memcpy(&run_words_before[sets][i * BEFORE_SET_WORDS], &older, sizeof older);
+            run[sets][i] = (bq_record){run_labels[i], run_levels[i], set};
+            memcpy(&run_words[sets][i * 3], &set, sizeof set);
             if (run_levels[i] == 9 && (run_lowest[sets][k] < 0 || l < run_lowest[sets][k]))
                 run_lowest[sets][k] = l;
         }
@@ -861,7 +850,7 @@ static void make_mappings(void)
             struct lent *t = &lent_mapped[sets][kind];
             make_lent(t, SPREAD, kind);
             for (int k = 0; k < MAPPINGS; k++)
-                if (bq_mapping(TABLES(bq_, t), (const uint8_t *)map_write[sets][kind][k], map_write_len[sets][kind][k]).refused)
+                if (bq_mapping(TABLES(t), (const uint8_t *)map_write[sets][kind][k], map_write_len[sets][kind][k]).refused)
                     fail("a mapping is refused");
         }
     }
@@ -912,7 +901,7 @@ static unsigned map_expected(int call, int sets, int i)
     case MAP_WRITE:
         return 1;
     case OF_LABEL:
-        return (unsigned)m->level + m->count * 256 + number_library(m->set);
+        return (unsigned)m->level + m->count * 256 + number_of(m->set);
     case OF_SET:
         return (unsigned)mapped_label[k];
     case IN_RUN:
@@ -927,8 +916,8 @@ static unsigned map_expected(int call, int sets, int i)
 #define MAP(WHICH, ITS)                                                                                                                      \
     static unsigned of_label_##WHICH(struct lent *t, int kind, int l)                                                                        \
     {                                                                                                                                        \
-        ITS##mapped m = ITS##by_label(TABLES(ITS, t), (const uint8_t *)label[kind][l], label_len[kind][l]);                                  \
-        return m.kind == BQ_MAPPED ? m.level + m.count * 256 + number_##WHICH(m.set) : m.kind == BQ_UNMAPPED ? NOTHING : 2 * NOTHING;        \
+        bq_mapped m = ITS##by_label(TABLES(t), (const uint8_t *)label[kind][l], label_len[kind][l]);                                         \
+        return m.kind == BQ_MAPPED ? m.level + m.count * 256 + number_of(m.set) : m.kind == BQ_UNMAPPED ? NOTHING : 2 * NOTHING;             \
     }                                                                                                                                        \
     static unsigned map_##WHICH(int call, int sets, int kind, int from, int n)                                                               \
     {                                                                                                                                        \
@@ -940,7 +929,7 @@ static unsigned map_expected(int call, int sets, int i)
             bq_lowest found;                                                                                                                 \
             switch (call) {                                                                                                                  \
             case MAP_WRITE:                                                                                                                  \
-                sum += !ITS##mapping(TABLES(ITS, t), (const uint8_t *)map_write[sets][kind][k], map_write_len[sets][kind][k]).refused;       \
+                sum += !ITS##mapping(TABLES(t), (const uint8_t *)map_write[sets][kind][k], map_write_len[sets][kind][k]).refused;            \
                 continue;                                                                                                                    \
             case OF_LABEL:                                                                                                                   \
                 sum += of_label_##WHICH(t, kind, mapped_label[k]);                                                                           \
@@ -949,14 +938,13 @@ static unsigned map_expected(int call, int sets, int i)
                 sum += of_label_##WHICH(t, kind, unmapped_label[k]);                                                                         \
                 continue;                                                                                                                    \
             case IN_RUN:                                                                                                                     \
-                found = ITS##lowest_in_run(run_##WHICH[sets], RECORDS, m->level, set_##WHICH(m->set));                                       \
+                found = ITS##lowest_in_run(run[sets], RECORDS, m->level, m->set);                                                            \
                 break;                                                                                                                       \
             case IN_ARRAYS:                                                                                                                  \
-                found = ITS##lowest_of(run_labels, RECORDS, run_levels, RECORDS, run_words_##WHICH[sets],                                    \
-                                       sizeof run_words_##WHICH[sets] / sizeof(uint64_t), m->level, set_##WHICH(m->set));                    \
+                found = ITS##lowest_of(run_labels, RECORDS, run_levels, RECORDS, run_words[sets], RECORDS * 3, m->level, m->set);            \
                 break;                                                                                                                       \
             default:                                                                                                                         \
-                found = ITS##by_level(TABLES(ITS, t), m->level, set_##WHICH(m->set));                                                        \
+                found = ITS##by_level(TABLES(t), m->level, m->set);                                                                          \
             }                                                                                                                                \
             sum += found.kind == BQ_LABEL ? (unsigned)found.label : found.kind == BQ_NO_LABEL ? NOTHING : 2 * NOTHING;                       \
         }                                                                                                                                    \
@@ -970,12 +958,6 @@ static unsigned do_mappings(int side, int call, int sets, int kind, int from, in
     return side == BEFORE ? map_before(call, sets, kind, from, n) : map_library(call, sets, kind, from, n);
 }
 
-/* Sets of three words are no sets to a version before 3. */
-static bool maps(int side, int sets)
-{
-    return is_library(side) && is_there(side) && !(side == BEFORE && BEFORE_IS_NARROW && is_wide(sets));
-}
-
 /* Every answer of both is the one that the call was made for. */
 static void check_mappings(void)
 {
@@ -983,7 +965,7 @@ static void check_mappings(void)
         for (int sets = 0; sets < SETS; sets++)
             for (int kind = 0; kind < SIZES; kind++)
                 for (int side = 0; side <= BEFORE; side++)
-                    for (int i = 0; i < map_calls(call) && is_mapped(call, sets, kind) && maps(side, sets); i++) {
+                    for (int i = 0; i < map_calls(call) && is_mapped(call, sets, kind) && is_there(side); i++) {
                         unsigned got = do_mappings(side, call, sets, kind, i, 1), want = map_expected(call, sets, i);
                         if (got != want) {
                             fprintf(stderr, "bench: %s comes to %u, not %u: %s, %s; %s\n", SIDE[side], got, want, MAP_CALL[call], SET[sets],
@@ -1142,15 +1124,15 @@ static unsigned option_expected(int call, int kind, int i)
 /* One call for a packet: what was written, in `out`, or what was read. */
 static bq_length write_packet(int side, struct lent *t, const struct packet *p, uint8_t *out, size_t room)
 {
-    return side == LIBRARY  ? bq_write_option(TABLES(bq_, t), p->label, p->label_len, out, room)
-           : side == BEFORE ? before_bq_write_option(TABLES(before_bq_, t), p->label, p->label_len, out, room)
+    return side == LIBRARY  ? bq_write_option(TABLES(t), p->label, p->label_len, out, room)
+           : side == BEFORE ? before_bq_write_option(TABLES(t), p->label, p->label_len, out, room)
                             : plain_write(p->label, p->label_len, p->mapping, out, room);
 }
 
 static bq_peer read_packet(int side, struct lent *t, const struct packet *p)
 {
-    return side == LIBRARY  ? bq_read_option(TABLES(bq_, t), p->option, p->option_len)
-           : side == BEFORE ? before_bq_read_option(TABLES(before_bq_, t), p->option, p->option_len)
+    return side == LIBRARY  ? bq_read_option(TABLES(t), p->option, p->option_len)
+           : side == BEFORE ? before_bq_read_option(TABLES(t), p->option, p->option_len)
                             : plain_read(p->option, p->option_len, p->mapping, p->label, p->label_len);
 }
 
@@ -1174,7 +1156,7 @@ static unsigned do_options(int side, int call, int kind)
 
 static bool packs(int side)
 {
-    return side == LIBRARY || side == PLAIN || (side == BEFORE && before_bq_write_option && before_bq_read_option);
+    return (is_library(side) && is_there(side)) || side == PLAIN;
 }
 
 /* Every side writes the same bytes and reads the same label, or refuses alike. */
@@ -1293,7 +1275,8 @@ static void add(int what, int a, int kind, int by, double scale, const char *nam
 
 static void add_all(void)
 {
-    static const char *const texts[TEXTS] = {"rule text, known pairs", "rule text, fresh tables", "rule text, refused lines", "rule text, blank lines"};
+    static const char *const texts[TEXTS] = {"rule text, known pairs", "rule text, fresh tables", "rule text, refused lines", "rule text, blank lines",
+                                             "rule text, known pairs, b in each line", "rule text, known pairs, a dash in place of b"};
     const unsigned all = (1u << PLAIN) - 1, alone = 1u << LIBRARY | 1u << BEFORE, two = alone | 1u << SECOND, three = two | 1u << KERNEL;
     char name[120];
     for (int l = 0; l < LAYOUTS; l++)
@@ -1327,22 +1310,22 @@ static void add_all(void)
                     snprintf(name, sizeof name, "%s; %s", MAP_CALL[call], SET[sets]);
                 else
                     snprintf(name, sizeof name, "%s; %s; %s", MAP_CALL[call], SET[sets], KIND[kind].name);
-                add(MAP, sets, kind, call, map_calls(call), name, maps(BEFORE, sets) ? alone : 1u << LIBRARY);
+                add(MAP, sets, kind, call, map_calls(call), name, alone);
             }
     for (int call = 0; call < OPTION_CALLS; call++)
         for (int kind = 0; kind < SIZES; kind++) {
             if (!is_packed(call, kind))
                 continue;
             snprintf(name, sizeof name, is_packed(call, LONG) ? "%s; %s" : "%s", OPTION_CALL[call], KIND[kind].name);
-            add(OPTION, 0, kind, call, QUESTIONS, name, 1u << LIBRARY | 1u << PLAIN | (packs(BEFORE) ? 1u << BEFORE : 0));
+            add(OPTION, 0, kind, call, QUESTIONS, name, alone | 1u << PLAIN);
         }
     for (int t = 0; t < TEXTS; t++)
-        for (int kind = 0; kind < (t == BLANK ? 1 : SIZES); kind++) {
+        for (int kind = 0; kind < sizes_of(t); kind++) {
             double bytes = (double)text_len[t][kind];
             if (t == FRESH)
                 bytes *= (double)((total + text_len[t][kind] - 1) / text_len[t][kind]);
             snprintf(name, sizeof name, t == BLANK ? "%s" : "%s; %s", texts[t], KIND[kind].name);
-            add(FEED, t, kind, 0, bytes, name, t == KNOWN || t == FRESH ? three : two);
+            add(FEED, t, kind, 0, bytes, name, t == REFUSED || t == BLANK ? two : three);
         }
 }
 
@@ -1565,7 +1548,7 @@ int main(int argc, char **argv)
     make_questions();
     make_changes();
     for (int which = 0; which < TEXTS; which++)
-        for (int kind = 0; kind < (which == BLANK ? 1 : SIZES); kind++)
+        for (int kind = 0; kind < sizes_of(which); kind++)
             make_text(which, kind, which == FRESH ? 1 << 20 : total);
     make_mappings();
     make_packets();

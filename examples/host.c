@@ -1,5 +1,6 @@
-/* A host of the library in C: it loads a rule file in pieces, asks, changes, revokes, maps and lists, says where a bad label goes wrong, turns a
- * file of old records into rules and back, and labels packets that another side reads. (examples/packet.c sends one.)
+/* A host of the library in C: it loads an old rule file in pieces, asks, changes, revokes, maps and lists, says where a bad label goes wrong and how many
+ * lines still have the retired letter b, turns a file of old records into rules and back, and labels packets that another side reads.
+ * (examples/packet.c sends one.)
  *
  *   gcc -O2 -Iinclude examples/host.c target/staticlib/libhost.a -o host && ./host examples/store_north.rules examples/old_logger.records
  *
@@ -93,7 +94,7 @@ static const char *in_words(uint8_t number)
     case BQ_BAD_RECORD:
         return "it does not have 53 bytes, or a label place is all spaces, has another byte after a space or does not end in a space";
     case BQ_NOT_IN_A_RECORD:
-        return "a label has over 23 bytes, or there is a b; no old record holds that, and a label is never cut";
+        return "a label has over 23 bytes; no old record holds that, and a label is never cut";
     case BQ_BAD_OPTION:
         return "it is not the one option with one tag of type 1, or not whole, or has bytes behind it";
     case BQ_OTHER_DOI:
@@ -124,6 +125,8 @@ static bool finish(bq_loader loader)
             printf("%s", in_words(end.report.reason));
         printf("\n");
     }
+    if (end.report.bringup > 0)
+        printf("%u accepted lines held the retired letter b, which was dropped\n", end.report.bringup);
     return true;
 }
 
@@ -163,7 +166,7 @@ static void ask(const char *subject, const char *object, const char *request, bo
     if (d.kind == BQ_REFUSED)
         print_refused(d.number, d.place, "the subject or, where that is well formed, of the object");
     else
-        printf("%s %d%s\n", kinds[d.kind], d.number, d.bringup ? " b" : "");
+        printf("%s %d\n", kinds[d.kind], d.number);
 }
 
 static void revoke(const char *subject)
@@ -433,13 +436,15 @@ int main(int argc, char **argv)
         return 1;
     ask("ClimateProbe_StoreNorth_01_Temp", "Air_StoreNorth_01", "w", false);
     ask("ClimateProbe_StoreNorth_01_Temp", "Air_StoreNorth_02", "w", false);
-    ask("Alarm", "Air_StoreNorth_02", "r", false);
+    ask("Alarm", "Air_StoreNorth_02", "r", false);  /* its line is an old one, with rB: r counts */
+    ask("Alarm", "Air_StoreNorth_02", "rb", false); /* BQ_BAD_REQUEST: b is no letter of a request, nor is t below */
     ask("Desk", "Air_StoreNorth_01", "r", false);
     ask("Desk", "Air_StoreNorth_01", "r", true);
-    ask("Desk", "Air_StoreNorth_01", "rt", true); /* BQ_BAD_REQUEST: t is no letter of a request */
-    ask("Desk", "Archive/2026", "r", true);       /* BQ_BAD_LABEL: with the place of the slash */
+    ask("Desk", "Air_StoreNorth_01", "rt", true);
+    ask("Desk", "Archive/2026", "r", true); /* BQ_BAD_LABEL: with the place of the slash */
 
     done("change 'Alarm Archive r -'", bq_change(TABLES, TEXT("Alarm Archive r -")));
+    done("change 'Alarm Archive rb -'", bq_change(TABLES, TEXT("Alarm Archive rb -")));         /* BQ_BAD_ACCESS: only lines may still have b */
     done("change 'Alarm Alarm r -'", bq_change(TABLES, TEXT("Alarm Alarm r -")));               /* BQ_SAME_LABELS */
     done("change 'Alarm Archive/2026 r -'", bq_change(TABLES, TEXT("Alarm Archive/2026 r -"))); /* BQ_BAD_LABEL, as three more below */
     ask("Alarm", "Archive", "r", false);
@@ -471,7 +476,7 @@ int main(int argc, char **argv)
     stray.word[2] |= 1; /* the lowest bit of the last word is no category */
     show_label_of(9, stray);
     show_lowest(desk_run, sizeof desk_run / sizeof *desk_run, 9, stray);
-    list();
+    list(); /* no rule has b */
 
     words[1] = 257; /* a damaged state: every call refuses it with BQ_DAMAGED, and leaves it as it is */
     done("change on 257 rules", bq_change(TABLES, TEXT("Alarm Archive r -")));
@@ -479,6 +484,7 @@ int main(int argc, char **argv)
     if (!old_records(argv[2]))
         return 1;
     show_record("Alarm Archive ra");
+    show_record("Alarm Archive rab"); /* the same record */
     show_record("ClimateProbe_StoreNorth_01_Temp Air_StoreNorth_01 w"); /* BQ_NOT_IN_A_RECORD */
     return packets() ? 0 : 1;
 }

@@ -1,5 +1,5 @@
-//! A host of the library in Rust: it loads a rule file in pieces, asks, changes, revokes, maps and lists, says where a bad label goes wrong, turns a
-//! file of old records into rules and back, and labels packets that another side reads.
+//! A host of the library in Rust: it loads an old rule file in pieces, asks, changes, revokes, maps and lists, says where a bad label goes wrong and how
+//! many lines still have the retired letter b, turns a file of old records into rules and back, and labels packets that another side reads.
 //!
 //!   rustc -O --edition 2021 -L target/staticlib examples/host.rs -o host && ./host examples/store_north.rules examples/old_logger.records
 //!
@@ -13,9 +13,9 @@ mod balqirven {
     pub const WORDS: usize = 100;
     pub const LINE: usize = 600;
 
-    /// The most bytes of a label, and of a listed rule: two labels, two spaces, six letters and a newline.
+    /// The most bytes of a label, and of a listed rule: two labels, two spaces, five letters and a newline.
     pub const LONGEST_LABEL: usize = 255;
-    pub const LONGEST_RULE: usize = 2 * LONGEST_LABEL + 2 + 6 + 1;
+    pub const LONGEST_RULE: usize = 2 * LONGEST_LABEL + 2 + 5 + 1;
 
     /// The bytes of an old record, and the most bytes of a label in it and of the line that is made of it.
     pub const FIXED_RECORD: usize = 53;
@@ -74,7 +74,8 @@ mod balqirven {
         }
     }
 
-    /// `place` belongs to the first refused line, and says something where `reason` is 3.
+    /// `place` belongs to the first refused line, and says something where `reason` is 3. `bringup` is how many accepted lines held b or B, the retired
+    /// bring-up letter, in their access field.
     #[repr(C)]
     #[derive(Clone, Copy)]
     pub struct Report {
@@ -85,6 +86,7 @@ mod balqirven {
         pub first: u32,
         pub reason: u8,
         pub place: usize,
+        pub bringup: u32,
     }
 
     #[repr(C)]
@@ -160,7 +162,6 @@ mod balqirven {
     struct Decision {
         kind: u8,
         number: u8,
-        bringup: bool,
         place: usize,
     }
 
@@ -255,7 +256,7 @@ mod balqirven {
     /// The answer to a question: rule numbers are 01's.
     #[derive(Clone, Copy, Debug, PartialEq, Eq)]
     pub enum Answer {
-        Granted { rule: u8, bringup: bool },
+        Granted { rule: u8 },
         Denied { rule: u8 },
         Override { rule: u8 },
         Refused(Refused),
@@ -356,7 +357,7 @@ mod balqirven {
         pub fn question(&self, subject: &[u8], object: &[u8], request: &[u8], capable: bool) -> Answer {
             let d = call!(bq_question, read self, subject.as_ptr(), subject.len(), object.as_ptr(), object.len(), request.as_ptr(), request.len(), capable);
             match d.kind {
-                GRANTED => Answer::Granted { rule: d.number, bringup: d.bringup },
+                GRANTED => Answer::Granted { rule: d.number },
                 DENIED => Answer::Denied { rule: d.number },
                 OVERRIDE => Answer::Override { rule: d.number },
                 _ => Answer::Refused(Refused { number: d.number, place: d.place }),
@@ -493,6 +494,9 @@ fn finish(t: &mut Tables, text: &mut Load) -> Option<()> {
         };
         println!("line {} is the first refused, with {}: {why}", r.first, r.reason);
     }
+    if r.bringup > 0 {
+        println!("{} accepted lines held the retired letter b, which was dropped", r.bringup);
+    }
     Some(())
 }
 
@@ -515,7 +519,7 @@ fn load(t: &mut Tables, path: &str) -> std::io::Result<Option<()>> {
 
 fn ask(t: &Tables, subject: &str, object: &str, request: &str, capable: bool) {
     let answer = match t.question(subject.as_bytes(), object.as_bytes(), request.as_bytes(), capable) {
-        Answer::Granted { rule, bringup } => format!("granted {rule}{}", if bringup { " b" } else { "" }),
+        Answer::Granted { rule } => format!("granted {rule}"),
         Answer::Denied { rule } => format!("denied {rule}"),
         Answer::Override { rule } => format!("override {rule}"),
         // the subject or, where that is well formed, the object
@@ -597,7 +601,7 @@ fn in_words(number: u8) -> &'static str {
         Refused::RULES_FULL => "there is no room for one more rule",
         Refused::OUTPUT_TOO_SHORT => "the lent output is too short",
         Refused::BAD_RECORD => "it does not have 53 bytes, or a label place is all spaces, has another byte after a space or does not end in a space",
-        Refused::NOT_IN_A_RECORD => "a label has over 23 bytes, or there is a b; no old record holds that, and a label is never cut",
+        Refused::NOT_IN_A_RECORD => "a label has over 23 bytes; no old record holds that, and a label is never cut",
         Refused::BAD_OPTION => "it is not the one option with one tag of type 1, or not whole, or has bytes behind it",
         Refused::OTHER_DOI => "it has another DOI than 3",
         Refused::BAD_OPTION_CATEGORY => "it has category 0 or one above 184",
@@ -755,13 +759,15 @@ fn main() {
     or_exit(rules, load(t, rules));
     ask(t, "ClimateProbe_StoreNorth_01_Temp", "Air_StoreNorth_01", "w", false);
     ask(t, "ClimateProbe_StoreNorth_01_Temp", "Air_StoreNorth_02", "w", false);
-    ask(t, "Alarm", "Air_StoreNorth_02", "r", false);
+    ask(t, "Alarm", "Air_StoreNorth_02", "r", false); // its line is an old one, with rB: r counts
+    ask(t, "Alarm", "Air_StoreNorth_02", "rb", false); // BAD_REQUEST: b is no letter of a request, nor is t below
     ask(t, "Desk", "Air_StoreNorth_01", "r", false);
     ask(t, "Desk", "Air_StoreNorth_01", "r", true);
-    ask(t, "Desk", "Air_StoreNorth_01", "rt", true); // BAD_REQUEST: t is no letter of a request
+    ask(t, "Desk", "Air_StoreNorth_01", "rt", true);
     ask(t, "Desk", "Archive/2026", "r", true); // BAD_LABEL: with the place of the slash
 
     done("change 'Alarm Archive r -'", t.change(b"Alarm Archive r -"));
+    done("change 'Alarm Archive rb -'", t.change(b"Alarm Archive rb -")); // BAD_ACCESS: only lines may still have b
     done("change 'Alarm Alarm r -'", t.change(b"Alarm Alarm r -")); // SAME_LABELS
     done("change 'Alarm Archive/2026 r -'", t.change(b"Alarm Archive/2026 r -")); // BAD_LABEL, as three more below
     ask(t, "Alarm", "Archive", "r", false);
@@ -794,13 +800,14 @@ fn main() {
     stray.word[2] |= 1; // the lowest bit of the last word is no category
     show_label_of(t, 9, stray);
     show_lowest(&desk_run, 9, stray);
-    list(t);
+    list(t); // no rule has b
 
     t.words[1] = 257; // a damaged state: every call refuses it with DAMAGED, and leaves it as it is
     done("change on 257 rules", t.change(b"Alarm Archive r -"));
 
     or_exit(records, old_records(records));
     show_record("Alarm Archive ra");
+    show_record("Alarm Archive rab"); // the same record
     show_record("ClimateProbe_StoreNorth_01_Temp Air_StoreNorth_01 w"); // NOT_IN_A_RECORD
     if packets().is_none() {
         std::process::exit(1);

@@ -25,7 +25,9 @@
  * two calls of old records and the two of the packet option tell none.
  *
  *    0  BQ_DAMAGED                the lent state has a part not of its full size, a count or length over its limit, a number that names
- *                                 no stored label, or an unknown mode or category bit. It comes before every other number.
+ *                                 no stored label, or an unknown mode or category bit. It comes before every other number. The mode bit
+ *                                 that stored b before version 5 is unknown now: where a state of then has it in a rule, make a fresh
+ *                                 table and load its rule text again, in which a b is a placeholder
  *    1  BQ_TOO_LONG               a line or a write has over 600 bytes, a mapping write over 1,000
  *    2  BQ_WRONG_FIELDS           wrong number of fields: not 3 (line), not 4 (change), under 2 (mapping), none (override list)
  *    3  BQ_BAD_LABEL              a label is not well formed; a packet option at level 250 does not make one
@@ -43,7 +45,7 @@
  *   13  BQ_NO_SUCH_NUMBER         no rule or label of that number
  *   14  BQ_BAD_RECORD             an old record has not 53 bytes, or a label place in it is all spaces, has another byte after a space or
  *                                 does not end in a space
- *   15  BQ_NOT_IN_A_RECORD        a line has a label over 23 bytes or a b, which no old record can hold
+ *   15  BQ_NOT_IN_A_RECORD        a line has a label over 23 bytes, which no old record can hold
  *   16  BQ_BAD_OPTION             a packet option has another layout than the one that is told at the two calls of it
  *   17  BQ_OTHER_DOI              a packet option has another DOI than 3
  *   18  BQ_BAD_OPTION_CATEGORY    a packet option has category 0 or one above 184
@@ -66,8 +68,9 @@ extern "C" {
 
 /* The version of this interface. MINOR is raised where something is added (a call, a name, a refusal number) and an older host need not
  * change; MAJOR, with MINOR at 0 again, where a struct, a size, a parameter or what a call answers changes, so that each host has to be
- * looked at and compiled again. (Version 3 took a mapping write at level 250: it gets 9 now.) */
-#define BQ_VERSION_MAJOR 4
+ * looked at and compiled again. (Since version 4 a mapping write at level 250 gets 9. Since version 5 the bring-up letter b is retired: a line may still
+ * have it and the report counts such lines, but no rule, listing or answer has it.) */
+#define BQ_VERSION_MAJOR 5
 #define BQ_VERSION_MINOR 0
 
 /* The sizes of the lent parts, in elements: bytes, bytes, 64-bit words, bytes. (Version 2 had 36 words: such a state gets 0 now.) */
@@ -76,9 +79,9 @@ extern "C" {
 #define BQ_WORDS 100
 #define BQ_LINE 600
 
-/* The most bytes of a label; and of a rule as bq_list_rule writes it: two labels, two spaces, six letters and a newline, 519. */
+/* The most bytes of a label; and of a rule as bq_list_rule writes it: two labels, two spaces, five letters and a newline, 518. */
 #define BQ_LONGEST_LABEL 255
-#define BQ_LONGEST_RULE (2 * BQ_LONGEST_LABEL + 2 + 6 + 1)
+#define BQ_LONGEST_RULE (2 * BQ_LONGEST_LABEL + 2 + 5 + 1)
 
 /* An old record, the fixed load form: two places of 24 bytes, each a label of 1 to 23 bytes at the left and spaces behind it, and five access
  * bytes. The most bytes of a line that is made of one: two labels, two spaces, five letters and a newline, 54. */
@@ -141,11 +144,14 @@ enum bq_refusal {
 
 /* The report: lines read, accepted, skipped and refused; the number (from 1) and the reason of the first refused line, 0 and 0 where
  * none is. Each is the true number or 4294967295, whichever is smaller. `place` belongs to that first refused line: where its reason is 3, the
- * place of its first bad byte, from 0, in the line, however the text was cut; 0 for any other reason, and where no line is refused. */
+ * place of its first bad byte, from 0, in the line, however the text was cut; 0 for any other reason, and where no line is refused. `bringup` is how
+ * many of the accepted lines held b or B in their access field, the retired bring-up letter, which was dropped there; each line counts once, and the
+ * number is limited as the others are. */
 typedef struct {
     uint32_t lines, accepted, skipped, refused, first;
     uint8_t reason;
     size_t place;
+    uint32_t bringup;
 } bq_report;
 
 /* The loader between two calls: how many bytes of the line under way are kept (601: it has over 600), and the report so far. */
@@ -218,13 +224,12 @@ typedef struct {
     size_t label;
 } bq_lowest;
 
-/* What a question answers: granted, with the rule's number, 2 to 6, and under rule 6 whether the rule has b; denied, with 1 or 7; granted
- * by override, with the rule that would have denied; refused, with its number. */
+/* What a question answers: granted, with the rule's number, 2 to 6; denied, with 1 or 7; granted by override, with the rule that would have
+ * denied; refused, with its number. */
 enum { BQ_GRANTED = 0, BQ_DENIED = 1, BQ_OVERRIDE = 2, BQ_REFUSED = 3 };
 typedef struct {
     uint8_t kind;
     uint8_t number;
-    bool bringup;
     size_t place;
 } bq_decision;
 
@@ -257,8 +262,9 @@ bq_loader bq_fresh_loader(void);
 /* ---- rule text */
 
 /* Takes a piece of rule text, cut anywhere, of any length. Each line (subject, object, access) is judged at its newline, whole, against
- * the tables as they then are. Access is letters of r w x a t b, either case, and dashes, which stand for none; a line of at most 600 blanks
- * and no other byte is skipped. A refused line does nothing but enter the report; the piece is done all the same.
+ * the tables as they then are. Access is letters of r w x a t, either case, and placeholders, which stand for no letter: the dash, and b or B, which
+ * old files may have (the report counts such lines in `bringup`). A line of at most 600 blanks and no other byte is skipped. A refused line does
+ * nothing but enter the report; the piece is done all the same.
  * Refusals: 0, also for a line part that is not 600 bytes and for `kept` over 601. */
 bq_taken bq_piece(uint8_t *labels, size_t labels_len, uint8_t *entries, size_t entries_len, uint64_t *words, size_t words_len,
                   uint8_t *line, size_t line_len, bq_loader loader, const uint8_t *text, size_t text_len);
@@ -272,7 +278,7 @@ bq_finished bq_end(uint8_t *labels, size_t labels_len, uint8_t *entries, size_t 
  * blanks (space, tab) between */
 
 /* Change: subject, object, modes to allow, modes to deny. The pair's new modes are (old or allow) without deny; a pair with no rule starts
- * from none and goes last. Letters are r w x a t and the dash, either case; b is refused with 4, and a stored b stays.
+ * from none and goes last. Letters are r w x a t and the dash, either case; b is refused with 4.
  * Refusals: 0 1 2 3 4 5 6 7. */
 bq_written bq_change(uint8_t *labels, size_t labels_len, uint8_t *entries, size_t entries_len, uint64_t *words, size_t words_len,
                      const uint8_t *text, size_t text_len);
@@ -313,7 +319,7 @@ bq_lowest bq_lowest_of(const uint64_t *run_labels, size_t run_labels_len, const 
 
 /* ---- questions */
 
-/* May subject have the access that request asks for, to object? `capable`: the asker has the override capability. Nothing changes.
+/* May subject have the access that request asks for, one or more of r w x a, either case, to object? `capable`: the asker has the override capability. Nothing changes.
  * Refusals: 0 3 8. */
 bq_decision bq_question(const uint8_t *labels, size_t labels_len, const uint8_t *entries, size_t entries_len, const uint64_t *words,
                         size_t words_len, const uint8_t *subject, size_t subject_len, const uint8_t *object, size_t object_len,
@@ -343,7 +349,7 @@ bq_length bq_record_to_line(const uint8_t *record, size_t record_len, uint8_t *o
 
 /* A rule line, with or without one closing newline, as an old record at the front of `out`: BQ_FIXED_RECORD bytes. That newline does not count among
  * the 600 bytes; any other is a byte of its field, or a field of its own behind a blank. A line without fields is refused with 2. A label is never
- * cut: one over 23 bytes is refused with 15, and so is a b. The record, turned back by bq_record_to_line, is the listing's form of the line.
+ * cut: one over 23 bytes is refused with 15. A b, in either case, is dropped. The record, turned back by bq_record_to_line, is the listing's form of the line.
  * Refusals: 1 2 3 4 5 15 12. */
 bq_length bq_line_to_record(const uint8_t *line, size_t line_len, uint8_t *out, size_t out_len);
 

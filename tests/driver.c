@@ -297,6 +297,8 @@ static void read_only(text *t) {
 /* ---- answers */
 
 _Static_assert(sizeof(bq_peer) == 272, "an option's reader answers 272 bytes");
+_Static_assert(sizeof(bq_report) == 40 && sizeof(bq_loader) == 48, "a report has 40 bytes, a loader 48");
+_Static_assert(BQ_LONGEST_RULE == 518, "the longest rule has 518 bytes: two labels, two spaces, five letters and a newline");
 
 static void put_refused(uint8_t number) { put_word_number("refused", number); }
 
@@ -321,7 +323,7 @@ static void put_written(bq_written w) {
 
 static bool same_report(bq_report a, bq_report b) {
     return a.lines == b.lines && a.accepted == b.accepted && a.skipped == b.skipped && a.refused == b.refused && a.first == b.first &&
-           a.reason == b.reason && a.place == b.place;
+           a.reason == b.reason && a.place == b.place && a.bringup == b.bringup;
 }
 
 static bool same_loader(bq_loader a, bq_loader b) { return a.kept == b.kept && same_report(a.report, b.report); }
@@ -334,6 +336,7 @@ static void put_report_numbers(bq_report r) {
     put_word_number("", r.first);
     put_word_number("", r.reason);
     put_word_number("", r.place);
+    put_word_number("", r.bringup);
 }
 
 static void put_finished(bq_finished f, bq_loader before) {
@@ -392,7 +395,6 @@ static void put_decision(bq_decision d) {
         return;
     }
     put_word_number(kinds[d.kind], d.number);
-    if (d.bringup) put(d.kind == BQ_GRANTED ? " b" : " stray");
     put_place(d.kind == BQ_REFUSED, d.number, d.place);
 }
 
@@ -511,7 +513,7 @@ static bool call_poke(const char *at, const char *end) {
         if (!read_number(value, &number) || where >= words_len) return false;
         words[where] = number;
     } else if (is(part, "loader")) {
-        if (!read_number(value, &number) || where > 7) return false;
+        if (!read_number(value, &number) || where > 8) return false;
         if (where != 0 && where != 7 && number > (where == 6 ? UINT8_MAX : UINT32_MAX)) return false;
         switch (where) {
         case 0: loader.kept = number; break;
@@ -521,7 +523,8 @@ static bool call_poke(const char *at, const char *end) {
         case 4: loader.report.refused = (uint32_t)number; break;
         case 5: loader.report.first = (uint32_t)number; break;
         case 6: loader.report.reason = (uint8_t)number; break;
-        default: loader.report.place = number; break;
+        case 7: loader.report.place = number; break;
+        default: loader.report.bringup = (uint32_t)number; break;
         }
     } else {
         uint8_t *bytes;

@@ -5,7 +5,7 @@ the second implementation the outputs that go with them (NAME.out, NAME.answers)
   tests/make_corpus.py
 
 The order is that of 01, the scope paper; then come the old fixed records of 02, request One, how labels and pairs are found, request Two, the places of bad bytes, request Three, the
-categories up to 184, request Four, and the packet option, request Five. What the paper says of a call stands before the call as a comment line that tests/corpus_check holds the answers to:
+categories up to 184, request Four, the packet option, request Five, and the letter b, which is retired, request Six. What the paper says of a call stands before the call as a comment line that tests/corpus_check holds the answers to:
 
   # expect: ANSWER              the next call answers exactly this
   # expect: same NAME           the next call answers what the first call so marked in this script answered
@@ -14,7 +14,7 @@ categories up to 184, request Four, and the packet option, request Five. What th
 
 These lines are written here from the papers, not taken from a program. Where a call is expected to be refused with 3, the place beside it is worked out from its bytes by the short functions
 below, which say what 02, Three, says; the scripts places_* give most places by hand. The packet options that a loop makes, and what is read of them, are worked out by short functions at the head of
-that group, which say 02, Five, category by category; others stand as numbers. What the program says to a small input is given here too, and tested as the corpus
+that group, which say 02, Five, category by category; others stand as numbers. Where a single line is accepted, whether the report counts it as one that held b is told by its access field. What the program says to a small input is given here too, and tested as the corpus
 is written. The scripts kernel_*.calls are made of recordings of a running kernel, from the folder named by KERNEL_VECTORS; without it those that are stored
 stay as they are.
 """
@@ -131,16 +131,16 @@ class Script:
     def piece(self, text, expect="done"):
         self.call("piece " + h(text), expect)
 
-    def end(self, expect=None, place=0):
-        """`expect` is a report without its last number, the place of the first refused line; or another answer."""
-        self.call("end", "%s %d" % (expect, place) if (expect or "").startswith("report ") else expect)
+    def end(self, expect=None, place=0, bringup=0):
+        """`expect` is a report without its last two numbers, the place of the first refused line and how many accepted lines held b; or another answer."""
+        self.call("end", "%s %d %d" % (expect, place, bringup) if (expect or "").startswith("report ") else expect)
 
     def line(self, text, reason, place=None):
-        """One whole line. Reason None: accepted; "skipped"; else the number of its refusal. The place beside 3 is worked out where it is not given."""
+        """One whole line. Reason None: accepted; "skipped"; else the number of its refusal. The place beside 3 is worked out where it is not given, and so is the count of lines with b."""
         self.piece(text + b"\n")
         if reason == 3 and place is None:
             place = place_in(text, 2)
-        self.end("report 1 " + ("1 0 0 0 0" if reason is None else "0 1 0 0 0" if reason == "skipped" else "0 0 1 1 %d" % reason), place or 0)
+        self.end("report 1 " + ("1 0 0 0 0" if reason is None else "0 1 0 0 0" if reason == "skipped" else "0 0 1 1 %d" % reason), place or 0, reason is None and b"b" in cut(text)[2].lower())
 
     def change(self, text, expect="done"):
         self.call("change " + h(text), expect)
@@ -264,8 +264,8 @@ def pairs():
     return [(name_of(a), name_of(b)) for a in range(5, 25) for b in range(5, 25) if a != b]
 
 
-def rules_to(s, count, access=b"r"):
-    s.piece(b"".join(b"%s %s %s\n" % (a, b, access) for a, b in pairs()[:count]))
+def rules_to(s, count):
+    s.piece(b"".join(b"%s %s r\n" % (a, b) for a, b in pairs()[:count]))
     s.end("report %d %d 0 0 0 0" % (count, count))
 
 
@@ -297,7 +297,7 @@ def limits():
     s.say("P10")
     s.fresh()
     s.line(b"Probe3 Air rRb", None)
-    s.ask(b"Probe3", b"Air", b"r", "granted 6 b")
+    s.ask(b"Probe3", b"Air", b"r", "granted 6")
     s.say("P11")
     s.fresh()
     s.line(b"A B r", None)
@@ -332,9 +332,10 @@ def limits():
     s.label(5, one)
     s.label(7, two)
     s.line(one + b" " + two + b" rwxatb", None)
-    s.say("The longest line of a listing: 255, 255, six letters, two spaces, a newline: 519.")
-    s.list(2, one + b" " + two + b" rwxatb\n", b"\xee" * 519)
-    s.list(2, 12, b"\xee" * 518)
+    s.say("The longest line of a listing: 255, 255, five letters, two spaces, a newline: 518.")
+    s.list(2, one + b" " + two + b" rwxat\n", b"\xee" * 518)
+    s.list(2, one + b" " + two + b" rwxat\n", b"\xee" * 519)
+    s.list(2, 12, b"\xee" * 517)
 
     s.say("600 blanks are skipped; 601 are refused 1. Also as the last line, without a newline.")
     for blank in (b" ", b"\t"):
@@ -470,7 +471,7 @@ def bytes_and_letters():
         letter = one.lower() in (b"r", b"w", b"x", b"a")
         s.ask(b"A", b"A", one, "granted 5" if letter else "refused 8")
         s.ask(b"A", b"A", b"rw" + one, "granted 5" if letter else "refused 8")
-    s.say("In an access field: the letters of a mode, either case, and the dash. A blank leaves the field as it is; a newline ends the line.")
+    s.say("In an access field: the letters of a mode, either case, and the dash; in a line b too. A blank leaves the field as it is; a newline ends the line.")
     for b in range(256):
         one = bytes([b])
         if b == 10:
@@ -480,24 +481,24 @@ def bytes_and_letters():
         s.line(b"A B r" + one, None if mode or blank else 4)
         s.change(b"A B - r" + one, "done" if blank or mode and one.lower() != b"b" else "refused 4")
         s.change(b"A B " + one + b"r -", "done" if blank or mode and one.lower() != b"b" else "refused 4")
-    s.say("Letters are written in the order r w x a t b. A dash is a placeholder.")
-    for access, listed in ((b"-", b"-"), (b"---", b"-"), (b"a-r", b"ra"), (b"BTAXWR", b"rwxatb"), (b"btaxwr", b"rwxatb"), (b"rRrR", b"r"), (b"-r", b"r"), (b"r-", b"r"),
-                           (b"b", b"b"), (b"tb", b"tb"), (b"xw", b"wx")):
+    s.say("Letters are written in the order r w x a t. A dash is a placeholder, and so is b.")
+    for access, listed in ((b"-", b"-"), (b"---", b"-"), (b"a-r", b"ra"), (b"BTAXWR", b"rwxat"), (b"btaxwr", b"rwxat"), (b"rRrR", b"r"), (b"-r", b"r"), (b"r-", b"r"),
+                           (b"b", b"-"), (b"tb", b"t"), (b"xw", b"wx")):
         s.line(b"A B " + access, None)
         s.list(0, b"A B " + listed + b"\n")
     for k in range(64):
         access = b"".join(letter for i, letter in enumerate((b"r", b"w", b"x", b"a", b"t", b"b")) if k >> i & 1) or b"-"
         s.line(b"A B " + access[::-1], None)
-        s.list(0, b"A B " + access + b"\n")
-        s.ask(b"A", b"B", b"rwxa", ("granted 6 b" if k >> 5 else "granted 6") if k & 15 == 15 else "denied 7")
-        s.ask(b"A", b"B", b"w", ("granted 6 b" if k >> 5 else "granted 6") if k & 2 else "denied 7")
-        s.ask(b"A", b"B", b"A", ("granted 6 b" if k >> 5 else "granted 6") if k & 8 else "denied 7")
-    s.say("A stored b stays under a change; a line sets the modes wholly.")
+        s.list(0, b"A B " + (access.replace(b"b", b"") or b"-") + b"\n")
+        s.ask(b"A", b"B", b"rwxa", "granted 6" if k & 15 == 15 else "denied 7")
+        s.ask(b"A", b"B", b"w", "granted 6" if k & 2 else "denied 7")
+        s.ask(b"A", b"B", b"A", "granted 6" if k & 8 else "denied 7")
+    s.say("Of a line's b nothing is stored that a change could leave; a line sets the modes wholly.")
     s.line(b"A B rb", None)
     s.change(b"A B w r")
-    s.list(0, b"A B wb\n")
+    s.list(0, b"A B w\n")
     s.change(b"A B rwxat rwxat")
-    s.list(0, b"A B b\n")
+    s.list(0, b"A B -\n")
     s.line(b"A B x", None)
     s.list(0, b"A B x\n")
     s.change(b"C D - -")
@@ -811,7 +812,7 @@ def under_damage(call):
 
 
 def small_state(s):
-    """Labels 5 to 8 are A B C D; three rules, two mappings, two override labels; a line under way."""
+    """Labels 5 to 8 are A B C D; three rules, two mappings, two override labels; a line under way; of three accepted lines one held b."""
     s.fresh()
     s.piece(b"A B r\nB C wb\nA C x\nA A r\nA ")
     s.mapping(b"A 9 1 63")
@@ -880,12 +881,12 @@ def damage():
             kinds.append(("count %d is %d" % (index, value), "words", index, value, old))
     for value in (8, 5, 0):
         kinds.append(("only %d labels, so numbers lose theirs" % value, "words", 0, value, 9))
-    subjects, objects, modes = [5, 6, 5], [6, 7, 7], [32, 17, 8]
+    subjects, objects, modes = [5, 6, 5], [6, 7, 7], [32, 16, 8]
     for k in range(3):
         for value in (9, 64, 255):
             kinds.append(("subject %d is %d" % (k, value), "entries", k, value, subjects[k]))
             kinds.append(("object %d is %d" % (k, value), "entries", 256 + k, value, objects[k]))
-        for value in (64, 128, 192, 255, 64 | modes[k]):
+        for value in (1, 64, 128, 192, 255, 1 | modes[k], 64 | modes[k]):
             kinds.append(("modes %d are %d" % (k, value), "entries", 512 + k, value, modes[k]))
     for k, old in ((0, 5), (1, 8)):
         for value in (9, 64, 255):
@@ -908,7 +909,7 @@ def damage():
         s.dump("sound")
     s.say("Undamaged again, every call does its work.")
     s.piece(b"B r\n")
-    s.end("report 5 4 0 1 4 5")
+    s.end("report 5 4 0 1 4 5", 0, 1)
     s.say("A fresh table is made of memory of any contents: only the sizes count.")
     s.poke("words", 0, 65)
     s.poke("words", 99, HUGE)
@@ -930,7 +931,7 @@ def damage():
     places[0] = ("last subject", 255, int(last[0][1:]))
     places[1] = ("last object", 511, int(last[1][1:]))
     for number, (note, at, old) in enumerate(places + [("first subject", 0, 5), ("subject in the middle", 128, int(pairs()[128][0][1:])), ("object in the middle", 256 + 77, int(pairs()[77][1][1:]))]):
-        for value in (64, 128, 255):
+        for value in (1, 33, 63, 64, 128, 255) if note == "last modes" else (64, 128, 255):
             s.say("%s is %d" % (note, value))
             s.poke("entries", at, bytes([value]))
             refused_by_all(s)
@@ -964,8 +965,8 @@ def damage():
     s.dump("sound")
     s.say("A level is any byte; 63 is a label; every known mode bit: no damage.")
     s.poke("entries", 831, b"\xff")
-    s.poke("entries", 767, b"\x3f")
-    s.list(255, last[0] + b" " + last[1] + b" rwxatb\n")
+    s.poke("entries", 767, b"\x3e")
+    s.list(255, last[0] + b" " + last[1] + b" rwxat\n")
     s.bylevel(255, category(1) | category(63), "label 31")
     s.store()
 
@@ -1162,7 +1163,7 @@ def odd():
     s.poke("labels", 5 * 256 + 2, b"\xaa" * 254)
     s.dump()
     s.ask(b"A", b"B", b"r", "granted 6")
-    s.ask(b"B", b"C", b"w", "granted 6 b")
+    s.ask(b"B", b"C", b"w", "granted 6")
     s.label(5, b"A")
     s.label(9, 13)
     s.bylevel(255, ALL, "none")
@@ -1175,7 +1176,7 @@ def odd():
     s.label(9, b"New")
     s.label(10, b"Other")
     s.dump()
-    s.end("report 6 5 0 1 4 5")
+    s.end("report 6 5 0 1 4 5", 0, 1)
     s.say("A shorter override list leaves the bytes behind its count; a label's place keeps the bytes behind the label.")
     s.override(b"A B C D")
     s.override(b"D")
@@ -1309,8 +1310,8 @@ def cuts():
     s = Script("cuts_short", "01, Piece: every cut of a short text into two pieces, into three, and byte by byte: the same report, the same state.")
     text = b"A B r\nC  D wb\n A A r\n\nE F q\n G\tH -x"
     s.piece(text)
-    s.end("report 6 3 1 2 3 5")
-    for k, listed in enumerate((b"A B r\n", b"C D wb\n", b"G H x\n")):
+    s.end("report 6 3 1 2 3 5", 0, 1)
+    for k, listed in enumerate((b"A B r\n", b"C D w\n", b"G H x\n")):
         s.list(k, listed)
     fed(s, text, [])
     for cut in range(len(text) + 1):
@@ -1369,10 +1370,10 @@ def thousands():
     program("program_thousands", b"".join(line + b"\n" for line in lines[:2500]) + b"?\n" +
             b"".join(b"L%02d L%02d %s%s\n" % (rng.randrange(52), rng.randrange(52), rng.choice([b"r", b"w", b"rw", b"x", b"q"]), rng.choice([b"", b" o"])) for _ in range(2500)))
     program("program_many_rules", b"".join(b"%s %s rw\n" % pair for pair in pairs()) + b"?\n" + b"".join(b"%s %s w\n" % pair for pair in pairs()),
-            ["380 256 0 124 257 7"] + ["granted 6"] * 256 + ["denied 7"] * 124)
+            ["380 256 0 124 257 7 0"] + ["granted 6"] * 256 + ["denied 7"] * 124)
     program("program_many_labels", b"".join(b"S%d O%d r\n" % (k, k) for k in range(40)) + b"?\n" + b"".join(b"S%d O%d r\n" % (k, k) for k in range(40)),
-            ["40 29 0 11 30 6"] + ["granted 6"] * 29 + ["denied 7"] * 11)
-    program("program_blank_lines", b"\n" * 3000 + b"A B r\n" + b" \n" * 2000, ["5001 1 5000 0 0 0"])
+            ["40 29 0 11 30 6 0"] + ["granted 6"] * 29 + ["denied 7"] * 11)
+    program("program_blank_lines", b"\n" * 3000 + b"A B r\n" + b" \n" * 2000, ["5001 1 5000 0 0 0 0"])
 
 
 # ---------------------------------------------------------------------------------------------------------------------------------------------
@@ -1380,50 +1381,50 @@ def thousands():
 # ---------------------------------------------------------------------------------------------------------------------------------------------
 
 def programs():
-    program("program_example", b"Probe3 Air w\n?\nProbe3 Air w\nAir Probe3 w o\n", ["1 1 0 0 0 0", "granted 6", "override 7"])
-    program("program_no_newline", b"Probe3 Air w\n?\nProbe3 Air w\nAir Probe3 w o", ["1 1 0 0 0 0", "granted 6", "override 7"])
-    program("program_empty", b"", ["0 0 0 0 0 0"])
-    program("program_newline", b"\n", ["1 0 1 0 0 0"])
+    program("program_example", b"Probe3 Air w\n?\nProbe3 Air w\nAir Probe3 w o\n", ["1 1 0 0 0 0 0", "granted 6", "override 7"])
+    program("program_no_newline", b"Probe3 Air w\n?\nProbe3 Air w\nAir Probe3 w o", ["1 1 0 0 0 0 0", "granted 6", "override 7"])
+    program("program_empty", b"", ["0 0 0 0 0 0 0"])
+    program("program_newline", b"\n", ["1 0 1 0 0 0 0"])
     # 6.1: skipping is a rule of rule text only.
     program("program_blank_questions", b"A B r\n\n \n?\n\n \n\t\nA B r\n" + b" " * 600 + b"\n" + b" " * 601 + b"\n",
-            ["3 1 2 0 0 0", "refused 2", "refused 2", "refused 2", "granted 6", "refused 2", "refused 1"])
+            ["3 1 2 0 0 0 0", "refused 2", "refused 2", "refused 2", "granted 6", "refused 2", "refused 1"])
     # 6.2: the last line needs no newline.
-    program("program_mark_last", b"A B r\n?", ["1 1 0 0 0 0"])
-    program("program_mark_alone", b"?", ["0 0 0 0 0 0"])
-    program("program_mark_alone_newline", b"?\n", ["0 0 0 0 0 0"])
-    program("program_mark_first", b"?\nA A w\nA B w", ["0 0 0 0 0 0", "granted 5", "denied 7"])
+    program("program_mark_last", b"A B r\n?", ["1 1 0 0 0 0 0"])
+    program("program_mark_alone", b"?", ["0 0 0 0 0 0 0"])
+    program("program_mark_alone_newline", b"?\n", ["0 0 0 0 0 0 0"])
+    program("program_mark_first", b"?\nA A w\nA B w", ["0 0 0 0 0 0 0", "granted 5", "denied 7"])
     # 6.3: without the mark everything is rule text.
-    program("program_no_mark", b"A B r\nC D w\nE F", ["3 2 0 1 3 2"])
-    program("program_no_mark_newline", b"A B r\n", ["1 1 0 0 0 0"])
-    program("program_one_line", b"A B r", ["1 1 0 0 0 0"])
+    program("program_no_mark", b"A B r\nC D w\nE F", ["3 2 0 1 3 2 0"])
+    program("program_no_mark_newline", b"A B r\n", ["1 1 0 0 0 0 0"])
+    program("program_one_line", b"A B r", ["1 1 0 0 0 0 0"])
     # 6.4: exactly `?`. A later one is a question line with other fields.
-    program("program_near_marks", b"? \n ?\n?\r\n??\n?\t\n? ? r\n?\n?\n? \n? ? r\n", ["6 0 0 6 1 2", "refused 2", "refused 2", "granted 5"])
+    program("program_near_marks", b"? \n ?\n?\r\n??\n?\t\n? ? r\n?\n?\n? \n? ? r\n", ["6 0 0 6 1 2 0", "refused 2", "refused 2", "granted 5"])
     # 6.5 and 6.6: the fourth field, the order 1 2 3 8.
     program("program_fields", b"A B r\n?\nA B r o\nA B w o\nA B w O\nA B w oo\nA B w 0\nA B w o o\nA B w o x\nA B o\nA B\nA\nA B w\tx\n  A\tB  w  o  \n"
             b"A/ B q x\nA/ B\nA/ B q\nA B/ q o\nA B q\nA B -\nA B t\nA B b\n* _ q\n* _ r\n* _ r o\n",
-            ["1 1 0 0 0 0", "granted 6", "override 7", "refused 2", "refused 2", "refused 2", "refused 2", "refused 2", "refused 8", "refused 2", "refused 2", "refused 2", "override 7",
+            ["1 1 0 0 0 0 0", "granted 6", "override 7", "refused 2", "refused 2", "refused 2", "refused 2", "refused 2", "refused 8", "refused 2", "refused 2", "refused 2", "override 7",
              "refused 2", "refused 2", "refused 3", "refused 3", "refused 8", "refused 8", "refused 8", "refused 8", "refused 8", "denied 1", "override 1"])
     # 6.6: lines after the mark never load; the mark is not counted.
-    program("program_no_loading_later", b"A B r\n?\nA C w\nA C w\nA B r\n", ["1 1 0 0 0 0", "denied 7", "denied 7", "granted 6"])
+    program("program_no_loading_later", b"A B r\n?\nA C w\nA C w\nA B r\n", ["1 1 0 0 0 0 0", "denied 7", "denied 7", "granted 6"])
     # 6.7
-    program("program_marks_as_labels", b"? ? r\n? @ r\n?\n? ? r\n? @ r\n@ ? r\n", ["2 1 0 1 1 5", "granted 5", "granted 6", "denied 7"])
+    program("program_marks_as_labels", b"? ? r\n? @ r\n?\n? ? r\n? @ r\n@ ? r\n", ["2 1 0 1 1 5 0", "granted 5", "granted 6", "denied 7"])
     # 6.8: 600 and 601 bytes, in rule text and in questions; long enough for any buffer.
     program("program_600", b"A B r" + b" " * 595 + b"\n" + b"A B w" + b" " * 596 + b"\n?\nA B r" + b" " * 595 + b"\nA B r" + b" " * 596 + b"\nA B w\n",
-            ["2 1 0 1 2 1", "granted 6", "refused 1", "denied 7"])
-    program("program_600_blanks", b" " * 600 + b"\n" + b" " * 601 + b"\n" + b" " * 601, ["3 0 1 2 2 1"])
-    program("program_long_lines", b"x" * 66000 + b"\nA B r\n?\n" + b"y" * 9000 + b"\nA B r\n" + b"A B r" + b" " * 9000, ["2 1 0 1 1 1", "refused 1", "granted 6", "refused 1"])
-    program("program_long_mark", b"?" * 601 + b"\n" + b"?" + b" " * 600 + b"\n?\nA A r", ["2 0 0 2 1 1", "granted 5"])
+            ["2 1 0 1 2 1 0", "granted 6", "refused 1", "denied 7"])
+    program("program_600_blanks", b" " * 600 + b"\n" + b" " * 601 + b"\n" + b" " * 601, ["3 0 1 2 2 1 0"])
+    program("program_long_lines", b"x" * 66000 + b"\nA B r\n?\n" + b"y" * 9000 + b"\nA B r\n" + b"A B r" + b" " * 9000, ["2 1 0 1 1 1 0", "refused 1", "granted 6", "refused 1"])
+    program("program_long_mark", b"?" * 601 + b"\n" + b"?" + b" " * 600 + b"\n?\nA A r", ["2 0 0 2 1 1 0", "granted 5"])
     program("program_labels_255", b"L" * 255 + b" " + b"M" * 255 + b" rwxatb\n" + b"L" * 256 + b" B r\n?\n" + b"L" * 255 + b" " + b"M" * 255 + b" rwxa\n" + b"L" * 254 + b" " + b"M" * 255 + b" r\n"
-            + b"L" * 256 + b" B r\n", ["2 1 0 1 2 3", "granted 6 b", "denied 7", "refused 3"])
-    program("program_nul", b"A\x00 B r\nA B\x00r\n\x00\nA B r\x00\nA B r\n?\nA B r\x00\nA\x00 B r\n\x00\n\x00?\nA B r", ["5 1 0 4 1 3", "refused 8", "refused 3", "refused 2", "refused 2", "granted 6"])
-    program("program_byte_255", b"\xff B r\nA \xff r\nA B \xff\n\xff\n?\n\xff B r\nA \xff r\nA B \xff\n\xff\n", ["4 0 0 4 1 3", "refused 3", "refused 3", "refused 8", "refused 2"])
-    program("program_carriage_returns", b"A B r\r\nA B r \r\n\r\n?\r\n?\nA B r\r\nA B r \r\n", ["4 0 0 4 1 4", "refused 8", "refused 2"])
+            + b"L" * 256 + b" B r\n", ["2 1 0 1 2 3 1", "granted 6", "denied 7", "refused 3"])
+    program("program_nul", b"A\x00 B r\nA B\x00r\n\x00\nA B r\x00\nA B r\n?\nA B r\x00\nA\x00 B r\n\x00\n\x00?\nA B r", ["5 1 0 4 1 3 0", "refused 8", "refused 3", "refused 2", "refused 2", "granted 6"])
+    program("program_byte_255", b"\xff B r\nA \xff r\nA B \xff\n\xff\n?\n\xff B r\nA \xff r\nA B \xff\n\xff\n", ["4 0 0 4 1 3 0", "refused 3", "refused 3", "refused 8", "refused 2"])
+    program("program_carriage_returns", b"A B r\r\nA B r \r\n\r\n?\r\n?\nA B r\r\nA B r \r\n", ["4 0 0 4 1 4 0", "refused 8", "refused 2"])
     program("program_all_bytes", bytes(range(256)) + b"\n?\n" + bytes(range(255, -1, -1)), None)
     program("program_capability", b"A B r\n?\nA B w o\nA B r o\n* B r o\n^ B rx o\nB _ w o\nX Y a o\nX X a o\nX * a o\n",
-            ["1 1 0 0 0 0", "override 7", "granted 6", "override 1", "granted 2", "override 7", "override 7", "granted 5", "granted 4"])
+            ["1 1 0 0 0 0 0", "override 7", "granted 6", "override 1", "granted 2", "override 7", "override 7", "granted 5", "granted 4"])
     program("program_modes", b"A B rRb\nC D RWXATB\nE F -\nG H a-r\n?\nA B r\nA B R\nC D rwxa\nE F r\nG H ar\nG H w\n",
-            ["4 4 0 0 0 0", "granted 6 b", "granted 6 b", "granted 6 b", "denied 7", "granted 6", "denied 7"])
-    program("program_every_reason", b"A B\nA/ B r\nA B q\nA A r\n" + b" " * 601 + b"\n?\n", ["5 0 0 5 1 2"])
+            ["4 4 0 0 0 0 2", "granted 6", "granted 6", "granted 6", "denied 7", "granted 6", "denied 7"])
+    program("program_every_reason", b"A B\nA/ B r\nA B q\nA A r\n" + b" " * 601 + b"\n?\n", ["5 0 0 5 1 2 0"])
 
 
 # ---------------------------------------------------------------------------------------------------------------------------------------------
@@ -1491,7 +1492,7 @@ def says_revoke(text, rules):
 
 
 def listed_modes(letters):
-    return b"".join(bytes([c]) for c in b"rwxatb" if c in letters.lower()) or b"-"
+    return b"".join(bytes([c]) for c in b"rwxat" if c in letters.lower()) or b"-"
 
 
 def ranges_access():
@@ -1536,7 +1537,7 @@ def ranges_access():
             s.ask(b"A", b"A", before + b"q" + behind, "refused 8")
             s.ask(b"A", b"A", before + b"-" + behind, "refused 8")
             s.ask(b"^", b"A", before + b"w" + behind, "denied 7")
-    s.say("New modes are (old modes or allow) without deny: each letter allowed, each denied, from none, all and each letter alone; a stored b stays.")
+    s.say("New modes are (old modes or allow) without deny: each letter allowed, each denied, from none, all and each letter alone; b in the line before is none.")
     for old in [b"-", b"rwxatb"] + [bytes([c]) for c in b"rwxatb"]:
         for allow in b"rwxat-":
             for deny in b"rwxat-":
@@ -1724,7 +1725,7 @@ def ranges_labels():
 
 
 def ranges_questions():
-    s = Script("questions_more", "01, Questions: labels that begin or end as a special one; rules with b beside the rules before 6; a rule of a label with itself; lists of each length.", True)
+    s = Script("questions_more", "01, Questions: labels that begin or end as a special one; rules beside the rules before 6; a rule of a label with itself; lists of each length.", True)
     names = [b"**", b"^^", b"__", b"??", b"@@", b"*x", b"^x", b"_x", b"x*", b"x^", b"x_", b"*_", b"_*", b"^*", b"*^", b"_^", b"^_"]
     for first in range(2):
         for a in names:
@@ -1748,26 +1749,26 @@ def ranges_questions():
     for k, a in enumerate(names):
         s.line(a + b" Air rb", None)
         s.line(b"Air " + a + b" w", None)
-        s.ask(a, b"Air", b"r", "granted 6 b")
+        s.ask(a, b"Air", b"r", "granted 6")
         s.ask(a, b"Air", b"w", "denied 7")
         s.ask(b"Air", a, b"w", "granted 6")
         s.ask(b"Air", a, b"r", "denied 7")
         s.revoke(a, "revoked 1")
         s.ask(a, b"Air", b"r", "denied 7")
-    s.say("Rules that would grant with b: the rules before 6 decide first, and tell no b.")
+    s.say("Rules that would grant: the rules before 6 decide first.")
     s.fresh()
     s.piece(b"^ A rwxatb\nA _ rwxatb\nA * rwxatb\n* A rwxatb\n^ _ rwxatb\n^ * rwxatb\n* _ rwxatb\n_ ^ rwxatb\n")
     for capable in (0, 1):
         denied = "override" if capable else "denied"
-        for a, b, request, answer in ((b"^", b"A", b"r", "granted 2"), (b"^", b"A", b"xr", "granted 2"), (b"^", b"A", b"rw", "granted 6 b"), (b"^", b"A", b"a", "granted 6 b"),
-                                      (b"A", b"_", b"r", "granted 3"), (b"A", b"_", b"rxa", "granted 6 b"), (b"A", b"*", b"r", "granted 4"), (b"A", b"*", b"rwxa", "granted 4"),
+        for a, b, request, answer in ((b"^", b"A", b"r", "granted 2"), (b"^", b"A", b"xr", "granted 2"), (b"^", b"A", b"rw", "granted 6"), (b"^", b"A", b"a", "granted 6"),
+                                      (b"A", b"_", b"r", "granted 3"), (b"A", b"_", b"rxa", "granted 6"), (b"A", b"*", b"r", "granted 4"), (b"A", b"*", b"rwxa", "granted 4"),
                                       (b"*", b"A", b"r", denied + " 1"), (b"*", b"_", b"r", denied + " 1"), (b"*", b"_", b"w", denied + " 1"), (b"^", b"_", b"r", "granted 2"),
-                                      (b"^", b"_", b"w", "granted 6 b"), (b"^", b"*", b"r", "granted 2"), (b"^", b"*", b"w", "granted 4"), (b"_", b"^", b"r", "granted 6 b"),
+                                      (b"^", b"_", b"w", "granted 6"), (b"^", b"*", b"r", "granted 2"), (b"^", b"*", b"w", "granted 4"), (b"_", b"^", b"r", "granted 6"),
                                       (b"^", b"^", b"r", "granted 2"), (b"^", b"^", b"w", "granted 5"), (b"_", b"_", b"r", "granted 3"), (b"_", b"_", b"w", "granted 5")):
             s.ask(a, b, request, answer, capable)
     s.say("A lent rule of a label with itself: rule 5 decides before it, whatever its modes.")
     for number, label in enumerate(FIVE + [b"A"]):
-        for modes in (0, 32, 60, 61, 63):
+        for modes in (0, 32, 60, 34, 62):
             s.fresh()
             s.line(b"A B r", None)
             s.poke("entries", 0, bytes([number]))
@@ -1787,7 +1788,7 @@ def ranges_questions():
     for n in range(9):
         s.override(b" ".join(eight[:n]) or b"-")
         for k, p in enumerate(eight):
-            s.ask(p, b"Air", b"r", "granted 6 b", 1)
+            s.ask(p, b"Air", b"r", "granted 6", 1)
             s.ask(p, b"Air", b"w", "override 7" if n == 0 or k < n else "denied 7", 1)
             s.ask(p, b"Air", b"w", "denied 7")
             s.ask(p, p, b"w", "granted 5", 1)
@@ -1887,7 +1888,7 @@ def ranges_refusals():
     s.store()
 
     s = Script("refusals_revoke", "01, Revoke: every rule with that subject, at each place, gets no modes; the others keep theirs; the count is of all of them.", True)
-    s.say("Each of the five, and every mode, b too.")
+    s.say("Each of the five, and every mode, by lines with b too.")
     s.fresh()
     for k, label in enumerate(FIVE):
         s.line(label + b" A rwxatb", None)
@@ -1900,7 +1901,7 @@ def ranges_refusals():
         access = bytes(c for i, c in enumerate(b"rwxatb") if k >> i & 1) or b"-"
         s.line(b"A B " + access, None)
         s.revoke(b"B", "revoked 0")
-        s.list(0, b"A B " + access + b"\n")
+        s.list(0, b"A B " + listed_modes(access) + b"\n")
         s.revoke(b"A", "revoked 1")
         s.list(0, b"A B -\n")
     s.say("256 rules. At place k alone the subject is L30, for each k.")
@@ -1908,7 +1909,7 @@ def ranges_refusals():
     s.dump("sound")
     for k, (a, b) in enumerate(pairs()[:256]):
         s.poke("entries", k, b"\x1e")
-        s.poke("entries", 512 + k, b"\x3f")
+        s.poke("entries", 512 + k, b"\x3e")
         s.revoke(b"L30", "revoked 1")
         s.list(k, b"L30 " + b + b" -\n")
         s.poke("entries", k, bytes([int(a[1:])]))
@@ -1919,14 +1920,14 @@ def ranges_refusals():
     for n in (1, 2, 127, 128, 129, 200, 254, 255, 256):
         for start in sorted({0, 256 - n}):
             s.poke("entries", 0, bytes(int(a[1:]) for a, b in pairs()[:256]))
-            s.poke("entries", 512, b"\x3f" * 256)
+            s.poke("entries", 512, b"\x3e" * 256)
             s.poke("entries", start, b"\x1e" * n)
             s.revoke(b"L31", "revoked 0")
             s.revoke(b"L30", "revoked %d" % n)
             for k in sorted({0, start, max(0, start - 1), start + n - 1, min(255, start + n), 255}):
                 a, b = pairs()[k]
                 inside = start <= k < start + n
-                s.list(k, b"%s %s %s\n" % (b"L30" if inside else a, b, b"-" if inside else b"rwxatb"), b"\xee" * 20)
+                s.list(k, b"%s %s %s\n" % (b"L30" if inside else a, b, b"-" if inside else b"rwxat"), b"\xee" * 20)
             s.dump("revoked %d %d" % (n, start))
             s.poke("entries", 512 + start, b"\x00" * n)
             s.dump("revoked %d %d" % (n, start))
@@ -2033,9 +2034,9 @@ def ranges_damage():
         s.call("poke entries %d %s" % (at, h(bytes([old]))), "done")
         if at % 32 == 31:
             s.dump("sound", True)
-    s.say("An unknown mode bit, at each place: each of the two.")
+    s.say("An unknown mode bit, at each place: each of the three.")
     for k in range(256):
-        for value in (64 | 32, 128 | 63):
+        for value in (64 | 32, 128 | 62, 1 | 32):
             s.call("poke entries %d %s" % (512 + k, h(bytes([value]))), "done")
             refused()
         s.call("poke entries %d 20" % (512 + k), "done")
@@ -2134,17 +2135,17 @@ def ranges_programs():
         return "granted 6" if f[:2] == [b"A", b"B"] and set(f[2].lower()) <= set(b"r") else "override 7" if len(f) == 4 else "denied 7"
     every = [bytes([b]) for b in range(256) if b != 10]
     lines = [b"A B w " + one for one in every] + [b"A B w o" + one for one in every] + [b"A B w " + one + b"o" for one in every]
-    program("program_fourth_field", b"A B r\n?\n" + b"\n".join(lines), ["1 1 0 0 0 0"] + [says(line) for line in lines])
+    program("program_fourth_field", b"A B r\n?\n" + b"\n".join(lines), ["1 1 0 0 0 0 0"] + [says(line) for line in lines])
     lines = []
     for one in every:
         lines += [b"A B " + one, b"A B r"]
     program("program_no_loading_by_questions", b"A B r\n?\n" + b"\n".join(lines + [b"A B -", b"A B r", b"A B t", b"A B r", b"A B wt", b"A B w", b"A C r", b"A C r", b"C A r", b"C A r"]),
-            ["1 1 0 0 0 0"] + [says(line) for line in lines] + ["refused 8", "granted 6", "refused 8", "granted 6", "refused 8", "denied 7", "denied 7", "denied 7", "denied 7", "denied 7"])
+            ["1 1 0 0 0 0 0"] + [says(line) for line in lines] + ["refused 8", "granted 6", "refused 8", "granted 6", "refused 8", "denied 7", "denied 7", "denied 7", "denied 7", "denied 7"])
     near = [b"**", b"^^", b"__", b"_x", b"*x", b"^x", b"x_", b"x*", b"x^"]
     lines = [a + b" " + b + b" r" for a in near for b in near]
-    program("program_near_special", b"A B r\n?\n" + b"\n".join(lines), ["1 1 0 0 0 0"] + [says(line) for line in lines])
+    program("program_near_special", b"A B r\n?\n" + b"\n".join(lines), ["1 1 0 0 0 0 0"] + [says(line) for line in lines])
     lines = [b"A B r" + b"r" * n for n in range(30)] + [b"A B " + b"-" * n + b"r" for n in range(30)] + [b"A B " + b"r" * n + b"q" for n in range(30)]
-    program("program_long_access", b"".join(line + b"\n" for line in lines) + b"?\n" + b"\n".join(lines), ["90 60 0 30 61 4"] + [says(line) for line in lines])
+    program("program_long_access", b"".join(line + b"\n" for line in lines) + b"?\n" + b"\n".join(lines), ["90 60 0 30 61 4 0"] + [says(line) for line in lines])
 
 
 def ranges():
@@ -2261,12 +2262,12 @@ def near_full():
     for k in (0, 1, 31, 32, 127, 128, 254, 255):
         a, b = pairs()[k]
         s.line(a + b" " + b + b" wb", None)
-        s.list(k, a + b" " + b + b" wb\n")
-        s.ask(a, b, b"w", "granted 6 b")
+        s.list(k, a + b" " + b + b" w\n")
+        s.ask(a, b, b"w", "granted 6")
         s.change(a + b" " + b + b" xt w")
-        s.list(k, a + b" " + b + b" xtb\n")
+        s.list(k, a + b" " + b + b" xt\n")
         s.change(a + b" " + b + b" - -")
-        s.list(k, a + b" " + b + b" xtb\n")
+        s.list(k, a + b" " + b + b" xt\n")
         s.line(a + b" " + b + b" r", None)
         s.list(k, a + b" " + b + b" r\n")
         s.line(b + b" " + a + b" r" if (b, a) not in pairs()[:256] else b"L40 L41 r", 7)
@@ -2423,7 +2424,7 @@ def near_loader():
             s.piece(text)
             s.end("report %d 0 %d %d 0 0" % (lines, lines == 2, min(refused + (lines > 0), MOST)))
             s.end("report 0 0 0 0 0 0")
-    s.say("Whatever these seven numbers are, the end call leaves a fresh loader; the place is in places_report.")
+    s.say("Whatever these seven numbers are, the end call leaves a fresh loader; the place is in places_report, the count of lines with b in bringup_limits.")
     for index in range(7):
         s.fresh()
         s.poke("loader", index, 1)
@@ -2433,34 +2434,34 @@ def near_loader():
 
 
 def near_twice():
-    s = Script("twice_modes", "01: where a lent state holds a pair twice, the first counts: its letters and its b.", True)
+    s = Script("twice_modes", "01: where a lent state holds a pair twice, the first counts: its letters alone.", True)
     for one, other in ((b"rb", b"r"), (b"r", b"rb"), (b"rwb", b"rwxa"), (b"rw", b"rwxatb"), (b"b", b"r"), (b"-", b"rb"), (b"rb", b"-"), (b"r", b"b")):
         s.say("%s, then %s" % (one.decode(), other.decode()))
         s.fresh()
         s.piece(b"A B " + one + b"\nC D " + other + b"\nA C x\nB A " + other + b"\n")
-        s.end("report 4 4 0 0 0 0")
+        s.end("report 4 4 0 0 0 0", 0, (b"b" in one) + 2 * (b"b" in other))
         s.poke("entries", 1, b"\x05")
         s.poke("entries", 257, b"\x06")
         s.list(0, b"A B " + listed_modes(one) + b"\n")
         s.list(1, b"A B " + listed_modes(other) + b"\n")
         for request in (b"r", b"w", b"rw", b"rwxa"):
             for capable in (0, 1):
-                granted = "granted 6 b" if b"b" in one else "granted 6"
-                s.ask(b"A", b"B", request, granted if set(request) <= set(one) else "override 7" if capable else "denied 7", capable)
-        s.ask(b"B", b"A", b"r", ("granted 6 b" if b"b" in other else "granted 6") if b"r" in other else "denied 7")
+                s.ask(b"A", b"B", request, "granted 6" if set(request) <= set(one) else "override 7" if capable else "denied 7", capable)
+        s.ask(b"B", b"A", b"r", "granted 6" if b"r" in other else "denied 7")
         s.change(b"A B r -")
-        s.ask(b"A", b"B", b"r", "granted 6 b" if b"b" in one else "granted 6")
+        s.ask(b"A", b"B", b"r", "granted 6")
         s.line(b"A B x" + (b"" if b"b" in one else b"b"), None)
-        s.ask(b"A", b"B", b"x", "granted 6" if b"b" in one else "granted 6 b")
+        s.ask(b"A", b"B", b"x", "granted 6")
+        s.list(0, b"A B x\n")
         s.list(1, b"A B " + listed_modes(other) + b"\n")
-    s.say("256 rules: the pair at two places, near and far; with b at one of them alone.")
+    s.say("256 rules: the pair at two places, near and far; with t at one of them alone.")
     full(s, 64, 256, 0)
     for first, second in ((0, 1), (0, 31), (0, 32), (0, 255), (30, 33), (31, 32), (127, 128), (63, 200), (254, 255)):
         old = pairs()
         for place in (first, second):
             s.poke("entries", place, b"\x1e")
             s.poke("entries", 256 + place, b"\x1f")
-        for modes, answer in ((b"\x21\x20", "granted 6 b"), (b"\x20\x21", "granted 6"), (b"\x20\x3f", "granted 6"), (b"\x21\x00", "granted 6 b"), (b"\x00\x21", "denied 7"), (b"\x01\x20", "denied 7")):
+        for modes, answer in ((b"\x22\x20", "granted 6"), (b"\x20\x22", "granted 6"), (b"\x20\x3e", "granted 6"), (b"\x22\x00", "granted 6"), (b"\x00\x22", "denied 7"), (b"\x02\x20", "denied 7")):
             s.poke("entries", 512 + first, modes[:1])
             s.poke("entries", 512 + second, modes[1:])
             s.ask(b"L30", b"L31", b"r", answer)
@@ -2574,12 +2575,12 @@ def near_places():
         by_bytes("^ stands at number 5, _ at 6, * at 7", a, b, c)
         s.say("and with rules: what rules 1 to 4 decide they decide all the same")
         s.piece(b"%s Other rwb\nOther %s x\n* Other rwxa\nOther * -\n^ Other w\nOther _ wb\n%s Other r\n" % (a, b, c))
-        s.end("report 7 7 0 0 0 0")
-        for one, other, request, answer in ((a, b"Other", b"rw", "granted 6 b"), (b"Other", b, b"x", "granted 6"), (b"Other", b, b"r", "denied 7"), (b"*", b"Other", b"r", "denied 1"),
+        s.end("report 7 7 0 0 0 0", 0, 2)
+        for one, other, request, answer in ((a, b"Other", b"rw", "granted 6"), (b"Other", b, b"x", "granted 6"), (b"Other", b, b"r", "denied 7"), (b"*", b"Other", b"r", "denied 1"),
                                             (b"Other", b"*", b"w", "granted 4"), (b"^", b"Other", b"w", "granted 6"), (b"^", b"Other", b"rx", "granted 2"), (b"^", b"Other", b"rw", "denied 7"),
-                                            (b"Other", b"_", b"w", "granted 6 b"), (b"Other", b"_", b"r", "granted 3"), (c, b"Other", b"r", "granted 6"), (c, b"Other", b"w", "denied 7")):
+                                            (b"Other", b"_", b"w", "granted 6"), (b"Other", b"_", b"r", "granted 3"), (c, b"Other", b"r", "granted 6"), (c, b"Other", b"w", "denied 7")):
             s.ask(one, other, request, answer)
-        for k, listed in ((0, a + b" Other rwb\n"), (2, b"* Other rwxa\n"), (4, b"^ Other w\n")):
+        for k, listed in ((0, a + b" Other rw\n"), (2, b"* Other rwxa\n"), (4, b"^ Other w\n")):
             s.list(k, listed, b"\xee" * 20)
     s.say("^ at number 5 beside the one at number 1: it means its first number, and is ^ all the same.")
     s.fresh()
@@ -2650,7 +2651,7 @@ def near_damage():
 def near_programs():
     line = b"A B r" + b" " * 595
     program("program_601st_byte", line + b"\n" + line + b"\x00\n" + b" " * 600 + b"\x00\n?\n" + line[:599] + b"\x00\nA B r\n" + line + b"\x00\nA B r\n" + line + b"\x00",
-            ["3 1 0 2 2 1", "refused 2", "granted 6", "refused 1", "granted 6", "refused 1"])
+            ["3 1 0 2 2 1 0", "refused 2", "granted 6", "refused 1", "granted 6", "refused 1"])
 
 
 def near():
@@ -2705,7 +2706,7 @@ def says_line(line):
         return 4
     if f[0] == f[1]:
         return 5
-    if len(f[0]) > 23 or len(f[1]) > 23 or b"b" in f[2].lower():
+    if len(f[0]) > 23 or len(f[1]) > 23:
         return 15
     return fixed(f[0], f[1], bytes(c if c in f[2].lower() else 45 for c in b"rwxat"))
 
@@ -2853,7 +2854,7 @@ def records_refusals():
     line("1 and 2", b"Alarm Air" + pad, 1)
     line("1 and 2, blanks alone", pad + b" ", 1)
     line("1 and 3 4 5", b"/ / q" + pad, 1)
-    line("1 and 15", b"Alarm Air b" + pad + b"\n", 1)
+    line("1 and 15", b"%s Air b" % LONG[:24] + pad + b"\n", 1)
     line("2, one field", b"Alarm", 2)
     line("2, two fields", b"Alarm Air", 2)
     line("2, four fields", b"Alarm Air r w", 2)
@@ -2873,17 +2874,23 @@ def records_refusals():
     line("4", b"Alarm Air q", 4)
     line("4, the last byte", b"Alarm Air rwxatl", 4)
     line("4 and 5", b"Alarm Alarm q", 4)
-    line("4 and 15, b beside it", b"Alarm Air bq", 4)
+    line("4, b beside it", b"Alarm Air bq", 4)
     line("4 and 15, a long label", b"%s Air q" % LONG[:24], 4)
     line("5", b"Alarm Alarm r", 5)
     line("5, no letter", b"_ _ -\n", 5)
-    line("5 and 15, b", b"Alarm Alarm b", 5)
+    line("5, b", b"Alarm Alarm b", 5)
     line("5 and 15, labels of 24 bytes", b"%s %s r" % (LONG[:24], LONG[:24]), 5)
     line("5 and 15, labels of 255 bytes", b"%s %s r" % (b"L" * 255, b"L" * 255), 5)
     line("15, the subject", b"%s Air r" % LONG[:24], 15)
     line("15, the object", b"Alarm %s r" % LONG[:24], 15)
-    for access in (b"b", b"B", b"rwxatb", b"RWXATB", b"-b", b"b-", b"br", b"bb", b"r-B-r"):
-        line("15, access %s" % access.decode(), b"Alarm Air " + access, 15)
+    line("15, the subject, and b", b"%s Air b" % LONG[:24], 15)
+    line("15, the object, and b", b"Alarm %s rB" % LONG[:24], 15)
+    for access, back in ((b"b", b"-----"), (b"B", b"-----"), (b"rwxatb", b"rwxat"), (b"RWXATB", b"rwxat"), (b"-b", b"-----"), (b"b-", b"-----"), (b"br", b"r----"), (b"bb", b"-----"),
+                         (b"r-B-r", b"r----")):
+        s.say("line: b is dropped, access %s; 12 where the output is short" % access.decode())
+        s.to_record(b"Alarm Air " + access, fixed(b"Alarm", b"Air", back))
+        for out in outs:
+            s.to_record(b"Alarm Air " + access, 12 if len(out) < 53 else fixed(b"Alarm", b"Air", back), out)
     s.say("line: 12 alone; nothing before it holds")
     for length in (0, 1, 52):
         s.to_record(b"Alarm Air rwxat\n", 12, b"\xee" * length)
@@ -2959,7 +2966,7 @@ def records_lines():
     for line, expect in ((b"A B r", good), (b"A B r\n", good), (b"A B r \n", good), (b"A B r\t\n", good), (b"A B r\n\n", 4), (b"A B r\n\n\n", 4), (b"A B r \n\n", 2), (b"A B r\t\n\n", 2),
                          (b"A B r\n ", 4), (b"A B r\n \n", 4), (b"A B r \n ", 2), (b"A B \nr", 4), (b"A B r\nw", 4), (b"A B \n\n", 4), (b"A B \n", 2), (b"\nA B r", 3), (b"\nA B r\n", 3),
                          (b"\n A B r", 2), (b"A\n B r", 3), (b"A \nB r\n", 3), (b"A B\n r\n", 3), (b"A\nB r", 2), (b"A\nB C r", 3), (b"A B\nr", 2), (b"A B C\nr", 4), (b"A B r\nC D w\n", 2),
-                         (b"A B r\nC", 4), (b"A\n\nB r\n", 2), (b"\n\n\n", 2), (b"\n \n \n\n", 3), (b"A \n r", 3), (b"A A\n r", 3), (b"A A r\n\n", 4), (b"A A r\n", 5), (b"A B b\n", 15), (b"A B b\n\n", 4)):
+                         (b"A B r\nC", 4), (b"A\n\nB r\n", 2), (b"\n\n\n", 2), (b"\n \n \n\n", 3), (b"A \n r", 3), (b"A A\n r", 3), (b"A A r\n\n", 4), (b"A A r\n", 5), (b"A B b\n", fixed(b"A", b"B", b"-----")), (b"A B b\n\n", 4)):
         s.to_record(line, expect, out)
     s.say("A newline alone, an empty line, a blank line: 2, nothing is skipped.")
     for line in (b"", b"\n", b"\n\n", b" ", b"\t", b"  ", b" \t ", b" \n", b"\t\n", b" \t \n", b"A\n", b"A B\n", b" " * 600, b" " * 600 + b"\n", b"\t" * 600):
@@ -3037,7 +3044,7 @@ def records_listing():
         s.to_line(fixed(b"New1", b"New1", b"RW---"), 5)
         s.to_line(b"New1 New2 rw", 14)
         s.to_record(b"New1 New2 rw\n", fixed(b"New1", b"New2", b"rw---"))
-        s.to_record(b"New1 New2 rwb", 15)
+        s.to_record(b"New1 New2 rwb", fixed(b"New1", b"New2", b"rw---"))
         s.to_record(b"New1 New2\n", 2)
         s.to_record(b"\n", 2)
     s.say("Neither table nor loader changes, with a line under way; no label enters.")
@@ -3085,22 +3092,22 @@ def records():
 
 def modes_of(k):
     """Modes for rule k: 30 different ones in a row, each with one of r w x a at least."""
-    return bytes(c for j, c in enumerate(b"rwxa") if (k % 15 + 1) >> j & 1) + b"b" * (k // 15 % 2)
+    return bytes(c for j, c in enumerate(b"rwxa") if (k % 15 + 1) >> j & 1) + b"t" * (k // 15 % 2)
 
 
 def bits_of(modes):
-    return sum(32 >> b"rwxatb".index(c) for c in modes)
+    return sum(32 >> b"rwxat".index(c) for c in modes)
 
 
 def by_rule(modes, request, capable=0):
     """What rules 6 and 7 say, and override under an empty list. No rule: no modes."""
     if set(request) <= set(modes):
-        return "granted 6 b" if b"b" in modes else "granted 6"
+        return "granted 6"
     return "override 7" if capable else "denied 7"
 
 
 def ask_modes(s, subject, object_, modes):
-    """The pair's modes, letter by letter, and its b."""
+    """The pair's modes, letter by letter."""
     for letter in (b"r", b"w", b"x", b"a"):
         s.ask(subject, object_, letter, by_rule(modes, letter))
 
@@ -3124,8 +3131,8 @@ def searches_same():
     long = b"L" * 250
     known = [b"Door", b"Gate", b"d", b"Doo", b"Door1", b"ADoor", long + b"1234", long + b"12345", b"?", b"@"]
     unknown = [b"door", b"Dook", b"Eoor", b"e", b"Do", b"Door2", b"Door11", b"BDoor", long + b"1235", long + b"1", b"!"]
-    for rules, say in (([], "no rules"), ([(0, 0, b"rwxatb")], "a rule of number 0 with itself"),
-                       ([(k, k, b"rwxatb") for k in range(13)], "rules of every label with itself, lent: rule 5 comes first"),
+    for rules, say in (([], "no rules"), ([(0, 0, b"rwxat")], "a rule of number 0 with itself"),
+                       ([(k, k, b"rwxat") for k in range(13)], "rules of every label with itself, lent: rule 5 comes first"),
                        ([(5, 6, b"r"), (0, 5, b"rwxa"), (5, 0, b"rwxa")], "rules of number 0, and of Door for Gate")):
         for override in (b"", b"\x00", b"\x05"):
             s.say(say + ", " + {b"": "no override list", b"\x00": "_ on the override list", b"\x05": "Door on the override list"}[override])
@@ -3181,7 +3188,7 @@ def searches_same():
         s.list(1, b"Twice L20 x\n")
         s.list(0, b"Twice L20 rwxa\n", b"\xee" * 24)
         s.line(b"L20 Twice rb", None)
-        s.list(3, b"L20 Twice rb\n", b"\xee" * 24)
+        s.list(3, b"L20 Twice r\n", b"\xee" * 24)
         s.list(2, b"L20 Twice rwxa\n", b"\xee" * 24)
         s.line(b"Twice Twice r", 5)
         s.line(b"Twice L21 r", None)
@@ -3196,9 +3203,9 @@ def searches_same():
 
 def searches_unknown():
     s = Script("searches_unknown", "02, Two: the rule search is not begun where either label is unknown. Rules of number 0, and of every number, are no rules of theirs.", True)
-    every = [(a, b, b"rwxatb") for a in range(7) for b in range(7)]
-    for say, rules in (("rules of _ with all", [(0, k, b"rwxatb") for k in range(7)] + [(k, 0, b"rwxatb") for k in range(7)]), ("a rule of _ with itself alone", [(0, 0, b"rwxatb")]),
-                       ("rules of all with all", every), ("the last label with itself", [(6, 6, b"rwxatb")]), ("256 rules of _", [(0, k % 7, b"rwxatb") for k in range(256)])):
+    every = [(a, b, b"rwxat") for a in range(7) for b in range(7)]
+    for say, rules in (("rules of _ with all", [(0, k, b"rwxat") for k in range(7)] + [(k, 0, b"rwxat") for k in range(7)]), ("a rule of _ with itself alone", [(0, 0, b"rwxat")]),
+                       ("rules of all with all", every), ("the last label with itself", [(6, 6, b"rwxat")]), ("256 rules of _", [(0, k % 7, b"rwxat") for k in range(256)])):
         for override in (b"", b"\x00", b"\x00\x01\x02\x03\x04\x05\x06"):
             s.say(say + "; %d labels on the override list" % len(override))
             lend(s, FIVE + [b"Known", b"Other"], rules, None, override)
@@ -3213,7 +3220,7 @@ def searches_unknown():
             s.ask(b"^", b"New", b"w", "denied 7")
             s.ask(b"*", b"New", b"r", "denied 1")
             s.ask(b"*", b"New", b"r", "override 1" if len(override) != 1 else "denied 1", 1)
-            s.ask(b"Known", b"Other", b"r", "granted 6 b" if (5, 6, b"rwxatb") in rules else "denied 7")
+            s.ask(b"Known", b"Other", b"r", "granted 6" if (5, 6, b"rwxat") in rules else "denied 7")
     s.say("No labels at all: every label is unknown, and none is on a list.")
     lend(s, [], [], 0)
     for subject, object_ in ((b"A", b"B"), (b"_", b"A"), (b"?", b"@")):
@@ -3257,11 +3264,11 @@ def searches_pairs():
         for at in places:
             s.say("%d rules, the pair at place %d" % (count, at))
             rules = others(count)
-            rules[at] = (30, 31, b"rb")
+            rules[at] = (30, 31, b"rt")
             s.poke("entries", 0, bytes(r[0] for r in rules))
             s.poke("entries", 256, bytes(r[1] for r in rules))
             s.poke("entries", 512, bytes(bits_of(r[2]) for r in rules))
-            ask_modes(s, b"L30", b"L31", b"rb")
+            ask_modes(s, b"L30", b"L31", b"rt")
             s.ask(b"L30", b"L31", b"rw", "override 7", 1)
             s.ask(b"L30", b"L32", b"r", "denied 7")
             s.ask(b"L32", b"L31", b"r", "denied 7")
@@ -3270,14 +3277,14 @@ def searches_pairs():
                     s.poke("entries", again, b"\x1e")
                     s.poke("entries", 256 + again, b"\x1f")
                     s.poke("entries", 512 + again, b"\x10")
-                    s.ask(b"L30", b"L31", b"r", "granted 6 b")
+                    s.ask(b"L30", b"L31", b"r", "granted 6")
                     s.ask(b"L30", b"L31", b"w", "denied 7")
                     s.poke("entries", again, bytes([rules[again][0]]))
                     s.poke("entries", 256 + again, bytes([rules[again][1]]))
                     s.poke("entries", 512 + again, bytes([bits_of(rules[again][2])]))
             s.say("a change and a line set it in its place")
             s.change(b"L30 L31 x -")
-            s.list(at, b"L30 L31 rxb\n", b"\xee" * 24)
+            s.list(at, b"L30 L31 rxt\n", b"\xee" * 24)
             s.line(b"L30 L31 wt", None)
             s.list(at, b"L30 L31 wt\n", b"\xee" * 24)
             ask_modes(s, b"L30", b"L31", b"w")
@@ -3342,12 +3349,12 @@ def in_table(s, labels, strangers):
     s.piece(text[len(text) // 2:])
     s.end("report %d %d 0 0 0 0" % (len(labels), len(labels)))
     for k, label in enumerate(labels):
-        s.change(b"Air %s %s -" % (label, modes_of(k + 4).replace(b"b", b"")))
+        s.change(b"Air %s %s -" % (label, modes_of(k + 4)))
         s.label(5 if k == 0 else 6 + k, label)
     s.label(6 + len(labels), 13)
     for k, label in enumerate(labels):
         ask_modes(s, label, b"Air", modes_of(k))
-        s.ask(b"Air", label, b"r", by_rule(modes_of(k + 4).replace(b"b", b""), b"r"))
+        s.ask(b"Air", label, b"r", by_rule(modes_of(k + 4), b"r"))
         s.ask(label, label, b"w", "granted 5")
         s.ask(label, labels[k - 1], b"r", "granted 5" if len(labels) == 1 else "denied 7")
     for stranger in strangers:
@@ -3887,7 +3894,7 @@ def places_beside():
     s = Script("places_beside", "02, Three: a place goes with 3 alone. Each call where 3 meets the other numbers, in each order; and answers behind a 3, which have none.", True)
     s.say("0 comes before 3 and has no place: each kind of damage.")
     for part, at, value, sound in (("words", 0, 65, 9), ("words", 1, 257, 3), ("words", 2, 33, 2), ("words", 3, 9, 2), ("entries", 0, b"\x09", b"\x05"), ("entries", 512, b"\x40", b"\x20"),
-                                   ("words", 68, 1, 0)):
+                                   ("entries", 512, b"\x21", b"\x20"), ("words", 68, 1, 0)):
         small_state(s)
         s.poke(part, at, value)
         s.change(b"A/ B r -", "refused 0")
@@ -3911,7 +3918,7 @@ def places_beside():
         s.ask(b"B", b"A/", b"r", bad(1), 1)
         s.say("`A ` is kept, and A A r was refused before: 5 stays the reason, and there is no place")
         s.piece(b"B/ r\n")
-        s.end("report 5 3 0 2 4 5")
+        s.end("report 5 3 0 2 4 5", 0, 1)
     for part, size in (("labels", 16383), ("entries", 841), ("words", 99), ("line", 599)):
         s.fresh()
         s.call("resize %s %d" % (part, size), "done")
@@ -3984,7 +3991,7 @@ def places_beside():
                 s.bylabel(spoilt(300), bad(255))
             s.call(name if text is None else name + " " + h(text), answer)
     s.line(b"A B rb", None)
-    for subject, object_, request, answer in ((b"A", b"B", b"r", "granted 6 b"), (b"A", b"B", b"w", "denied 7"), (b"*", b"B", b"w", "denied 1"), (b"A", b"A", b"w", "granted 5"), (b"A", b"B", b"q", "refused 8"),
+    for subject, object_, request, answer in ((b"A", b"B", b"r", "granted 6"), (b"A", b"B", b"w", "denied 7"), (b"*", b"B", b"w", "denied 1"), (b"A", b"A", b"w", "granted 5"), (b"A", b"B", b"q", "refused 8"),
                                               (b"", b"B", b"r", bad(0)), (b"A", b"-", b"r", bad(0))):
         for capable in (0, 1):
             s.ask(spoilt(300), b"B", b"r", bad(255))
@@ -4143,7 +4150,7 @@ def places_two():
 def places_program():
     lines = [b"A/ B r", b"   A B/ r", b"-A B r", b"A - r", spoilt(256) + b" B r", b"A " + spoilt(300, (100, b"/")) + b" r", b"A/ B", b"A/ B r" + b" " * 600, b"A/ B/ q", b"A B r"]
     program("program_places", b"".join(line + b"\n" for line in lines) + b"?\n" + b"".join(line + b"\n" for line in lines),
-            ["10 1 0 9 1 3"] + ["refused 3"] * 6 + ["refused 2", "refused 1", "refused 3", "granted 6"])
+            ["10 1 0 9 1 3 0"] + ["refused 3"] * 6 + ["refused 2", "refused 1", "refused 3", "granted 6"])
 
 
 def places():
@@ -6722,6 +6729,994 @@ def options():
 
 
 # ---------------------------------------------------------------------------------------------------------------------------------------------
+# The letter b is retired: 02, request Six
+# ---------------------------------------------------------------------------------------------------------------------------------------------
+
+REQUESTS = [bytes(c for j, c in enumerate(b"rwxa") if k >> j & 1) for k in range(1, 16)]
+
+
+def ask_all(s, subject, object_, modes):
+    """Every request of r w x a, with and without the capability, under an empty override list."""
+    for request in REQUESTS:
+        for capable in (0, 1):
+            s.ask(subject, object_, request, by_rule(modes, request, capable), capable)
+
+
+def loaded(s, text, numbers):
+    """A text to its end, and the eight numbers of its report."""
+    s.piece(text)
+    s.call("end", "report " + numbers)
+
+
+def bringup_lines():
+    s = Script("bringup_lines", "02, Six: b or B in a line's access field is a placeholder, as a dash is. The line is accepted and counted, its rule has the other letters, listed and asked about.", True)
+    s.say("P10: after `Probe3 Air rRb` Probe3 asks r of Air: granted 6. 01's example, `Probe3 Air w`, held no b.")
+    loaded(s, b"Probe3 Air rRb\n", "1 1 0 0 0 0 0 1")
+    s.ask(b"Probe3", b"Air", b"r", "granted 6")
+    s.list(0, b"Probe3 Air r\n", b"\xee" * 14)
+    loaded(s, b"Probe3 Air w\n", "1 1 0 0 0 0 0 0")
+    s.ask(b"Probe3", b"Air", b"w", "granted 6")
+    s.ask(b"Probe3", b"Air", b"r", "denied 7")
+    s.say("Fields by hand. Every request of r w x a is asked; b alone grants none.")
+    for access, listed in ((b"b", b"-"), (b"B", b"-"), (b"bb", b"-"), (b"bB", b"-"), (b"Bb", b"-"), (b"BB", b"-"), (b"-b-", b"-"), (b"-b", b"-"), (b"b-", b"-"), (b"-b-B", b"-"), (b"b--b", b"-"), (b"bbbbbb", b"-"),
+                           (b"rb", b"r"), (b"Rb", b"r"), (b"bR", b"r"), (b"br", b"r"), (b"BR", b"r"), (b"RB", b"r"), (b"rRb", b"r"), (b"r-b", b"r"), (b"wb", b"w"), (b"Bx", b"x"), (b"ab", b"a"), (b"tb", b"t"), (b"bT", b"t"),
+                           (b"rwxatb", b"rwxat"), (b"RWXATB", b"rwxat"), (b"btaxwr", b"rwxat"), (b"BTAXWR", b"rwxat"), (b"rbwbxbabtb", b"rwxat"), (b"xbw", b"wx"), (b"a-b-r", b"ra"), (b"rwxab", b"rwxa"), (b"tbr", b"rt")):
+        s.call("fresh", "done")
+        loaded(s, b"A B " + access + b"\n", "1 1 0 0 0 0 0 1")
+        s.list(0, b"A B " + listed + b"\n")
+        ask_all(s, b"A", b"B", listed)
+    s.say("In the place of each letter, by hand.")
+    for access, listed in ((b"bwxat", b"wxat"), (b"rbxat", b"rxat"), (b"rwbat", b"rwat"), (b"rwxbt", b"rwxt"), (b"rwxab", b"rwxa"), (b"BWXAT", b"wxat"), (b"RBXAT", b"rxat"), (b"RWBAT", b"rwat"), (b"RWXBT", b"rwxt"), (b"RWXAB", b"rwxa")):
+        loaded(s, b"A B " + access, "1 1 0 0 0 0 0 1")
+        s.list(0, b"A B " + listed + b"\n")
+    s.say("b in each place of a field of six, beside letters and dashes.")
+    for base in (b"rwxat", b"RWXAT", b"taxwr", b"-----", b"rrrrr", b"w-x-a", b"bbbbb"):
+        for at in range(6):
+            for one in (b"b", b"B"):
+                loaded(s, b"A B " + base[:at] + one + base[at:] + b"\n", "1 1 0 0 0 0 0 1")
+                s.list(0, b"A B " + listed_modes(base) + b"\n")
+    s.say("Every byte before b, behind it and between two: a letter, a dash and another b are accepted; every other byte is 4. A blank leaves the field, a newline ends the line: below.")
+    modes = b""
+    s.line(b"A B -", None)
+    for byte in range(256):
+        if byte in b"\t\n ":
+            continue
+        one = bytes([byte])
+        taken = byte in b"rwxatbRWXATB-"
+        for access in (b"b" + one, one + b"b", b"B" + one, one + b"B", b"b" + one + b"B"):
+            loaded(s, b"A B " + access + b"\n", "1 1 0 0 0 0 0 1" if taken else "1 0 0 1 1 4 0 0")
+        modes = one if taken else modes
+        s.list(0, b"A B " + listed_modes(modes) + b"\n")
+    for access in (b"bq", b"qb", b"bbq", b"bqb", b"Bl", b"lb", b"b/", b"b\r", b"\rb", b"b\x00", b"b\xe2", b"rwxatbq", b"brwxatl", b"-b-_"):
+        loaded(s, b"A B " + access + b"\n", "1 0 0 1 1 4 0 0")
+    for text, numbers in ((b"A B b \n", "1 1 0 0 0 0 0 1"), (b"A B b\t\n", "1 1 0 0 0 0 0 1"), (b"A B  b\n", "1 1 0 0 0 0 0 1"), (b"A B \tb\n", "1 1 0 0 0 0 0 1"), (b"\tA\tB\tB\t\n", "1 1 0 0 0 0 0 1"), (b"A B b b\n", "1 0 0 1 1 2 0 0"),
+                          (b"A B b\tB\n", "1 0 0 1 1 2 0 0"), (b"A B b r\n", "1 0 0 1 1 2 0 0"), (b"A B b\nb\n", "2 1 0 1 2 2 0 1"), (b"A B \nb\n", "2 0 0 2 1 2 0 0"), (b"A B b\n\nb", "3 1 1 1 3 2 0 1")):
+        loaded(s, text, numbers)
+    s.say("A field has any length: b alone, b at its front, in its middle and at its end.")
+    for n in list(range(1, 21)) + [31, 32, 33, 63, 64, 65, 127, 128, 129, 255, 256, 257, 511, 512, 513, 594, 595, 596]:
+        loaded(s, b"A B " + b"b" * n + b"\n", "1 1 0 0 0 0 0 1")
+        s.list(0, b"A B -\n")
+        for at in sorted({0, n // 2, n - 1}):
+            loaded(s, b"A B " + b"-" * at + b"B" + b"w" * (n - at - 1) + b"\n", "1 1 0 0 0 0 0 1")
+            s.list(0, b"A B w\n" if at < n - 1 else b"A B -\n")
+        loaded(s, b"A B " + b"r" * n + b"\n", "1 1 0 0 0 0 0 0")
+    for n, places in ((26, range(26)), (596, (254, 255, 256, 594, 595))):
+        for at in places:
+            loaded(s, b"A B " + b"x" * at + b"b" + b"x" * (n - at - 1) + b"\n", "1 1 0 0 0 0 0 1")
+            s.list(0, b"A B x\n")
+            loaded(s, b"A B " + b"b" * at + b"q" + b"b" * (n - at - 1) + b"\n", "1 0 0 1 1 4 0 0")
+            s.list(0, b"A B x\n")
+    s.store()
+
+
+def bringup_count():
+    s = Script("bringup_count", "02, Six: the report's last number, how many accepted lines held b or B in their access field: once a line; a refused or a skipped line does not count.", True)
+    s.say("Once a line, however many it has; other lines do not count.")
+    for text, numbers in ((b"", "0 0 0 0 0 0 0 0"), (b"A B r\n", "1 1 0 0 0 0 0 0"), (b"A B -\n", "1 1 0 0 0 0 0 0"), (b"A B b\n", "1 1 0 0 0 0 0 1"), (b"A B B\n", "1 1 0 0 0 0 0 1"), (b"A B bb\n", "1 1 0 0 0 0 0 1"),
+                          (b"A B bBbB\n", "1 1 0 0 0 0 0 1"), (b"A B b-b-b\n", "1 1 0 0 0 0 0 1"), (b"A B rbwbxbabtb\n", "1 1 0 0 0 0 0 1"), (b"A B " + b"b" * 596 + b"\n", "1 1 0 0 0 0 0 1"),
+                          (b"A B b\nA B b\n", "2 2 0 0 0 0 0 2"), (b"A B rb\nA B r\nA B wb\n", "3 3 0 0 0 0 0 2"), (b"A B r\nA B w\n", "2 2 0 0 0 0 0 0"), (b"A B r\nA B B\n", "2 2 0 0 0 0 0 1"), (b"A B b\nA B r\n", "2 2 0 0 0 0 0 1"),
+                          (b"\n \n\t\n", "3 0 3 0 0 0 0 0"), (b"\nA B b\n\nA B r\n \nC D Bw\n", "6 3 3 0 0 0 0 2"), (b"A B b", "1 1 0 0 0 0 0 1"), (b"A B r", "1 1 0 0 0 0 0 0"), (b"A B b\nC D", "2 1 0 1 2 2 0 1"), (b"A B r\nC D b", "2 2 0 0 0 0 0 1"),
+                          (b"A B b\nC D B", "2 2 0 0 0 0 0 2"), (b"A B b\n ", "2 1 1 0 0 0 0 1"), (b" " * 600 + b"\nA B b\n", "2 1 1 0 0 0 0 1"), (b"A B b\n" + b" " * 601, "2 1 0 1 2 1 0 1"), (b"A B b\n" * 40, "40 40 0 0 0 0 0 40"),
+                          (b"A B rb\nA B r\n" * 300, "600 600 0 0 0 0 0 300"), (b"A B rb\nA A rb\n\n" * 300, "900 300 300 300 2 5 0 300")):
+        loaded(s, text, numbers)
+    s.say("Refused lines that hold a b: alone, and between two lines that count. 1 2 3 4 5 in a table with room.")
+    wrong = [(b"A B b" + b" " * 596, 1, 0), (b" " * 596 + b"A B b", 1, 0), (b"A B " + b"b" * 597, 1, 0), (b"A B" + b" " * 597 + b"b", 1, 0), (b"b" * 601, 1, 0), (b"A b", 2, 0), (b"b", 2, 0), (b"B", 2, 0), (b"b b", 2, 0),
+             (b"A B b b", 2, 0), (b"A B r b", 2, 0), (b"A B b r", 2, 0), (b"A B b b b", 2, 0), (b"A B - b", 2, 0), (b"A/ B b", 3, 1), (b"A B/ b", 3, 3), (b"-A B B", 3, 0), (b"A -B rb", 3, 2), (b"- b b", 3, 0), (b"b - b", 3, 2),
+             (b"b/ b/ b", 3, 1), (b"L" * 256 + b" B b", 3, 255), (b"A B bq", 4, 0), (b"A B qb", 4, 0), (b"A B rbl", 4, 0), (b"A B b\r", 4, 0), (b"A A bq", 4, 0), (b"A A b", 5, 0), (b"A A rb", 5, 0), (b"b b b", 5, 0),
+             (b"B B b", 5, 0), (b"_ _ B", 5, 0)]
+    for text, reason, where in wrong:
+        s.fresh()
+        loaded(s, text + b"\n", "1 0 0 1 1 %d %d 0" % (reason, where))
+        loaded(s, text, "1 0 0 1 1 %d %d 0" % (reason, where))
+        s.label(5, 13)
+        loaded(s, b"A B b\n" + text + b"\nA B rb\n", "3 2 0 1 2 %d %d 2" % (reason, where))
+        s.list(0, b"A B r\n")
+        s.list(1, 13)
+    s.say("6 and 7: full tables. A pair that is there is set, and counts.")
+    for labels, texts in ((64, (b"New1 L05 b", b"L05 New1 rb", b"New1 New2 B")), (63, (b"New1 New2 b", b"New1 New2 rwxatB"))):
+        full(s, labels, 3, 0)
+        s.dump("%d labels" % labels, True)
+        for text in texts:
+            loaded(s, text + b"\n", "1 0 0 1 1 6 0 0")
+            loaded(s, b"L05 L06 rb\n" + text + b"\nL05 L06 r", "3 2 0 1 2 6 0 1")
+            s.dump("%d labels" % labels, True)
+    for labels, texts in ((64, (b"L40 L41 b", b"L41 L40 rB")), (62, (b"New1 L05 b", b"L05 New1 b", b"New1 New2 rb"))):
+        full(s, labels, 256, 0)
+        s.dump("%d full" % labels, True)
+        for text in texts:
+            loaded(s, text + b"\n", "1 0 0 1 1 7 0 0")
+            loaded(s, b"L05 L06 rb\n" + text + b"\nL05 L06 r", "3 2 0 1 2 7 0 1")
+            s.dump("%d full" % labels, True)
+    s.say("Every reason in one text, each with a b, and three lines that count among twelve.")
+    full(s, 64, 256, 0)
+    loaded(s, b"L05 L06 rb\nL05 b\n\nL05/ L06 b\nL05 L06 bq\nL05 L05 b\nL05 L06 B\nNew1 L05 b\nL40 L41 b\n" + b" " * 600 + b"b\nL05 L06 r\nL05 L06 bb", "12 4 1 7 2 2 0 3")
+    s.list(0, b"L05 L06 -\n")
+    s.say("b is a label too, and stands in labels: only the access field counts.")
+    for text, numbers in ((b"b B r\n", "1 1 0 0 0 0 0 0"), (b"B b b\n", "1 1 0 0 0 0 0 1"), (b"b B b\n", "1 1 0 0 0 0 0 1"), (b"B b r\n", "1 1 0 0 0 0 0 0"), (b"b B -\n", "1 1 0 0 0 0 0 0"), (b"Bb bB w\n", "1 1 0 0 0 0 0 0"),
+                          (b"bbb b rx\n", "1 1 0 0 0 0 0 0"), (b"A b -\n", "1 1 0 0 0 0 0 0"), (b"b A B\n", "1 1 0 0 0 0 0 1"), (b"bring-up Bob r\n", "1 1 0 0 0 0 0 0"), (b"bring-up Bob rb\n", "1 1 0 0 0 0 0 1"),
+                          (b"b B r\nB b r\nb A b\nA b t\n", "4 4 0 0 0 0 0 1"), (b"b b r\n", "1 0 0 1 1 5 0 0"), (b"b B r b\n", "1 0 0 1 1 2 0 0"), (b"b B\n", "1 0 0 1 1 2 0 0"), (b"b B q\n", "1 0 0 1 1 4 0 0")):
+        s.call("fresh", "done")
+        loaded(s, text, numbers)
+    s.call("fresh", "done")
+    s.piece(b"b B rw\nB b xb\n")
+    s.call("end", "report 2 2 0 0 0 0 0 1")
+    s.label(5, b"b")
+    s.label(6, b"B")
+    s.list(0, b"b B rw\n")
+    s.list(1, b"B b x\n")
+    ask_all(s, b"b", b"B", b"rw")
+    ask_all(s, b"B", b"b", b"x")
+    s.say("600 bytes and b at the end: accepted, and counts; 601: refused with 1.")
+    for text, numbers in ((b" " * 595 + b"A B b", "1 1 0 0 0 0 0 1"), (b" " * 596 + b"A B b", "1 0 0 1 1 1 0 0"), (b"A B" + b" " * 596 + b"b", "1 1 0 0 0 0 0 1"), (b"A B" + b" " * 597 + b"b", "1 0 0 1 1 1 0 0"),
+                          (b"A B " + b"-" * 595 + b"b", "1 1 0 0 0 0 0 1"), (b"A B " + b"-" * 596 + b"b", "1 0 0 1 1 1 0 0"), (b"A B " + b"r" * 595 + b"B", "1 1 0 0 0 0 0 1"), (b"A B " + b"r" * 596 + b"B", "1 0 0 1 1 1 0 0"),
+                          (b"A B b" + b"-" * 595, "1 1 0 0 0 0 0 1"), (b"A B b" + b"-" * 596, "1 0 0 1 1 1 0 0"), (b"A B b" + b" " * 595, "1 1 0 0 0 0 0 1"), (b"A B b" + b" " * 596, "1 0 0 1 1 1 0 0"),
+                          (b"L" * 255 + b" " + b"M" * 255 + b" " + b"b" * 88, "1 1 0 0 0 0 0 1"), (b"L" * 255 + b" " + b"M" * 255 + b" " + b"b" * 89, "1 0 0 1 1 1 0 0")):
+        assert len(text) in (600, 601)
+        loaded(s, text + b"\n", numbers)
+        loaded(s, text, numbers)
+        s.piece(text[:599])
+        s.piece(text[599:600])
+        s.piece(text[600:])
+        s.call("end", "report " + numbers)
+    s.say("Several loads into one table: each report has its own count.")
+    s.fresh()
+    for text, numbers in ((b"A B rb\nC D b\n", "2 2 0 0 0 0 0 2"), (b"", "0 0 0 0 0 0 0 0"), (b"A B r\n", "1 1 0 0 0 0 0 0"), (b"E F B", "1 1 0 0 0 0 0 1"), (b"", "0 0 0 0 0 0 0 0"), (b"A A b\n", "1 0 0 1 1 5 0 0"), (b"\n", "1 0 1 0 0 0 0 0")):
+        loaded(s, text, numbers)
+    for k, text in enumerate((b"A B r\n", b"C D -\n", b"E F -\n")):
+        s.list(k, text)
+    s.say("Another loader, without an end call: its count begins at 0, and the rules of the first stay. A fresh table leaves the loader and its count.")
+    s.fresh()
+    s.piece(b"A B rb\nC D b\nE F")
+    s.call("freshloader", "done")
+    s.call("end", "report 0 0 0 0 0 0 0 0")
+    s.list(1, b"C D -\n")
+    s.list(2, 13)
+    s.piece(b"A B rb\nC D b\n")
+    s.call("freshloader", "done")
+    loaded(s, b"A B wB\nC D t\n", "2 2 0 0 0 0 0 1")
+    s.piece(b"A B rb\nC D b\n")
+    s.call("fresh", "done")
+    s.piece(b"A B r\n")
+    s.call("freshen", "done")
+    loaded(s, b"A B xB", "4 4 0 0 0 0 0 3")
+    s.list(0, b"A B x\n")
+    s.list(1, 13)
+    s.say("A piece and an end call that are refused with 0 leave the count, and so do questions, writes and the calls for old records, with b in them.")
+    s.fresh()
+    s.piece(b"A B rb\nC D b\nA B ")
+    s.dump("held")
+    for part, at, value, sound in (("words", 0, 65, 9), ("words", 1, 257, 2), ("entries", 512, b"\x21", b"\x20"), ("loader", 0, 602, 4)):
+        s.poke(part, at, value)
+        s.piece(b"b\nA B b\n", "refused 0")
+        s.call("end", "refused 0")
+        s.poke(part, at, sound)
+        s.dump("held")
+    s.change(b"A B b -", "refused 4")
+    s.change(b"A B - B", "refused 4")
+    s.ask(b"A", b"B", b"b", "refused 8")
+    s.ask(b"A", b"B", b"r", "granted 6")
+    s.bylabel(b"b", "none")
+    s.revoke(b"b", "revoked 0")
+    s.to_record(b"A B b\n", fixed(b"A", b"B", b"-----"))
+    s.to_line(fixed(b"A", b"B", b"b----"), 4)
+    s.write_option(b"b", in_option(250, b"\x31"))
+    s.dump("held")
+    s.override(b"b B")
+    s.mapping(b"b 9")
+    loaded(s, b"b\n", "3 3 0 0 0 0 0 3")
+    s.say("What b leaves in the tables is what a dash leaves: the same labels, rules and counts.")
+    for access, other in ((b"b", b"-"), (b"B", b"-"), (b"rb", b"r"), (b"bR", b"-r"), (b"rwxatb", b"rwxat"), (b"-b-", b"---"), (b"bx", b"x"), (b"xbt", b"x-t")):
+        for text in (access, other):
+            s.fresh()
+            s.piece(b"A B " + text + b"\nC D r\nb A " + text + b"\n")
+            s.call("end", "report 3 3 0 0 0 0 0 %d" % (2 if text is access else 0))
+            s.dump("tables of " + access.decode(), True)
+    s.store()
+
+
+def bringup_limits():
+    s = Script("bringup_limits", "02, Six: the count of lines with b is the true one or 4294967295, whichever is smaller, whatever the other counts are. It begins at 0, and the end call leaves 0.", True)
+    s.say("An access field of every length, with b as its last byte alone.")
+    for length in range(1, 597):
+        s.fresh()
+        loaded(s, b"A B " + b"-" * (length - 1) + b"b\n", "1 1 0 0 0 0 0 1")
+    s.fresh()
+    s.dump("fresh")
+    for start in (0, 1, 2, 126, 127, 128, 254, 255, 256, 32767, 32768, 65534, 65535, 65536, 16777215, 2147483646, 2147483647, 2147483648, MOST - 3, MOST - 2, MOST - 1, MOST):
+        s.say("%d lines with b so far" % start)
+        for times in (0, 1, 2, 3):
+            s.fresh()
+            s.poke("loader", 8, start)
+            s.piece(b"A B rb\n" * times)
+            s.call("end", "report %d %d 0 0 0 0 0 %d" % (times, times, min(start + times, MOST)))
+            s.call("end", "report 0 0 0 0 0 0 0 0")
+        s.poke("loader", 8, start)
+        loaded(s, b"A B B", "1 1 0 0 0 0 0 %d" % min(start + 1, MOST))
+        s.poke("loader", 8, start)
+        loaded(s, b"A B r\n\nA A b\nA B bq\nb\n", "5 1 1 3 3 5 0 %d" % start)
+        s.poke("loader", 8, start)
+        loaded(s, b"A B rb\nA B r\nA A rb\n\nA B bb\nA B x", "6 4 1 1 3 5 0 %d" % min(start + 2, MOST))
+        s.poke("loader", 8, start)
+        s.call("end", "report 0 0 0 0 0 0 0 %d" % start)
+        s.call("fresh", "done")
+        s.call("end", "report 0 0 0 0 0 0 0 0")
+    s.say("The count at its limit while accepted is below it, and the other way round; lines too. Each stops by itself.")
+    for accepted, held in ((MOST - 2, 0), (MOST - 1, 0), (MOST, 0), (MOST - 1, 5), (MOST, 7), (0, MOST - 2), (0, MOST - 1), (0, MOST), (5, MOST - 1), (7, MOST), (MOST - 1, MOST - 1), (MOST, MOST - 1), (MOST - 1, MOST), (MOST, MOST),
+                           (MOST - 1, MOST - 3), (MOST - 3, MOST - 1)):
+        for text, more, b in ((b"A B b\n", 1, 1), (b"A B r\n", 1, 0), (b"A B rb\nA B B\nA B x\n", 3, 2), (b"A B wB", 1, 1), (b"A B b\nA B w", 2, 1)):
+            s.fresh()
+            s.poke("loader", 2, accepted)
+            s.poke("loader", 8, held)
+            loaded(s, text, "%d %d 0 0 0 0 0 %d" % (more, min(accepted + more, MOST), min(held + b, MOST)))
+    for lines in (MOST - 1, MOST):
+        for held in (0, 9, MOST - 1, MOST):
+            s.fresh()
+            s.poke("loader", 1, lines)
+            s.poke("loader", 8, held)
+            loaded(s, b"A B b\n\nA A b\nA B bw", "%d 2 1 1 %d 5 0 %d" % (MOST, MOST, min(held + 2, MOST)))
+    s.say("Skipped lines, or refused ones, at the limit: lines with b are counted all the same.")
+    for index, said in ((3, "1 1 %d 0 0 0 0 1" % MOST), (4, "1 1 0 %d 0 0 0 1" % MOST)):
+        s.fresh()
+        s.poke("loader", index, MOST)
+        loaded(s, b"A B rb\n", said)
+    s.say("A count that does not add up is no damage: more lines with b than lines. It stays until a line counts, and is gone after the end call.")
+    for held in (1, 1000, MOST):
+        s.fresh()
+        s.poke("loader", 8, held)
+        s.dump("held %d" % held)
+        s.piece(b"")
+        s.ask(b"A", b"B", b"r", "denied 7")
+        s.change(b"A B b -", "refused 4")
+        s.dump("held %d" % held)
+        s.call("end", "report 0 0 0 0 0 0 0 %d" % held)
+        s.dump("fresh")
+    s.say("All nine numbers poked: a kept line of five bytes, which a b ends.")
+    for number, reported in ((1, 2), (7, 8), (MOST - 1, MOST), (MOST, MOST)):
+        for access, held in ((b"b\n", reported), (b"w\n", number), (b"b", reported)):
+            s.fresh()
+            s.poke("line", 0, b"A B r")
+            s.poke("loader", 0, 5)
+            for index in range(1, 6):
+                s.poke("loader", index, number)
+            s.poke("loader", 6, 7)
+            s.poke("loader", 7, HUGE)
+            s.poke("loader", 8, number)
+            loaded(s, access, "%d %d %d %d %d 7 %d %d" % (reported, reported, number, number, number, HUGE, held))
+            s.list(0, b"A B rw\n" if access == b"w\n" else b"A B r\n")
+            s.call("end", "report 0 0 0 0 0 0 0 0")
+    s.say("Each of the nine alone is 1: the report has it, and the end call leaves a fresh loader. A kept byte, NUL, is a line of one field.")
+    for index, numbers in enumerate(("1 0 0 1 1 2 0 0", "1 0 0 0 0 0 0 0", "0 1 0 0 0 0 0 0", "0 0 1 0 0 0 0 0", "0 0 0 1 0 0 0 0", "0 0 0 0 1 0 0 0", "0 0 0 0 0 1 0 0", "0 0 0 0 0 0 1 0", "0 0 0 0 0 0 0 1")):
+        s.fresh()
+        s.poke("loader", index, 1)
+        s.call("end", "report " + numbers)
+        s.dump("fresh")
+    s.say("A kept line with a b that a host has put there: judged by the end call or at its newline.")
+    for line, numbers in ((b"A B b", "1 1 0 0 0 0 0 1"), (b"A B -b-", "1 1 0 0 0 0 0 1"), (b"A A b", "1 0 0 1 1 5 0 0"), (b"A B bq", "1 0 0 1 1 4 0 0"), (b"A B b\n", "1 0 0 1 1 4 0 0"), (b"A B \nb", "1 0 0 1 1 4 0 0"), (b"A B b \n", "1 0 0 1 1 2 0 0")):
+        for text in (b"", b"\n"):
+            s.fresh()
+            s.poke("line", 0, line)
+            s.poke("loader", 0, len(line))
+            loaded(s, text, numbers)
+    for kept, numbers in ((599, "1 1 0 0 0 0 0 1"), (600, "1 1 0 0 0 0 0 1"), (601, "1 0 0 1 1 1 0 0")):
+        s.fresh()
+        s.poke("line", 0, b"A B b" + b" " * 595)
+        s.poke("loader", 0, kept)
+        loaded(s, b"\n", numbers)
+    s.store()
+
+
+def bringup_cuts():
+    s = Script("bringup_cuts", "02, Six, in demand 3: a text with lines that hold b, cut at every byte: the same report, the count too, and the same state.", True)
+    text = b"A B rb\n\nC D B\nA A b\nE F bq\nb B -b-\nG H r\nB b xB"
+
+    def feed(pieces, numbers, between=False):
+        s.fresh()
+        for piece in pieces:
+            s.piece(piece)
+            if between:
+                s.ask(b"G", b"H", b"w", "denied 7")
+                s.ask(b"A", b"B", b"b", "refused 8")
+                s.change(b"A B b -", "refused 4")
+        s.call("end", "report " + numbers)
+    whole = "8 5 1 2 4 5 0 4"
+    feed([text], whole)
+    for k, listed in enumerate((b"A B r\n", b"C D -\n", b"b B -\n", b"G H r\n", b"B b x\n")):
+        s.list(k, listed)
+    s.list(5, 13)
+    s.dump("state")
+    s.say("every cut into two pieces")
+    for at in range(len(text) + 1):
+        feed([text[:at], text[at:]], whole)
+        s.dump("state")
+    s.say("byte by byte, and in pieces of two to five bytes; with questions and refused changes between")
+    for length in range(1, 6):
+        for between in (False, True):
+            feed([text[k:k + length] for k in range(0, len(text), length)], whole, between)
+            s.dump("state")
+    s.say("a line cut into three pieces at every two bytes, in its access field too")
+    line = b" A B -bB-r \n"
+    for one in range(len(line) + 1):
+        for two in range(one, len(line) + 1):
+            feed([line[:one], line[one:two], line[two:]], "1 1 0 0 0 0 0 1")
+            s.dump("line")
+    s.list(0, b"A B r\n")
+    s.say("a newline before b and behind it, blanks about it; each at every cut")
+    for text, numbers in ((b"A B r\nb\n", "2 1 0 1 2 2 0 0"), (b"A B rb\n", "1 1 0 0 0 0 0 1"), (b"A B r\n b\n", "2 1 0 1 2 2 0 0"), (b"A B \nb", "2 0 0 2 1 2 0 0"), (b"A B\nb", "2 0 0 2 1 2 0 0"), (b"A B b\n\n", "2 1 1 0 0 0 0 1"),
+                          (b"\nA B b", "2 1 1 0 0 0 0 1"), (b"A B b\nb B b\n", "2 2 0 0 0 0 0 2"), (b"A B r b\n", "1 0 0 1 1 2 0 0"), (b"A B r\tb", "1 0 0 1 1 2 0 0"), (b"A B b\nA B b\nA B b", "3 3 0 0 0 0 0 3"), (b"b\nA B b\nb", "3 1 0 2 1 2 0 1"),
+                          (b"A B b\r\nA B b", "2 1 0 1 1 4 0 1"), (b"A\nB b b\n", "2 1 0 1 1 2 0 1"), (b"A B b\nb b\n", "2 1 0 1 2 2 0 1")):
+        for at in range(len(text) + 1):
+            feed([text[:at], text[at:]], numbers)
+    s.say("An end call between two pieces ends the line before its b, or before what is behind it.")
+    s.fresh()
+    loaded(s, b"A B r", "1 1 0 0 0 0 0 0")
+    loaded(s, b"b\n", "1 0 0 1 1 2 0 0")
+    loaded(s, b"A B b", "1 1 0 0 0 0 0 1")
+    loaded(s, b"q\n", "1 0 0 1 1 2 0 0")
+    s.say("A change while the line is under way acts at once; the line sets the modes wholly at its newline.")
+    s.fresh()
+    s.piece(b"A B r")
+    s.change(b"A B wt -")
+    s.piece(b"b")
+    s.ask(b"A", b"B", b"w", "granted 6")
+    s.ask(b"A", b"B", b"r", "denied 7")
+    s.piece(b"\n")
+    s.ask(b"A", b"B", b"w", "denied 7")
+    s.ask(b"A", b"B", b"r", "granted 6")
+    s.list(0, b"A B r\n")
+    s.piece(b"A B b")
+    s.ask(b"A", b"B", b"r", "granted 6")
+    s.call("end", "report 2 2 0 0 0 0 0 2")
+    s.ask(b"A", b"B", b"r", "denied 7")
+    s.say("600 and 601 bytes with b at the end, cut about it.")
+    for text, numbers in ((b" " * 595 + b"A B b\nA B B", "2 2 0 0 0 0 0 2"), (b" " * 596 + b"A B b\nA B B", "2 1 0 1 1 1 0 1"), (b"A B " + b"b" * 596 + b"\nA B B", "2 2 0 0 0 0 0 2"), (b"A B " + b"b" * 597 + b"\nA B B", "2 1 0 1 1 1 0 1")):
+        for at in (0, 1, 4, 5, 594, 595, 596, 597, 598, 599, 600, 601, 602, 603, 607):
+            feed([text[:at], text[at:]], numbers)
+    s.store()
+
+
+def bringup_rules():
+    s = Script("bringup_rules", "02, Six: rules that came by lines with b. The modes are set wholly; changes, revokes and questions find the other letters and nothing of b.", True)
+    s.say("Loaded with b and then without, and the other way: each line sets the pair's modes wholly, in its place.")
+    for first, then in ((b"rb", b"r"), (b"r", b"rb"), (b"rb", b"w"), (b"w", b"rb"), (b"b", b"rwxat"), (b"rwxat", b"b"), (b"rwxatB", b"-"), (b"-", b"b"), (b"b", b"-"), (b"B", b"b"), (b"xb", b"Bx"), (b"tb", b"r"), (b"rt", b"B")):
+        s.fresh()
+        s.piece(b"C D w\nA B " + first + b"\nE F r\n")
+        s.call("end", "report 3 3 0 0 0 0 0 %d" % (b"b" in first.lower()))
+        s.list(1, b"A B " + listed_modes(first) + b"\n")
+        ask_all(s, b"A", b"B", first.lower())
+        loaded(s, b"A B " + then + b"\n", "1 1 0 0 0 0 0 %d" % (b"b" in then.lower()))
+        s.list(1, b"A B " + listed_modes(then) + b"\n")
+        ask_all(s, b"A", b"B", then.lower())
+        s.list(0, b"C D w\n")
+        s.list(2, b"E F r\n")
+        s.list(3, 13)
+    s.say("Every set of letters with a b: listed, asked about, and the same tables as without it.")
+    for k in range(32):
+        some = bytes(c for j, c in enumerate(b"rwxat") if k >> j & 1)
+        for text, b in ((some + b"b", 1), (b"B" + some[::-1].upper(), 1), (some or b"-", 0)):
+            s.fresh()
+            loaded(s, b"A B " + text + b"\n", "1 1 0 0 0 0 0 %d" % b)
+            s.list(0, b"A B " + (some or b"-") + b"\n")
+            s.dump("letters " + (some.decode() or "none"), True)
+        ask_all(s, b"A", b"B", some)
+        s.ask(b"B", b"A", b"r", "denied 7")
+    s.say("b alone: denied 7 to every request; with the capability override 7 under an empty list and for a subject on the list.")
+    s.fresh()
+    loaded(s, b"A B b\nC B B\n", "2 2 0 0 0 0 0 2")
+    for request in REQUESTS:
+        s.ask(b"A", b"B", request, "denied 7")
+    for listed, answers in ((b"A", ("override 7", "denied 7")), (b"C B", ("denied 7", "override 7")), (b"b", ("denied 7", "denied 7")), (b"-", ("override 7", "override 7"))):
+        s.override(listed)
+        for subject, answer in zip((b"A", b"C"), answers):
+            for request in REQUESTS:
+                s.ask(subject, b"B", request, answer, 1)
+                s.ask(subject, b"B", request, "denied 7")
+    s.say("Changes on a pair that came by a line with b: (old modes or allow) without deny, of the letters alone.")
+    for old in (b"b", b"rb", b"rwxatb", b"wB", b"-b-t"):
+        for allow, deny in ((b"-", b"-"), (b"w", b"r"), (b"rwxat", b"-"), (b"-", b"rwxat"), (b"rwxat", b"rwxat"), (b"t", b"-"), (b"-", b"t"), (b"x", b"x"), (b"wa", b"w")):
+            s.line(b"A B " + old, None)
+            s.change(b"A B %s %s" % (allow, deny))
+            s.list(0, b"A B " + listed_modes(bytes(c for c in b"rwxat" if (c in old.lower() or c in allow) and c not in deny)) + b"\n")
+    s.say("A pair that a change made, then a line with b, then a change again.")
+    s.fresh()
+    s.change(b"A B rw -")
+    loaded(s, b"A B xb\n", "1 1 0 0 0 0 0 1")
+    s.list(0, b"A B x\n")
+    s.change(b"A B t -")
+    s.list(0, b"A B xt\n")
+    s.change(b"A B b -", "refused 4")
+    s.list(0, b"A B xt\n")
+    s.say("Revoke: every rule with that subject is counted, those by lines with b too, and has no modes.")
+    s.fresh()
+    loaded(s, b"A B rb\nA C b\nA D r\nB A rwxatb\nA E B\n", "5 5 0 0 0 0 0 4")
+    s.revoke(b"b", "revoked 0")
+    s.revoke(b"A", "revoked 4")
+    for k, text in enumerate((b"A B -\n", b"A C -\n", b"A D -\n", b"B A rwxat\n", b"A E -\n")):
+        s.list(k, text)
+    s.revoke(b"A", "revoked 4")
+    s.revoke(b"B", "revoked 1")
+    s.list(3, b"B A -\n")
+    loaded(s, b"A C bw\nB A b\n", "2 2 0 0 0 0 0 2")
+    s.list(1, b"A C w\n")
+    s.list(3, b"B A -\n")
+    s.revoke(b"A", "revoked 4")
+    s.list(1, b"A C -\n")
+    s.say("Rules 1 to 5 decide before rules that came by lines with b.")
+    s.fresh()
+    loaded(s, b"* A rwxatb\n^ A rwb\nA _ wB\nA * b\n^ _ b\n? A rwxab\nA ? b\n", "7 7 0 0 0 0 0 7")
+    for subject, object_, request, answer in ((b"*", b"A", b"r", "denied 1"), (b"*", b"A", b"rwxa", "denied 1"), (b"^", b"A", b"r", "granted 2"), (b"^", b"A", b"rx", "granted 2"), (b"^", b"A", b"rw", "granted 6"), (b"^", b"A", b"a", "denied 7"),
+                                              (b"A", b"_", b"rx", "granted 3"), (b"A", b"_", b"w", "granted 6"), (b"A", b"_", b"wr", "denied 7"), (b"A", b"*", b"rwxa", "granted 4"), (b"^", b"_", b"w", "denied 7"), (b"^", b"_", b"x", "granted 2"),
+                                              (b"?", b"A", b"rwxa", "granted 6"), (b"A", b"?", b"r", "denied 7"), (b"A", b"A", b"w", "granted 5"), (b"b", b"b", b"w", "granted 5"), (b"b", b"A", b"r", "denied 7")):
+        s.ask(subject, object_, request, answer)
+        s.ask(subject, object_, request, answer.replace("denied", "override"), 1)
+    s.say("256 rules that came by lines with b, in tables of 64 labels: each is found, set, and listed.")
+    s.fresh()
+    labels_to(s, 64)
+    s.piece(b"".join(b"%s %s %s\n" % (a, b, (b"rb", b"b", b"Bw", b"xbt")[k % 4]) for k, (a, b) in enumerate(pairs()[:256])))
+    s.call("end", "report 256 256 0 0 0 0 0 256")
+    for k, (a, b) in enumerate(pairs()[:256]):
+        s.list(k, b"%s %s %s\n" % (a, b, (b"r", b"-", b"w", b"xt")[k % 4]))
+        s.ask(a, b, b"w", "granted 6" if k % 4 == 2 else "denied 7")
+    a, b = pairs()[256]
+    loaded(s, b"%s %s b\n%s %s wB\n" % (a, b, *pairs()[255]), "2 1 0 1 1 7 0 1")
+    s.list(255, b"%s %s w\n" % pairs()[255])
+    s.store()
+
+
+def bringup_refused():
+    s = Script("bringup_refused", "02, Six: a change refuses b with 4, in either access field, and a request with 8, as before. Each beside its neighbours in the order of refusals. Nothing changes.", True)
+    changes = [(b"A B b -", 4), (b"A B B -", 4), (b"A B - b", 4), (b"A B - B", 4), (b"A B b b", 4), (b"A B B B", 4), (b"A B rb -", 4), (b"A B br -", 4), (b"A B - wB", 4), (b"A B - Bw", 4), (b"A B bb -", 4), (b"A B -b- r", 4), (b"A B r --b", 4),
+               (b"A B rwxatb -", 4), (b"A B - rwxatb", 4), (b"A B RWXATB rwxat", 4), (b"A B bq -", 4), (b"A B q b", 4), (b"A B b q", 4), (b" A\tB  b - ", 4), (b"A B b -\n", 4), (b"C D b -", 4), (b"C D - b", 4), (b"b B b -", 4), (b"B b - b", 4),
+               (b"A/ B b -", 3), (b"A B/ - b", 3), (b"A -B - B", 3), (b"- - b b", 3), (b"b/ b b b", 3), (b"b b/ b b", 3), (b"L" * 256 + b" B b -", 3), (b"A\nB C b -", 3), (b"A A b -", 4), (b"A A - B", 4), (b"A A rb w", 4), (b"b b b b", 4), (b"B B - b", 4),
+               (b"A A r -", 5), (b"b b r -", 5), (b"b b - -", 5), (b"A B b", 2), (b"A b", 2), (b"b", 2), (b"A B b - -", 2), (b"A B - - b", 2), (b"b b b", 2), (b"A B b - b", 2), (b"A/ B b", 2), (b"A B b -" + b" " * 594, 1),
+               (b" " * 594 + b"A B b -", 1), (b"A B " + b"b" * 595 + b" -", 1), (b"b" * 601, 1), (b"A B b -" + b" " * 593, 4), (b"A B - " + b"b" * 594, 4), (b"A B - " + b"b" * 595, 1)]
+    s.fresh()
+    loaded(s, b"A B rb\n", "1 1 0 0 0 0 0 1")
+    s.dump("small")
+    for text, number in changes:
+        s.change(text, "refused %d" % number)
+        s.list(0, b"A B r\n")
+        s.label(7, 13)
+    s.dump("small")
+    s.say("b at each place of an access field, among letters and among dashes; every letter beside it.")
+    for n in (1, 2, 3, 6, 26):
+        for at in range(n):
+            for fill in (b"-", b"w"):
+                field = fill * at + (b"b" if at % 2 else b"B") + fill * (n - at - 1)
+                s.change(b"A B " + field + b" -", "refused 4")
+                s.change(b"A B - " + field, "refused 4")
+    for letter in b"rwxatRWXAT-":
+        for field in (b"b%c" % letter, b"%cb" % letter, b"B%c" % letter, b"%cB" % letter):
+            s.change(b"A B " + field + b" -", "refused 4")
+            s.change(b"A B %c " % letter + field, "refused 4")
+    s.dump("small")
+    s.say("As labels b and B are as any other, in each write.")
+    s.change(b"b B r -")
+    s.change(b"B b - r")
+    s.list(1, b"b B r\n")
+    s.list(2, b"B b -\n")
+    s.override(b"b B bb")
+    s.mapping(b"b 9 1")
+    s.bylabel(b"b", mapped(9, category(1), 1))
+    s.revoke(b"b", "revoked 1")
+    s.mapping(b"A b", "refused 9")
+    s.mapping(b"A 9 b", "refused 9")
+    s.say("Full tables: 4 before 6 and before 7, and alone.")
+    for labels in (64, 62):
+        full(s, labels, 256, 0)
+        s.dump("%d full" % labels, True)
+        for text, number in ((b"New1 New2 b -", 4), (b"New1 New2 - b", 4), (b"New1 L05 r B", 4), (b"L05 New1 B r", 4), (b"L40 L41 b -", 4), (b"L40 L41 - B", 4), (b"L05 L06 b -", 4), (b"L05 L06 - b", 4), (b"New1 New1 b -", 4), (b"New1/ New2 b -", 3),
+                             (b"New1 New2 r -", 6 if labels == 64 else 7), (b"L40 L41 r -", 7), (b"New1 New1 r -", 5), (b"L40 L40 - b", 4)):
+            s.change(text, "refused %d" % number)
+        s.dump("%d full" % labels, True)
+    s.say("Lines in the same tables: b is none of their refusals, so the next number is told.")
+    full(s, 64, 256, 0)
+    s.dump("64 full", True)
+    for text, number, where in ((b"New1 New2 b", 6, 0), (b"New1 L05 rB", 6, 0), (b"L40 L41 b", 7, 0), (b"L40 L40 b", 5, 0), (b"New1 New1 B", 5, 0), (b"New1/ New2 b", 3, 4), (b"New1 New2 bq", 4, 0), (b"L40 L40 qb", 4, 0), (b"L40 L41 b b", 2, 0)):
+        loaded(s, text + b"\n", "1 0 0 1 1 %d %d 0" % (number, where))
+    s.dump("64 full", True)
+    s.say("Requests: 8 for b and B wherever they stand, whatever the rules say, with and without the capability; 3 before 8.")
+    bad_requests = [b"b", b"B", b"bb", b"bB", b"rb", b"br", b"Rb", b"bR", b"rB", b"wb", b"xb", b"ab", b"tb", b"-b", b"b-", b"rwxab", b"brwxa", b"rwbxa", b"RWXAB", b"rwxatb", b"b ", b" b", b"b\n", b"bq"]
+    for text in (b"", b"A B rb\n* _ b\n^ _ b\nA _ b\nA * b\nb B b\n", b"A B b\n", b"A B rwxatb\n"):
+        s.fresh()
+        s.piece(text)
+        s.dump("asked %d" % len(text))
+        for request in bad_requests:
+            for subject, object_ in ((b"A", b"B"), (b"A", b"A"), (b"*", b"_"), (b"^", b"_"), (b"A", b"_"), (b"A", b"*"), (b"b", b"b"), (b"b", b"B"), (b"Unseen", b"B")):
+                s.ask(subject, object_, request, "refused 8", len(request) % 2)
+            s.ask(b"A", b"B", request, "refused 8", 1 - len(request) % 2)
+        for subject, object_, where in ((b"A/", b"B", 1), (b"A", b"B/", 1), (b"-A", b"B", 0), (b"A", b"-b", 0), (b"", b"b", 0), (b"b", b"", 0), (b"b ", b"b", 1), (b"L" * 256, b"b", 255)):
+            for request in (b"b", b"B", b"rb"):
+                s.ask(subject, object_, request, "refused 3 %d" % where)
+                s.ask(subject, object_, request, "refused 3 %d" % where, 1)
+        s.dump("asked %d" % len(text))
+    for n in (1, 2, 26, 300):
+        for at in range(n) if n < 50 else (0, 1, 254, 255, 256, 299):
+            s.ask(b"A", b"A", b"r" * at + b"b" + b"r" * (n - at - 1), "refused 8")
+            s.ask(b"A", b"A", b"x" * at + b"B" + b"x" * (n - at - 1), "refused 8", 1)
+    s.say("b in an override list and in a revoke is a label; nothing else of them changed.")
+    s.fresh()
+    s.override(b"b B b b")
+    s.label(5, b"b")
+    s.label(6, b"B")
+    s.label(7, 13)
+    s.ask(b"b", b"A", b"r", "override 7", 1)
+    s.ask(b"A", b"b", b"r", "denied 7", 1)
+    s.revoke(b"b", "revoked 0")
+    s.store()
+
+
+def bringup_listing():
+    s = Script("bringup_listing", "02, Six: listings have no b. A listing of rules that came by lines with b, loaded into a fresh table, gives the same listing and the same tables, and a count of 0.", True)
+    rules = [(b"Probe3 Air wb", b"Probe3 Air w\n"), (b"Alarm Air RxB", b"Alarm Air rx\n"), (b"Desk Alarm b", b"Desk Alarm -\n"), (b"b B rwxatb", b"b B rwxat\n"), (b"B b B", b"B b -\n"), (b"bb b -b-t", b"bb b t\n"), (b"Air Desk BTAXWR", b"Air Desk rwxat\n"),
+             (b"Probe3 Desk r", b"Probe3 Desk r\n"), (b"_ ^ bab", b"_ ^ a\n"), (b"* Air -", b"* Air -\n")]
+    s.piece(b"".join(line + b"\n" for line, _ in rules))
+    s.call("end", "report 10 10 0 0 0 0 0 8")
+    for round_ in range(3):
+        for k, (_, listed) in enumerate(rules):
+            s.list(k, listed, b"\xee" * 20)
+        s.list(10, 13)
+        s.dump("ten rules", True)
+        s.say("the listing, loaded into a fresh table")
+        s.fresh()
+        s.piece(b"".join(listed for _, listed in rules))
+        s.call("end", "report 10 10 0 0 0 0 0 0")
+    s.say("Buffers of every length about the text's; too short is 12 and all of it stays. What stood in the buffer is not read.")
+    s.fresh()
+    loaded(s, b"".join(line + b"\n" for line, _ in rules), "10 10 0 0 0 0 0 8")
+    for k, (_, listed) in enumerate(rules):
+        for length in range(len(listed) + 4):
+            s.list(k, listed if length >= len(listed) else 12, bytes((7 * j + 13) % 256 for j in range(length)))
+        s.list(k, listed, b"b" * 20)
+        s.list(k, listed, b"A B rwxatb\n" * 3)
+    s.say("A rule with every letter: `rwxat` and a newline fit where there are just so many bytes; a b, which is not written, has no place.")
+    for access, listed in ((b"b", b"-"), (b"rb", b"r"), (b"rwb", b"rw"), (b"rwxb", b"rwx"), (b"rwxab", b"rwxa"), (b"rwxatb", b"rwxat"), (b"tB", b"t")):
+        s.line(b"A B " + access, None)
+        text = b"A B " + listed + b"\n"
+        for length in range(len(text) - 2, len(text) + 3):
+            s.list(10, text if length >= len(text) else 12, b"\xee" * length)
+    s.say("The longest rule: 255, 255, five letters, two spaces, a newline: 518 bytes, by a line with b and by one without.")
+    one, two = b"L" * 255, b"M" * 255
+    for access in (b"rwxatb", b"BTAXWR", b"rwxat"):
+        s.fresh()
+        s.line(one + b" " + two + b" " + access, None)
+        for length in (0, 1, 511, 512, 513, 514, 515, 516, 517):
+            s.list(0, 12, b"\xee" * length)
+        for length in (518, 519, 520, 600):
+            s.list(0, one + b" " + two + b" rwxat\n", b"\xee" * length)
+    s.line(one + b" " + two + b" b", None)
+    s.list(0, 12, b"\xee" * 513)
+    s.list(0, one + b" " + two + b" -\n", b"\xee" * 514)
+    s.say("256 rules with b, each listed; then the listing as text: the same tables.")
+    for access, listed, count in ((lambda k: (b"rb", b"b", b"Bw", b"xbt", b"rwxatb")[k % 5], lambda k: (b"r", b"-", b"w", b"xt", b"rwxat")[k % 5], 256), (lambda k: (b"r", b"-", b"w", b"xt", b"rwxat")[k % 5], lambda k: (b"r", b"-", b"w", b"xt", b"rwxat")[k % 5], 0)):
+        s.fresh()
+        s.piece(b"".join(b"%s %s %s\n" % (a, b, access(k)) for k, (a, b) in enumerate(pairs()[:256])))
+        s.call("end", "report 256 256 0 0 0 0 0 %d" % count)
+        s.dump("256 rules", True)
+        for k, (a, b) in enumerate(pairs()[:256]):
+            s.list(k, b"%s %s %s\n" % (a, b, listed(k)), b"\xee" * 16)
+    s.say("Every set of letters that can be stored is listed in the order r w x a t.")
+    s.fresh()
+    s.line(b"A B -", None)
+    for k in range(0, 64, 2):
+        s.poke("entries", 512, bytes([k]))
+        s.list(0, b"A B " + (b"".join(c for c, bit in ((b"r", 32), (b"w", 16), (b"x", 8), (b"a", 4), (b"t", 2)) if k & bit) or b"-") + b"\n")
+    s.store()
+
+
+def bringup_records():
+    s = Script("bringup_records", "02, Six: a line's b is dropped where the line is turned into an old record; 15 is for a label over 23 bytes alone. In a record b is 4, as before.", True)
+    s.say("by hand")
+    for access, back in ((b"b", b"-----"), (b"B", b"-----"), (b"bb", b"-----"), (b"bB", b"-----"), (b"-b-", b"-----"), (b"-b-B", b"-----"), (b"rb", b"r----"), (b"Rb", b"r----"), (b"bR", b"r----"), (b"rwxatb", b"rwxat"), (b"RWXATB", b"rwxat"),
+                         (b"BTAXWR", b"rwxat"), (b"bwxat", b"-wxat"), (b"rbxat", b"r-xat"), (b"rwbat", b"rw-at"), (b"rwxbt", b"rwx-t"), (b"rwxab", b"rwxa-"), (b"tb", b"----t"), (b"b-t", b"----t"), (b"abr", b"r--a-"), (b"b" * 500, b"-----")):
+        for end in (b"", b"\n", b" \n", b"\t"):
+            s.to_record(b"Alarm Air " + access + end, fixed(b"Alarm", b"Air", back), b"\xee" * 54)
+    s.say("b in every place of a field of six: the record of the line without it, and the line of that record.")
+    for base in (b"rwxat", b"TAXWR", b"-----", b"w-x-a", b"bbbbb"):
+        record = fixed(b"A", b"B", bytes(c if c in base.lower() else 45 for c in b"rwxat"))
+        for at in range(6):
+            for one in (b"b", b"B"):
+                s.to_record(b"A B " + base[:at] + one + base[at:] + b"\n", record, b"\xee" * 53)
+        s.to_line(record, b"A B " + listed_modes(base) + b"\n", b"\xee" * 12)
+    for k in range(32):
+        some = bytes(c for j, c in enumerate(b"rwxat") if k >> j & 1)
+        record = fixed(b"A", b"B", bytes(c if c in some else 45 for c in b"rwxat"))
+        for line in (b"A B " + some + b"b\n", b"A B B" + some, b"A B " + (some or b"-")):
+            s.to_record(line, record, b"\xee" * 53)
+        s.to_line(record, b"A B " + (some or b"-") + b"\n", b"\xee" * 12)
+    s.say("Labels of 23 bytes and b: a record. Of 24: 15, with b and without.")
+    for subject, object_, long in ((LONG[:23], b"Air", False), (b"Air", LONG[:23], False), (LONG[:23], b"M" * 23, False), (LONG[:24], b"Air", True), (b"Air", LONG[:24], True), (LONG[:24], b"M" * 24, True), (LONG[:23], b"M" * 24, True),
+                                   (b"b" * 23, b"B" * 23, False), (b"b" * 24, b"B", True), (b"L" * 255, b"b", True), (b"b", b"L" * 255, True), (b"b", b"B", False)):
+        for access, back in ((b"b", b"-----"), (b"B", b"-----"), (b"rb", b"r----"), (b"r", b"r----"), (b"-", b"-----"), (b"RWXATB", b"rwxat")):
+            line = b"%s %s %s" % (subject, object_, access)
+            s.to_record(line, 15 if long else fixed(subject, object_, back))
+            s.to_record(line + b"\n", 15 if long else fixed(subject, object_, back))
+        if not long:
+            s.to_line(fixed(subject, object_, b"r----"), b"%s %s r\n" % (subject, object_))
+    s.say("The order 1 2 3 4 5 15 12 with a b in the line.")
+    for line, number in ((b"A B b" + b" " * 596, 1), (b"A B " + b"b" * 597, 1), (b"A B b" + b" " * 596 + b"\n", 1), (LONG[:24] + b" B b" + b" " * 600, 1), (b"b", 2), (b"A b", 2), (b"b b\n", 2), (b"A B b b", 2), (LONG[:24] + b" B b b", 2), (b"A/ b", 2), (b"A/ B b", 3),
+                         (b"A B/ b", 3), (b"- b b", 3), (b"b/ b/ b", 3), (b"L" * 256 + b" B b", 3), (b"A/ B bq", 3), (b"A B bq", 4), (b"A B qb", 4), (b"A B bl", 4), (b"A B lb", 4), (b"A A bq", 4), (b"A B b\n\n", 4), (b"A B b\r\n", 4), (LONG[:24] + b" B bq", 4),
+                         (b"A A b", 5), (b"A A rb\n", 5), (b"b b b", 5), (LONG[:24] + b" " + LONG[:24] + b" b", 5), (LONG[:24] + b" B b", 15), (b"A " + LONG[:24] + b" B\n", 15), (b"A B b \n\n", 2)):
+        for out in (b"", b"\xee" * 52, b"\xee" * 53, b"\xee" * 60):
+            s.to_record(line, number, out)
+    s.say("600 bytes, with a closing newline and without, and b at the end, or nothing but b: taken. The output of every length: 12 below 53.")
+    for line, back in ((b" " * 595 + b"A B b", b"-----"), (b"A B" + b" " * 595 + b"rb", b"r----"), (b"A B " + b"b" * 596, b"-----"), (b"A B " + b"-" * 595 + b"B", b"-----"), (b"A B w" + b"b" * 595, b"-w---")):
+        assert len(line) == 600
+        s.to_record(line, fixed(b"A", b"B", back))
+        s.to_record(line + b"\n", fixed(b"A", b"B", back))
+        s.to_record(line + b" ", 1)
+    for length in range(58):
+        out = bytes((7 * j + 13) % 256 for j in range(length))
+        s.to_record(b"Alarm Air rwxatb\n", 12 if length < 53 else fixed(b"Alarm", b"Air", b"rwxat"), out)
+        s.to_record(b"Alarm Air b", 12 if length < 53 else fixed(b"Alarm", b"Air", b"-----"), out)
+    s.say("Every byte beside b.")
+    for byte in range(256):
+        for line in (b"A B b" + bytes([byte]), b"A B " + bytes([byte]) + b"b", b"A B B" + bytes([byte]) + b"b\n"):
+            s.to_record(line, says_line(line), b"\xee" * 53)
+    s.say("A record: b or B in each of the five access bytes, beside dashes and beside letters: 4; 14 and 3 come before, 5 and 12 after.")
+    for at in range(5):
+        for one in (b"b", b"B"):
+            for rest in (b"-----", b"rwxat", b"RWXAT"):
+                access = rest[:at] + one + rest[at + 1:]
+                for subject, object_, number in ((b"Alarm", b"Air", 4), (b"Alarm", b"Alarm", 4), (b"b", b"B", 4), (b"Al/rm", b"Air", 3), (b"Alarm", b"-b", 3), (b"Al rm", b"Air", 14), (b"", b"Air", 14)):
+                    s.to_line(fixed(subject, object_, access), number, b"\xee" * 17)
+                s.to_line(fixed(b"Alarm", b"Air", access), 4, b"")
+    s.to_line(fixed(b"Alarm", b"Air", b"bbbbb"), 4)
+    s.to_line(fixed(b"Alarm", b"Air", b"rwxatb"), 14)
+    s.say("A line with b loaded, and its record's line loaded: the same tables; the count is of the first alone.")
+    for line, record, listed in ((b"Probe3 Air wb\n", fixed(b"Probe3", b"Air", b"-w---"), b"Probe3 Air w\n"), (b"Alarm Air b\n", fixed(b"Alarm", b"Air", b"-----"), b"Alarm Air -\n"), (b"b B BTb\n", fixed(b"b", b"B", b"----t"), b"b B t\n")):
+        s.fresh()
+        loaded(s, line, "1 1 0 0 0 0 0 1")
+        s.list(0, listed, b"\xee" * 16)
+        s.dump("of " + listed.decode().strip(), True)
+        s.to_record(line, record)
+        s.to_line(record, listed)
+        s.fresh()
+        loaded(s, listed, "1 1 0 0 0 0 0 0")
+        s.dump("of " + listed.decode().strip(), True)
+        s.to_record(listed, record)
+    s.say("Neither table nor loader changes, and a state with the old bit is not lent to these calls: never 0.")
+    s.fresh()
+    s.piece(b"A B rb\nC D b")
+    s.dump("under way")
+    for poked in (False, True):
+        if poked:
+            s.poke("entries", 512, b"\x21")
+            s.piece(b"", "refused 0")
+            s.dump("old bit")
+        s.to_record(b"A B b\n", fixed(b"A", b"B", b"-----"))
+        s.to_record(b"New1 New2 rwb", fixed(b"New1", b"New2", b"rw---"))
+        s.to_record(LONG[:24] + b" B b", 15)
+        s.to_line(fixed(b"A", b"B", b"b----"), 4)
+        s.to_line(fixed(b"A", b"B", b"r----"), b"A B r\n")
+        s.dump("old bit" if poked else "under way")
+    s.store()
+
+
+def lent_calls():
+    """Each call that is lent the tables, with its answer in a damaged state."""
+    calls = [(c if len(c) < 100 else "change " + h(b"A B"), under_damage(c)) for c in TABLE_CALLS]
+    return calls + [("list 0 " + "ee" * 12, "refused 0 " + "ee" * 12), ("list 999 -", "refused 0 -"), ("label 5", "refused 0 -"), ("label 999", "refused 0 -")]
+
+
+def bringup_damage():
+    s = Script("bringup_damage", "02, Six: known modes are r 32, w 16, x 8, a 4, t 2. The bit 1, which was b's, 64 and 128 are none: a stored rule with one of them gets 0 from every call that is lent the tables.", True)
+    calls = lent_calls()
+    s.say("A rule that was stored with b: every call, and nothing changes. A question that rules 1 to 5 decide is no exception.")
+    small_state(s)
+    s.dump("sound")
+    for k, old in ((0, 32), (1, 16), (2, 8)):
+        for bits in (1, 64, 128, 65, 129, 192, 193):
+            for modes in (bits, old | bits):
+                s.poke("entries", 512 + k, bytes([modes]))
+                s.dump("place %d modes %d" % (k, modes))
+                for call, answer in calls if bits == 1 else calls[(bits + k) % 5::5]:
+                    s.call(call, answer)
+                s.ask(b"A", b"A", b"r", "refused 0")
+                s.run(9, C63, [(3, 9, C63)], "label 3")
+                s.dump("place %d modes %d" % (k, modes))
+        s.poke("entries", 512 + k, bytes([old]))
+        s.dump("sound")
+    loaded(s, b"B rb\n", "5 4 0 1 4 5 0 2")
+    s.say("Every value of a modes byte, at the places 0, 31, 32 and 255 of a full table: 0, or the rule is listed with its letters.")
+    full(s)
+    s.dump("full", True)
+    turn = 0
+    for at in (0, 31, 32, 255):
+        a, b = pairs()[at]
+        for modes in range(256):
+            s.poke("entries", 512 + at, bytes([modes]))
+            if modes in range(0, 64, 2):
+                s.list(at, b"%s %s %s\n" % (a, b, b"".join(c for c, bit in ((b"r", 32), (b"w", 16), (b"x", 8), (b"a", 4), (b"t", 2)) if modes & bit) or b"-"), b"\xee" * 14)
+                s.ask(a, b, b"r", "granted 6" if modes & 32 else "denied 7")
+                s.ask(a, b, b"wxa", "granted 6" if modes & 28 == 28 else "denied 7")
+            else:
+                s.list(at, 0)
+                s.ask(a, b, b"r", "refused 0")
+                s.call(*calls[turn % len(calls)])
+                turn += 1
+        s.poke("entries", 512 + at, b"\x20")
+        s.dump("full", True)
+    s.say("0 comes before every other number: full tables, the bit at the last place, and each call in the order of its refusals.")
+    s.poke("entries", 767, b"\x21")
+    s.dump("each")
+    a, b = pairs()[300]
+    nine = b" ".join(b"N%d" % k for k in range(9))
+    for name, texts in (("change", (b" " * 601, b"A B r", b"A/ B r -", b"A B b -", b"A B - B", b"A A r -", b"A A b -", b"New1 New2 r -", a + b" " + b + b" r -", b"L05 L06 r -")), ("revoke", (b"A" * 601, b"/", b"L05", b"b")),
+                        ("override", (b" " * 601, b"", b"A/", nine, b"New1", b"-", b"L05")), ("mapping", (b" " * 1001, b"A", b"A/ 9", b"L05 256", b"New1 9", b"L40 9", b"L05 9")), ("bylabel", (b"/", b"A" * 256, b"L05", b"Unseen")),
+                        ("piece", (b"", b"\n", b"b", b" " * 601 + b"\n", b"L05 L06\n", b"A/ B b\n", b"L05 L06 bq\n", b"A A b\n", b"New1 New2 b\n", a + b" " + b + b" b\n", b"L05 L06 rb\n"))):
+        for text in texts:
+            s.call(name + " " + h(text), "refused 0")
+    s.call("end", "refused 0")
+    s.bylevel(256, 0, "refused 0")
+    s.bylevel(0, 1, "refused 0")
+    s.bylevel(9, category(1) | category(63), "refused 0")
+    for subject, object_, request in ((b"/", b"A", b"r"), (b"A", b"/", b"b"), (b"A", b"A", b"b"), (b"A", b"A", b"q"), (b"A", b"A", b""), (b"*", b"_", b"r"), (b"^", b"_", b"r"), (b"A", b"*", b"w"), (b"A", b"A", b"r"), (b"L05", b"L06", b"r"), (b"Unseen", b"L06", b"r")):
+        s.ask(subject, object_, request, "refused 0")
+        s.ask(subject, object_, request, "refused 0", 1)
+    for k, out in ((0, b"\xee" * 12), (255, b"\xee" * 14), (256, b"\xee" * 12), (HUGE, b""), (0, b"")):
+        s.list(k, 0, out)
+    for k in (0, 5, 63, 64, HUGE):
+        s.label(k, 0)
+    for label, out in ((b"A", b"\xee" * 20), (b"/", b""), (b"L" * 24, b"\xee" * 20), (b"L05", b"")):
+        s.write_option(label, 0, out)
+    for option in (own_option(b"A"), option_of(9, (1, 63)), b"", own_option(b"A") + b"\0"):
+        s.read_option(option, 0)
+    s.run(256, 1, [], "refused 9")
+    s.dump("each")
+    s.poke("entries", 767, b"\x20")
+    s.dump("full", True)
+    s.store()
+
+    s = Script("bringup_damage_places", "02, Six: the bit 1 in the modes of each of 256 rules: below the count it is damage, behind the count it is not looked at.", True)
+    s.say("A number behind the count that could be no stored one, in each run, so that a test of whole blocks tells nothing: each unknown bit in each stored rule, and in two.")
+    for run in (0, 256, 512):
+        for at in (3, 31):
+            small_state(s)
+            s.poke("entries", run + at, b"\xff")
+            s.ask(b"A", b"B", b"r", "granted 6")
+            for k, modes in ((0, 32), (1, 16), (2, 8)):
+                for bit in (1, 64, 128):
+                    s.poke("entries", 512 + k, bytes([modes | bit]))
+                    s.ask(b"A", b"B", b"r", "refused 0")
+                    s.label(5, 0)
+                s.poke("entries", 512 + k, bytes([modes]))
+            s.ask(b"A", b"B", b"r", "granted 6")
+            s.poke("entries", 512, b"\x21\x11\x08")
+            s.ask(b"A", b"B", b"r", "refused 0")
+    small_state(s)
+    for bit in (1, 64, 128):
+        s.poke("entries", 512, bytes([32 | bit, 16 | bit]))
+        s.ask(b"A", b"B", b"r", "refused 0")
+        s.label(5, 0)
+    s.say("A full table: the bit at each place beside r, under every call; alone and beside all letters, the calls taking turns.")
+    full(s)
+    s.override(b" ".join(name_of(k) for k in range(5, 13)))
+    s.dump("full", True)
+    turn = 0
+    for at in range(256):
+        for modes in (1 | 32, 1, 63):
+            s.poke("entries", 512 + at, bytes([modes]))
+            for call, answer in calls if modes == 33 else [calls[turn % len(calls)]]:
+                s.call(call, answer)
+            turn += 1
+        s.poke("entries", 512 + at, b"\x20")
+        if at % 32 == 31:
+            s.dump("full", True)
+    s.say("64 and 128 at each place, and all three.")
+    for at in range(256):
+        for modes in (64 | 32, 128 | 62, 193):
+            s.poke("entries", 512 + at, bytes([modes]))
+            s.call(*calls[turn % len(calls)])
+            turn += 1
+        s.poke("entries", 512 + at, b"\x20")
+    s.dump("full", True)
+    s.say("The bit in the place just behind the count, for every count: no damage; with the count one more it is.")
+    for count in range(256):
+        s.poke("words", 1, count)
+        s.poke("entries", 512 + count, b"\x21")
+        s.ask(*pairs()[count], b"r", "denied 7")
+        s.label(63, b"L63")
+        if count:
+            s.list(count - 1, b"%s %s r\n" % pairs()[count - 1])
+        s.list(count, 13)
+        s.poke("words", 1, count + 1)
+        s.list(count, 0)
+        s.ask(*pairs()[count], b"r", "refused 0")
+        s.call(*calls[turn % len(calls)])
+        turn += 1
+        s.poke("entries", 512 + count, b"\x20")
+        s.ask(*pairs()[count], b"r", "granted 6")
+    s.dump("full", True)
+    s.say("Every place behind the count has the bit, or every bit: each call answers as it does without, here in tables of 64 labels, 32 mappings and a list of eight.")
+    sound = ["done", "done", "report 1 0 0 1 1 6 0 0", "refused 6", "refused 2", "revoked 0", "refused 3 0", "refused 6", "refused 2", "refused 6", "refused 2", "none", "refused 3 0", "none", "refused 9", "denied 7", "refused 3 0", "denied 1",
+             "length 12 860c00000003010600fa2080" + "ee" * 8, "refused 3 -", "peer 41", "refused 16", None, "refused 13 -", "done 4c3035", "refused 13 -"]
+    for count in (0, 1, 2, 31, 32, 33, 64, 128, 254, 255):
+        for bits in (b"\x01", b"\xff"):
+            s.poke("words", 1, count)
+            s.poke("entries", 512 + count, bits * (256 - count))
+            s.dump("%d rules, bits %d" % (count, bits[0]), True)
+            for (call, _), answer in zip(calls, sound, strict=True):
+                s.call(call, answer or (output_says(b"L05 L06 r\n" if count else 13, b"\xee" * 12)))
+            s.dump("%d rules, bits %d" % (count, bits[0]), True)
+            s.poke("entries", 512 + count, b"\x20" * (256 - count))
+            s.poke("words", 1, 256)
+            s.dump("full", True)
+    s.say("These bytes stay. A new rule's modes are written wholly there, by a line with b, by one without and by a change.")
+    small_state(s)
+    s.poke("entries", 512 + 3, b"\xff" * 253)
+    s.dump("behind")
+    s.ask(b"A", b"B", b"r", "granted 6")
+    s.ask(b"B", b"C", b"w", "granted 6")
+    s.label(5, b"A")
+    s.change(b"C D b -", "refused 4")
+    s.list(3, 13)
+    s.dump("behind")
+    s.piece(b"D rb\nC D r\n")
+    s.change(b"D C xt -")
+    s.piece(b"C A b\n")
+    s.change(b"D A - -")
+    for k, listed in ((3, b"A D r\n"), (4, b"C D r\n"), (5, b"D C xt\n"), (6, b"C A -\n"), (7, b"D A -\n")):
+        s.list(k, listed)
+    s.list(8, 13)
+    s.call("end", "report 7 6 0 1 4 5 0 3")
+    s.dump("five more", True)
+    s.poke("entries", 512 + 3, b"\x20\x20\x0a\x00\x00" + b"\xff" * 248)
+    s.dump("five more", True)
+    s.say("A fresh table made in memory whose rules have the bit, and in one whose every byte has every bit: sound, and rules come in.")
+    for bits in (b"\x01", b"\x21", b"\xff"):
+        small_state(s)
+        s.poke("entries", 512, bits * 256)
+        s.label(5, 0)
+        s.call("freshen", "done")
+        s.label(4, b"@")
+        s.label(5, 13)
+        s.list(0, 13)
+        s.call("freshloader", "done")
+        loaded(s, b"A B rb\nB A b\n", "2 2 0 0 0 0 0 2")
+        s.list(0, b"A B r\n")
+        s.list(1, b"B A -\n")
+        s.list(2, 13)
+    s.say("Revoke clears the modes of rules; in a state with the bit it is refused, and the bit stays.")
+    small_state(s)
+    s.poke("entries", 512, b"\x21")
+    s.revoke(b"A", "refused 0")
+    s.change(b"A B - rwxat", "refused 0")
+    s.piece(b"B r\nA B -\n", "refused 0")
+    s.list(0, 0)
+    s.poke("entries", 512, b"\x20")
+    s.revoke(b"A", "revoked 2")
+    s.list(0, b"A B -\n")
+    s.store()
+
+
+def old_file():
+    """A rule file of an older unit: its lines, and what is told of each: accepted, skipped or the number of its refusal; and the same file without the letter b."""
+    rng, old, new, told = random.Random(6), [], [], []
+    for k in range(400):
+        a, b = rng.sample(range(30), 2)
+        access = rng.choice([b"b", b"rb", b"Rb", b"rwxab", b"rwxatb", b"B", b"-b-", b"xB", b"wb", b"r", b"w", b"-", b"rwxa", b"t", b"bb", b"bRb"])
+        without = access.replace(b"b", b"").replace(b"B", b"") or b"-"
+        kind = rng.choice(["accepted"] * 9 + ["skipped", 2, 3, 4, 5])
+        subject, object_ = b"L%02d" % a, b"L%02d" % b
+        form = {"accepted": b"%s %s %s", 2: b"%s %s %s r", 3: b"%s/ %s %s", 4: b"%s %s %sq", 5: b"%s %s %s"}.get(kind)
+        for lines, field in ((old, access), (new, without)):
+            lines.append(b" " * (k % 3) if kind == "skipped" else form % (subject, subject if kind == 5 else object_, field))
+        told.append(kind)
+    return old, new, told
+
+
+def bringup_old():
+    old, new, told = old_file()
+    s = Script("bringup_old", "02, Six: old files must still load. A rule file of 400 lines, many with b, and the same file without the letter: the same counts but for the last, the same listing, the same tables, the same questions.", True)
+    taken = [k for k, kind in enumerate(told) if kind == "accepted"]
+    bad = [k for k, kind in enumerate(told) if kind not in ("accepted", "skipped")]
+    place_ = 3 if told[bad[0]] == 3 else 0
+    held = sum(b"b" in old[k].split(b" ")[-1].lower() for k in taken)
+    pairs_in = list(dict.fromkeys(tuple(new[k].split(b" ")[:2]) for k in taken))
+    assert len(pairs_in) < 256 and 100 < held < len(taken)
+    rng = random.Random(66)
+    asked = [(b"L%02d" % rng.randrange(31), b"L%02d" % rng.randrange(31), rng.choice(REQUESTS), rng.randrange(2)) for _ in range(300)]
+    for lines, count in ((old, held), (new, 0)):
+        s.say("with b: %d of the accepted lines have one" % held if count else "without b")
+        s.fresh()
+        s.piece(b"".join(line + b"\n" for line in lines))
+        s.call("end", "report 400 %d %d %d %d %d %d %d" % (len(taken), told.count("skipped"), len(bad), bad[0] + 1, told[bad[0]], place_, count))
+        s.dump("tables", True)
+        modes = {}
+        for k in taken:
+            subject, object_, access = new[k].split(b" ")
+            modes[subject, object_] = access.lower()
+        for k, pair in enumerate(pairs_in):
+            s.list(k, b"%s %s %s\n" % (*pair, listed_modes(modes[pair])), b"\xee" * 16)
+        s.list(len(pairs_in), 13)
+        for subject, object_, request, capable in asked:
+            s.ask(subject, object_, request, "granted 5" if subject == object_ else by_rule(modes.get((subject, object_), b""), request, capable), capable)
+    s.say("The two files into one table, in both orders: the second leaves it as it is.")
+    for first, second, one, two in ((old, new, held, 0), (new, old, 0, held)):
+        s.fresh()
+        for lines, count in ((first, one), (second, two)):
+            s.piece(b"".join(line + b"\n" for line in lines))
+            s.call("end", "report 400 %d %d %d %d %d %d %d" % (len(taken), told.count("skipped"), len(bad), bad[0] + 1, told[bad[0]], place_, count))
+            s.dump("tables", True)
+    s.say("Old files that fill the tables: 6 and 7 come at the same lines. 40 pairs of new labels; 300 pairs of 20.")
+    for lines, numbers, count in (([b"S%d O%d %%s" % (k, k) for k in range(40)], "40 29 0 11 30 6 0", 29), ([b"%s %s %%s" % pair for pair in pairs()[:300]], "300 256 0 44 257 7 0", 256)):
+        for access in (b"rb", b"r"):
+            s.fresh()
+            s.piece(b"".join(line % access + b"\n" for line in lines))
+            s.call("end", "report %s %d" % (numbers, count if access == b"rb" else 0))
+            s.dump("filled %d" % count, True)
+    s.store()
+
+
+def bringup_programs():
+    program("program_bringup", b"Probe3 Air rRb\n?\nProbe3 Air r\nProbe3 Air w\nProbe3 Air w o\n", ["1 1 0 0 0 0 1", "granted 6", "denied 7", "override 7"])
+    program("program_bringup_alone", b"A B b\nC D B\nE F -b-\n?\nA B r\nC D w\nE F x o\nA A a\n", ["3 3 0 0 0 0 3", "denied 7", "denied 7", "override 7", "granted 5"])
+    program("program_bringup_once", b"A B bb\nA B bBbB\nA B rbwb\nA B rw\n?\nA B rw\n", ["4 4 0 0 0 0 3", "granted 6"])
+    program("program_bringup_no_mark", b"A B rb\nC D b", ["2 2 0 0 0 0 2"])
+    program("program_bringup_mark_last", b"A B rb\nC D r\n?", ["2 2 0 0 0 0 1"])
+    # Lines refused by 1 to 5 that hold a b do not count; the place beside 3 is not printed.
+    program("program_bringup_refused", b" Al/rm B b\nA b\nA B bq\nA A b\n" + b" " * 600 + b"b\nA B b b\n\nA B rb\n?\nA B r\nA B b\n", ["8 1 1 6 1 3 1", "granted 6", "refused 8"])
+    program("program_bringup_labels", b"b B r\nB b b\nbb BB w\n?\nb B r\nB b r\nbb BB w\nb b b\nb b r\n", ["3 3 0 0 0 0 1", "granted 6", "denied 7", "granted 6", "refused 8", "granted 5"])
+    program("program_bringup_questions", b"A B rwxatb\n?\nA B b\nA B B\nA B rb\nA B br\nA B rwxab\nA B b o\nA/ B b\nA B b b\nA B r b\nA B rwxa\nA B RWXA o\n",
+            ["1 1 0 0 0 0 1", "refused 8", "refused 8", "refused 8", "refused 8", "refused 8", "refused 8", "refused 3", "refused 2", "refused 2", "granted 6", "granted 6"])
+    program("program_bringup_600", b" " * 595 + b"A B b\n" + b" " * 596 + b"A B b\nA B " + b"b" * 596 + b"\nA B " + b"b" * 597 + b"\n?\nA B r\n", ["4 2 0 2 2 1 2", "denied 7"])
+    program("program_bringup_set_wholly", b"A B rb\nA B w\nC D w\nC D rB\n?\nA B r\nA B w\nC D r\nC D w\n", ["4 4 0 0 0 0 2", "denied 7", "granted 6", "granted 6", "denied 7"])
+    program("program_bringup_many", b"A B rb\nA B wB\nA B x\n\nA A b\n" * 1000 + b"?\nA B x\nA B r\n", ["5000 3000 1000 1000 5 5 2000", "granted 6", "denied 7"])
+    program("program_bringup_full", b"".join(b"%s %s xb\n" % pair for pair in pairs()) + b"?\n" + b"".join(b"%s %s x\n" % pair for pair in pairs()), ["380 256 0 124 257 7 256"] + ["granted 6"] * 256 + ["denied 7"] * 124)
+    # An old file, and the same file without the letter: only the last number of the report differs.
+    old, new, told = old_file()
+    rng, modes = random.Random(67), {}
+    for k, kind in enumerate(told):
+        if kind == "accepted":
+            subject, object_, access = new[k].split(b" ")
+            modes[subject, object_] = access.lower()
+    lines, answers = [], []
+    for _ in range(400):
+        subject, object_, request, capable = b"L%02d" % rng.randrange(31), b"L%02d" % rng.randrange(31), rng.choice(REQUESTS), rng.randrange(2)
+        lines.append(b"%s %s %s%s\n" % (subject, object_, request, b" o" * capable))
+        answers.append("granted 5" if subject == object_ else by_rule(modes.get((subject, object_), b""), request, capable))
+    bad = [k for k, kind in enumerate(told) if kind not in ("accepted", "skipped")]
+    held = sum(kind == "accepted" and b"b" in line.split(b" ")[-1].lower() for line, kind in zip(old, told))
+    for name, text, count in (("program_bringup_old_file", old, held), ("program_bringup_old_file_without", new, 0)):
+        program(name, b"".join(line + b"\n" for line in text) + b"?\n" + b"".join(lines),
+                ["400 %d %d %d %d %d %d" % (told.count("accepted"), told.count("skipped"), len(bad), bad[0] + 1, told[bad[0]], count)] + answers)
+
+
+def bringup():
+    bringup_lines()
+    bringup_count()
+    bringup_limits()
+    bringup_cuts()
+    bringup_rules()
+    bringup_refused()
+    bringup_listing()
+    bringup_records()
+    bringup_damage()
+    bringup_old()
+    bringup_programs()
+
+
+# ---------------------------------------------------------------------------------------------------------------------------------------------
 # Recordings of a running kernel, where 01 does not decide otherwise
 # ---------------------------------------------------------------------------------------------------------------------------------------------
 
@@ -6755,7 +7750,7 @@ def kernel(folder):
         if subject == object_:
             return "granted 5"
         modes = rules.get((subject, object_), set())
-        return "denied 7" if not letters <= modes else "granted 6 b" if "b" in modes else "granted 6"
+        return "granted 6" if letters <= modes else "denied 7"
 
     def make(s, file, text):
         fields = text.split(" ")
@@ -6802,6 +7797,25 @@ def kernel(folder):
         s.dump()
         s.store()
     print(compared, "answers of the kernel")
+
+    s = Script("kernel_bringup", "The kernel's questions after all its writes, with a b put into every rule line: in a kernel b alters no answer, and by 02, Six, it is not even stored.", True)
+    rules.clear()
+    for k, row in enumerate(row for row in writes if row[1] != "load2" or len(set(row[2].split(" ")[:2])) == 2):
+        file, text = row[1:3]
+        if file == "load2":
+            subject, object_, access = text.split(" ")
+            text = " ".join([subject, object_, (access + "b", "b" + access, "B" + access + "B")[k % 3]])
+        make(s, file, text)
+    groups = {}
+    for subject, object_, request, answer in rows(folder, "questions.tsv"):
+        expect = decide(subject, object_, request)
+        if (subject == "*" or "@" not in (subject, object_)) and expect.startswith("granted") != (answer == "1"):
+            sys.exit("questions.tsv, with b: %s %s %s: the kernel says %s, 02 %s" % (subject, object_, request, answer, expect))
+        groups.setdefault(expect, []).append("question %s %s %s 0" % (w(subject.encode()), w(object_.encode()), w(request.encode())))
+    for expect in sorted(groups):
+        for call in groups[expect]:
+            s.call(call, expect)
+    s.store()
 
     s = Script("kernel_labels", "The kernel's labels: those that it kept whole are labels; those that it cut, split or refused are refused with 3.")
     count = 0
@@ -6904,6 +7918,7 @@ def main():
     places()
     categories()
     options()
+    bringup()
     folder = os.environ.get("KERNEL_VECTORS")
     if folder:
         kernel(folder)

@@ -72,7 +72,7 @@ pub unsafe extern "C" fn second_question(
         capable,
     );
     match answer {
-        Answer::Granted { rule, .. } => Shown { kind: 0, number: rule },
+        Answer::Granted { rule } => Shown { kind: 0, number: rule },
         Answer::Denied { rule } => Shown { kind: 1, number: rule },
         Answer::Override { rule } => Shown { kind: 2, number: rule },
         Answer::Refused(refusal) => Shown { kind: 3, number: refusal.number() },
@@ -87,10 +87,10 @@ pub unsafe extern "C" fn second_piece(both: *mut Both, text: *const u8, length: 
     both.loader.piece(&mut both.table, bytes(text, length));
 }
 
-/// The report as six numbers.
+/// The report as seven numbers; the place is left out.
 ///
 /// # Safety
-/// `both` is from `second_new`; `out` has room for six.
+/// `both` is from `second_new`; `out` has room for seven.
 #[no_mangle]
 pub unsafe extern "C" fn second_end(both: *mut Both, out: *mut u32) {
     let both = &mut *both;
@@ -102,8 +102,9 @@ pub unsafe extern "C" fn second_end(both: *mut Both, out: *mut u32) {
         report.refused,
         report.first_line,
         report.first_reason,
+        report.bringup,
     ];
-    std::slice::from_raw_parts_mut(out, 6).copy_from_slice(&numbers);
+    std::slice::from_raw_parts_mut(out, 7).copy_from_slice(&numbers);
 }
 
 /// 0, or -1 where it was refused.

@@ -18,7 +18,7 @@ use Rattle.modes.specs.declared.Access.the-variants.{Modes}
 use Rattle.store.specs.declared.Rule.{Rule}
 use Rattle.store.specs.Table.{Table, labelIn, isPair}
 use Rattle.store.specs.Layout.{store, tableOf, ruleAt}
-use Rattle.access.specs.SevenRules.{holds, bringUp, Clause, rule7, firstOf, sevenRules}
+use Rattle.access.specs.SevenRules.{holds, Clause, rule7, firstOf, sevenRules}
 use Rattle.store.specs.Pairs.{ruleBetween, has-modes, modesFound, modesBetween}
 use Rattle.access.specs.Access.{onList, effective, denied, answered, decide, answer}
 use Rattle.access.specs.Within.{markRules, laterRules, sameLabel, rulingOf}
@@ -90,13 +90,13 @@ without t s false by e = rw (effective-not t s)
 
 -- what a run of rules says, and then another
 abbrev pub after : Verdict → Verdict → Verdict
-after (Grants n b) v = Grants n b
+after (Grants n) v = Grants n
 after (Denies by) v = Denies by
 after Undecided v = v
 
 -- whether it decides
 abbrev pub decides : Verdict → Bool
-decides (Grants n b) = true
+decides (Grants n) = true
 decides (Denies by) = true
 decides Undecided = false
 
@@ -116,7 +116,7 @@ first-then (l ∷ ls) rest e =
         decides v ≡ true →
         firstOf (ls ++ rest) ≡ after (firstOf ls) (firstOf rest) →
         cond b v (firstOf (ls ++ rest)) ≡ after (cond b v (firstOf ls)) (firstOf rest)
-    by-test true (Grants n c) h ih = refl
+    by-test true (Grants n) h ih = refl
     by-test true (Denies by) h ih = refl
     by-test true Undecided h ih = absurd (no h)
     by-test false v h ih = ih
@@ -154,7 +154,7 @@ abbrev pub ruling : Verdict → Found → Ruling
 ruling v f = record { verdict = v; subject = f }
 
 module _ (t : Table) (s o : List ℕ) (wanted : ℕ) (f : Found) (p : f ≡ labelIn t s) where
-  pub ruling-same : sameBytes s o ≡ true → ruling (Grants 5 false) f ≡ rulingOf t s o wanted
+  pub ruling-same : sameBytes s o ≡ true → ruling (Grants 5) f ≡ rulingOf t s o wanted
   unfolding rulingOf
   ruling-same e = rw (p, e)
 
@@ -168,7 +168,7 @@ module _ (t : Table) (s o : List ℕ) (wanted : ℕ) (f : Found) (p : f ≡ labe
       unfolding modesBetween
       pair = ap (modesFound (t .rules)) there ∙ is
 
-      pub ruling-grants : holds wanted m ≡ true → ruling (Grants 6 (bringUp m)) f ≡ rulingOf t s o wanted
+      pub ruling-grants : holds wanted m ≡ true → ruling (Grants 6) f ≡ rulingOf t s o wanted
       unfolding rulingOf
       ruling-grants e = rw (p, apart, pair, e)
 
@@ -234,7 +234,7 @@ all-decided t s o wanted =
     ap decides (first-then six (rule7 ∷ []) refl) ∙ then-decides (firstOf six)
   where
     then-decides : (v : Verdict) → decides (after v (Denies AnyOther)) ≡ true
-    then-decides (Grants n b) = refl
+    then-decides (Grants n) = refl
     then-decides (Denies by) = refl
     then-decides Undecided = refl
 

@@ -45,7 +45,7 @@ denied override by = cond override (Override by) (Denied by)
 
 -- the answer by what the rules say. (They leave nothing undecided, since the seventh applies to every question)
 abbrev pub answered : Bool → Verdict → Answer
-answered override (Grants n b) = Granted n b
+answered override (Grants n) = Granted n
 answered override (Denies by) = denied override by
 answered override Undecided = denied override AnyOther
 

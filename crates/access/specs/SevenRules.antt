@@ -6,7 +6,7 @@ use mathlib.Core.List.{List, [], _∷_}
 use lib.Dec.{eqb}
 use lib.Bits.{bitAnd}
 use Rattle.search.specs.Bytes.{sameBytes}
-use Rattle.modes.specs.Modes.{readExecute, bringUpLetter}
+use Rattle.modes.specs.Modes.{readExecute}
 use Rattle.store.specs.Table.{Table, floor, hat, star}
 use Rattle.store.specs.Pairs.{PairModes, has-modes, no-rule, modesBetween}
 use Rattle.access.specs.declared.Denial.{Denial}
@@ -24,10 +24,6 @@ holds wanted modes = eqb (bitAnd wanted modes) wanted
 abbrev pub onlyReadExecute : ℕ → Bool
 onlyReadExecute wanted = holds wanted readExecute
 
--- whether modes have b
-abbrev pub bringUp : ℕ → Bool
-bringUp modes = holds bringUpLetter modes
-
 -- whether there is a rule and its modes pass a test
 abbrev pub modesPass : PairModes → (ℕ → Bool) → Bool
 modesPass (has-modes m) test = test m
@@ -35,7 +31,7 @@ modesPass no-rule test = false
 
 -- ---- the seven, of a subject s, an object o, the pair's modes and what is wanted
 
--- one of them: when it applies, and what it then says: granted, with its number and whether the pair's rule has b; or denied
+-- one of them: when it applies, and what it then says: granted, with its number; or denied
 pub record Clause : Type 0 where
   pub applies : Bool
   pub says : Verdict
@@ -51,27 +47,27 @@ rule1 s = clause (sameBytes s star) (Denies StarSubject)
 -- 000: 2. A read or execute access requested by a task labeled "^" is permitted.
 -- 01:  2. Subject is ^ and the request has only r and x: granted.
 abbrev pub rule2 : List ℕ → ℕ → Clause
-rule2 s wanted = clause (sameBytes s hat && onlyReadExecute wanted) (Grants 2 false)
+rule2 s wanted = clause (sameBytes s hat && onlyReadExecute wanted) (Grants 2)
 
 -- 000: 3. A read or execute access requested on an object labeled "_" is permitted.
 -- 01:  3. Object is _ and the request has only r and x: granted.
 abbrev pub rule3 : List ℕ → ℕ → Clause
-rule3 o wanted = clause (sameBytes o floor && onlyReadExecute wanted) (Grants 3 false)
+rule3 o wanted = clause (sameBytes o floor && onlyReadExecute wanted) (Grants 3)
 
 -- 000: 4. Any access requested on an object labeled "*" is permitted.
 -- 01:  4. Object is *: granted.
 abbrev pub rule4 : List ℕ → Clause
-rule4 o = clause (sameBytes o star) (Grants 4 false)
+rule4 o = clause (sameBytes o star) (Grants 4)
 
 -- 000: 5. Any access requested by a task on an object with the same label is permitted.
 -- 01:  5. Subject equals object: granted.
 abbrev pub rule5 : List ℕ → List ℕ → Clause
-rule5 s o = clause (sameBytes s o) (Grants 5 false)
+rule5 s o = clause (sameBytes s o) (Grants 5)
 
 -- 000: 6. Any access requested that is explicitly defined in the loaded rule set is permitted.
 -- 01:  6. The pair has a rule whose modes hold every requested letter: granted.
 abbrev pub rule6 : PairModes → ℕ → Clause
-rule6 pair wanted = clause (modesPass pair (holds wanted)) (Grants 6 (modesPass pair bringUp))
+rule6 pair wanted = clause (modesPass pair (holds wanted)) (Grants 6)
 
 -- 000: 7. Any other access is denied.
 -- 01:  7. Denied.

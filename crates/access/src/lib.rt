@@ -23,10 +23,9 @@ pub enum Denial {
     AnyOther,
 }
 
-// What a run of the rules says: granted, with the rule's number and whether rule 6 found the bring-up mode; denied, with the rule that
-// denies; or nothing, where none applies.
+// What a run of the rules says: granted, with the rule's number; denied, with the rule that denies; or nothing, where none applies.
 pub enum Verdict {
-    Grants(u8, bool),
+    Grants(u8),
     Denies(Denial),
     Undecided,
 }
@@ -37,10 +36,10 @@ pub struct Ruling {
     pub subject: Found,
 }
 
-// The answer to a question: granted, with the rule's number and whether rule 6 found the bring-up mode; denied, with the rule that denies;
-// granted by override, with the rule that would have denied; refused, with its number and place.
+// The answer to a question: granted, with the rule's number; denied, with the rule that denies; granted by override, with the rule that would have
+// denied; refused, with its number and place.
 pub enum Answer {
-    Granted(u8, bool),
+    Granted(u8),
     Denied(Denial),
     Override(Denial),
     Refused(Refusal),
@@ -75,13 +74,13 @@ fn by_marks(subject: &[u8], object: &[u8], wanted: u8) -> Verdict
         return Verdict::Denies(Denial::StarSubject);
     }
     if is_mark(subject, HAT) & (wanted & READ_EXECUTE == wanted) {
-        return Verdict::Grants(2, false);
+        return Verdict::Grants(2);
     }
     if is_mark(object, FLOOR) & (wanted & READ_EXECUTE == wanted) {
-        return Verdict::Grants(3, false);
+        return Verdict::Grants(3);
     }
     if is_mark(object, STAR) {
-        return Verdict::Grants(4, false);
+        return Verdict::Grants(4);
     }
     Verdict::Undecided
 }
@@ -175,7 +174,7 @@ fn answered(
     ensures { λ r. ⌜ r ≡ access.answered (access.effective (tableOf (store [] (now (entries .entry)) (now (words .entry)))) subject capable) verdict ⌝ }
 {
     match verdict {
-        Verdict::Grants(rule, b) => Answer::Granted(rule, b),
+        Verdict::Grants(rule) => Answer::Granted(rule),
         Verdict::Denies(by) => denied(entries, words, subject, by, capable),
         Verdict::Undecided => denied(entries, words, subject, Denial::AnyOther, capable),
     }
@@ -199,7 +198,7 @@ fn by_numbers(
     let o = places::find_label_hinted(labels, count, object, s);
     if same_label(subject, object, s, o) {
         return Ruling {
-            verdict: Verdict::Grants(5, false),
+            verdict: Verdict::Grants(5),
             subject: s,
         };
     }
@@ -212,7 +211,7 @@ fn by_numbers(
     let modes = entries[store::MODES_FROM + k];
     if wanted & modes == wanted {
         return Ruling {
-            verdict: Verdict::Grants(6, modes::BRING_UP & modes == modes::BRING_UP),
+            verdict: Verdict::Grants(6),
             subject: s,
         };
     }
@@ -237,7 +236,7 @@ fn decide(
     ensures { λ r. ⌜ r ≡ access.decide (tableOf (lent labels entries words)) (now (subject .entry)) (now (object .entry)) wanted capable ⌝ }
 {
     match by_marks(subject, object, wanted) {
-        Verdict::Grants(rule, b) => Answer::Granted(rule, b),
+        Verdict::Grants(rule) => Answer::Granted(rule),
         Verdict::Denies(by) => {
             if !capable {
                 return Answer::Denied(by);

@@ -38,10 +38,10 @@ use Rattle.answers.specs.declared.Part.{Part}
 
 -- a question: kind 0 granted, 1 denied, 2 granted by override, 3 refused; the number is the rule's, or the refusal's. (01 does not number the kinds)
 abbrev pub shown : Answer → Shown
-shown (answer.Granted n b) = record { kind = 0; number = n; bringup = b; place = 0 }
-shown (answer.Denied by) = record { kind = 1; number = denialNumber by; bringup = false; place = 0 }
-shown (answer.Override by) = record { kind = 2; number = denialNumber by; bringup = false; place = 0 }
-shown (answer.Refused r) = record { kind = 3; number = r .number; bringup = false; place = r .place }
+shown (answer.Granted n) = record { kind = 0; number = n; place = 0 }
+shown (answer.Denied by) = record { kind = 1; number = denialNumber by; place = 0 }
+shown (answer.Override by) = record { kind = 2; number = denialNumber by; place = 0 }
+shown (answer.Refused r) = record { kind = 3; number = r .number; place = r .place }
 
 -- a write, and the call beside the label of a number: done, or refused with its number and place
 abbrev pub writeShown : Done → Written

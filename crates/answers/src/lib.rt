@@ -21,7 +21,6 @@ ghost use Rattle.answers.specs.Answers.{shown, writeShown, revokeShown, 
 pub struct Shown {
     pub kind: u8,
     pub number: u8,
-    pub bringup: bool,
     pub place: usize,
 }
 
@@ -111,28 +110,24 @@ pub fn show(answer: Answer) -> Shown
     ensures { λ r. ⌜ r ≡ shown answer ⌝ }
 {
     match answer {
-        Answer::Granted(rule, b) => Shown {
+        Answer::Granted(rule) => Shown {
             kind: 0,
             number: rule,
-            bringup: b,
             place: 0,
         },
         Answer::Denied(rule) => Shown {
             kind: 1,
             number: denial_number(rule),
-            bringup: false,
             place: 0,
         },
         Answer::Override(rule) => Shown {
             kind: 2,
             number: denial_number(rule),
-            bringup: false,
             place: 0,
         },
         Answer::Refused(refusal) => Shown {
             kind: 3,
             number: refusal.number,
-            bringup: false,
             place: refusal.place,
         },
     }

@@ -5,10 +5,10 @@ use program::Turn;
 ghost use Rattle.program.specs.Turns.{wentCount};
 ghost use Rattle.program.specs.Steps.{Front};
 
-// How much is read at once, and the room for what so much input may say.
+// How much is read at once, and the room for what so much input may say: a line for each byte.
 const PIECE: usize = 1024;
 
-const OUT: usize = 67584;
+const OUT: usize = PIECE * program::LINE_ROOM;
 
 const STDIN: i32 = 0;
 

@@ -10,11 +10,11 @@ use borrow.Author.Tests.{lt-ltb}
 use Rattle.search.specs.Bytes.{sameBytes}
 use Rattle.refusals.specs.Refusals.{tooLong, sameLabels, labelsFull, rulesFull, mappingsFull, badLabelAt}
 use Rattle.alphabet.specs.Alphabet.{wellFormed, fields, badByte, badByteIn}
-use Rattle.modes.specs.Modes.{readModes, ruleLetters, changeLetters}
+use Rattle.modes.specs.Modes.{readModes, lineLetters, changeLetters, storedModes}
 use Rattle.modes.specs.declared.Access.{Access}
 use Rattle.modes.specs.declared.Access.the-variants.{Modes, Bad}
 use Rattle.store.specs.Table.{Table, labelIn, noPlace}
-use Rattle.lines.specs.Lines.{Said, skipped, refused, rule, change, ruleOf, changeOf, ruleBy, ruleWith, ruleFields, changeBy, changeWith, changeFields}
+use Rattle.lines.specs.Lines.{Said, skipped, refused, rule, change, ruleOf, changeOf, ruleBy, ruleWith, ruleFields, changeBy, changeWith, changeFields, bringUpIn}
 use Rattle.writes.specs.Writes.{judged, changed}
 use Rattle.store.specs.Judged.{Judged, is-skipped, is-refused, is-accepted, tableAfter}
 use Rattle.rules.specs.Rules.{pairLabels, pairRule, withPair}
@@ -74,7 +74,7 @@ no-change line = by-length (ltb 600 (length line))
     by-access s o b Bad = tt
     by-access s o b (Modes n) = by-same (sameBytes s o)
       where
-        by-same : (c : Bool) → NoChange (cond c (refused sameLabels) (rule s o n))
+        by-same : (c : Bool) → NoChange (cond c (refused sameLabels) (rule s o (storedModes n)))
         by-same true = tt
         by-same false = tt
 
@@ -86,7 +86,7 @@ no-change line = by-length (ltb 600 (length line))
     by-fields [] = tt
     by-fields (s ∷ []) = tt
     by-fields (s ∷ o ∷ []) = tt
-    by-fields (s ∷ o ∷ a ∷ []) = by-formed s o (readModes ruleLetters true a) (wellFormed s && wellFormed o)
+    by-fields (s ∷ o ∷ a ∷ []) = by-formed s o (readModes lineLetters true a) (wellFormed s && wellFormed o)
     by-fields (s ∷ o ∷ a ∷ x ∷ more) = tt
 
     by-length : (b : Bool) → NoChange (cond b (refused tooLong) (ruleFields (badByteIn line) (fields line)))
@@ -243,7 +243,7 @@ unfolding takeByte endLine finish
 made t kept c [] h = m.none
 made t kept c (byte b ∷ es) (s, h) =
     by-byte (eqb b 10)
-    (λ g. line-made t kept (held-sound (record { table = t; kept = kept; totals = c }) (s, h)) (made (tableAfter t (judged t (ruleOf kept))) [] (counted c (judged t (ruleOf kept))) es g))
+    (λ g. line-made t kept (held-sound (record { table = t; kept = kept; totals = c }) (s, h)) (made (tableAfter t (judged t (ruleOf kept))) [] (counted c (bringUpIn kept) (judged t (ruleOf kept))) es g))
     (λ g. made t (kept ++ (b ∷ [])) c es g)
     (stepByte s b, step-follows s (record { table = t; kept = kept; totals = c }) b h)
   where

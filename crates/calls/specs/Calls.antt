@@ -64,7 +64,7 @@ abbrev pub taken-reply : Taken → Reply
 taken-reply a = cond (a .refused) (r.refusal (plain (a .number))) r.done
 
 abbrev pub totals-of : Report → Totals
-totals-of a = record { lines = a .lines; accepted = a .accepted; skipped = a .skipped; refused = a .refused; first = a .first; reason = a .reason; place = a .place }
+totals-of a = record { lines = a .lines; accepted = a .accepted; skipped = a .skipped; refused = a .refused; first = a .first; reason = a .reason; place = a .place; bringup = a .bringup }
 
 abbrev pub finished-reply : Finished → Reply
 finished-reply a = cond (a .refused) (r.refusal (plain (a .number))) (r.report (totals-of (a .report)))

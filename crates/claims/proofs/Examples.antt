@@ -16,7 +16,7 @@ use Rattle.numbers.specs.declared.CategorySet.{CategorySet}
 use Rattle.numbers.proofs.Sets.{category-sets}
 use Rattle.store.specs.Table.{isPair}
 use Rattle.store.specs.Pairs.{modesBetween}
-use Rattle.lines.specs.Lines.{ruleBy, ruleOf, changeOf}
+use Rattle.lines.specs.Lines.{ruleBy, ruleOf, bringUpIn, changeBy, changeOf}
 use Rattle.rules.specs.Rules.{withPair}
 use Rattle.revoke.specs.Revoke.{revokeWrite}
 use Rattle.onlycap.specs.Onlycap.{onlycapWrite}
@@ -38,19 +38,19 @@ matching level set r = (
 )
 
 pub examples-of-01 : ExamplesOf01
-unfolding all first put sameBytes isBlank labelByte wellFormed fields bitOf allowedByte modesOf readModes ruleBy ruleOf isPair withPair modesBetween effective decide answer endLine takeByte finish limited decimal answerLine textOf answerTo reportLine output
+unfolding all first put sameBytes isBlank labelByte wellFormed fields bitOf allowedByte modesOf readModes ruleBy ruleOf bringUpIn isPair withPair modesBetween effective decide answer endLine takeByte finish limited decimal answerLine textOf answerTo reportLine output
 examples-of-01 =
     record {
       program = refl;
       report = refl;
       questions = refl;
-      answers = (refl, refl, refl, refl, λ place. refl);
+      answers = (refl, refl, refl, λ place. refl);
       listed = refl;
       matching = matching;
     }
 
 pub examples-of-02 : ExamplesOf02
-unfolding all first put sameBytes isBlank labelByte wellFormed faultOf fields badByteIn bitOf allowedByte modesOf readModes ruleBy ruleOf onlycapWrite saidBy mappingOf mappingWrite numberOf withCategory categoriesOf isPair withPair modesBetween endLine takeByte finish limited effective decide answer decimal answerLine answerTo reportLine output changeOf revokeWrite labelLookup
+unfolding all first put sameBytes isBlank labelByte wellFormed faultOf fields badByteIn bitOf allowedByte modesOf readModes ruleBy ruleOf bringUpIn changeBy onlycapWrite saidBy mappingOf mappingWrite numberOf withCategory categoriesOf isPair withPair modesBetween endLine takeByte finish limited effective decide answer decimal answerLine answerTo reportLine output changeOf revokeWrite labelLookup
 examples-of-02 =
     record {
       subject = refl;
@@ -66,4 +66,11 @@ examples-of-02 =
       first-refused-cut = refl;
       another-first = refl;
       replies = refl;
+      b-alone = refl;
+      b-beside = refl;
+      b-and-q = refl;
+      b-in-a-change = (refl, refl);
+      b-lines = refl;
+      b-lines-cut = refl;
+      b-program = refl;
     }

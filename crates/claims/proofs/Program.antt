@@ -18,6 +18,7 @@ use Rattle.store.proofs.Judged.{fresh-entries}
 use Rattle.load.specs.Loader.{ready}
 use Rattle.lists.specs.Called.{first, second, third, fourth, seventh, lent, left}
 use Rattle.lists.specs.Reader.{startOn}
+use Rattle.replies.specs.Replies.{lineRoom}
 use Rattle.program.specs.declared.Session.{Session}
 use Rattle.program.specs.Program.{answerTo, output}
 use Rattle.program.specs.Steps.{State, state, freshSession, turnOf, takeInput, sayInput, takeLast, sayLast}
@@ -76,26 +77,26 @@ puts most s said out = written out 0 (cond (leb most (length out) && ready (s .l
 abbrev feed-call : (st : Store) (line : List ℕ) (x : Session) (input out : List ℕ) → Called-feed
 feed-call st line x input out =
     let s = state st line x in
-    let n = leaves (66 * length input) s (takeInput s input) out in
+    let n = leaves (lineRoom * length input) s (takeInput s input) out in
     record {
       lifetimes = ([], ([], ([], ([], ([], ([], tt))))));
       args = (lends (st .labels), (lends (st .entries), (lends (st .words), (lends line, (lends out, (x, (lends input, tt)))))));
       asked = tt;
-      result = turnOf (leb (66 * length input) (length out)) s (takeInput s input) (sayInput s input);
-      last = (n .load .store .labels, (n .load .store .entries, (n .load .store .words, (n .load .line, (puts (66 * length input) s (sayInput s input) out, (tt, (tt, tt)))))));
+      result = turnOf (leb (lineRoom * length input) (length out)) s (takeInput s input) (sayInput s input);
+      last = (n .load .store .labels, (n .load .store .entries, (n .load .store .words, (n .load .line, (puts (lineRoom * length input) s (sayInput s input) out, (tt, (tt, tt)))))));
       ensures = some-turn _ st line x (takeInput s input) (sayInput s input) out;
     }
 
 abbrev finish-call : (st : Store) (line : List ℕ) (x : Session) (out : List ℕ) → Called-finish
 finish-call st line x out =
     let s = state st line x in
-    let n = leaves 66 s (takeLast s) out in
+    let n = leaves lineRoom s (takeLast s) out in
     record {
       lifetimes = ([], ([], ([], ([], ([], tt)))));
       args = (lends (st .labels), (lends (st .entries), (lends (st .words), (lends line, (lends out, (x, tt))))));
       asked = tt;
-      result = turnOf (leb 66 (length out)) s (takeLast s) (sayLast s);
-      last = (n .load .store .labels, (n .load .store .entries, (n .load .store .words, (n .load .line, (puts 66 s (sayLast s) out, (tt, tt))))));
+      result = turnOf (leb lineRoom (length out)) s (takeLast s) (sayLast s);
+      last = (n .load .store .labels, (n .load .store .entries, (n .load .store .words, (n .load .line, (puts lineRoom s (sayLast s) out, (tt, tt))))));
       ensures = some-turn _ st line x (takeLast s) (sayLast s) out;
     }
 
@@ -108,11 +109,11 @@ unfolding room
 room-long n = rw (length-replicate {A = ℕ} n 0) (omega arith)
 
 runs : (st : Store) (line : List ℕ) (x : Session) (pieces : List (List ℕ)) → (said : List ℕ) × InPieces st line x pieces said
-runs st line x [] = (_, an-end (finish-call st line x (room 66)) (room-long 66))
+runs st line x [] = (_, an-end (finish-call st line x (room lineRoom)) (room-long lineRoom))
 runs st line x (input ∷ pieces) =
-    let k = feed-call st line x input (room (66 * length input)) in
+    let k = feed-call st line x input (room (lineRoom * length input)) in
     let rest = runs (left (k .last)) (fourth (k .last)) (wentSession x (k .result)) pieces in
-    (_, a-piece k {pieces = pieces} {said = rest .0} (room-long (66 * length input)) (rest .1))
+    (_, a-piece k {pieces = pieces} {said = rest .0} (room-long (lineRoom * length input)) (rest .1))
 
 some-run :
     (st : Store) (line : List ℕ) (pieces : List (List ℕ)) →

@@ -1,6 +1,6 @@
--- 01, Either side of a limit: the cases P1 to P12 that are proved, as one table and one test over it. Assumes nothing.
+-- 01, Either side of a limit, and 02, Six: the cases P1 to P12 that are proved, as one table and one test over it. Assumes nothing.
 use Prim.Native.Nat.{ℕ}
-use mathlib.Core.Bool.{Bool, true, false, _&&_, Bool·beq}
+use mathlib.Core.Bool.{Bool, false, _&&_}
 use mathlib.Core.List.{List, [], _∷_, foldl}
 use lib.Dec.{eqb}
 use Rattle.search.specs.Bytes.{ascii, sameBytes}
@@ -35,7 +35,7 @@ abbrev pub pairModes : Table → List ℕ → List ℕ → ℕ
 pairModes t s o = modesSoFar (modesBetween t s o)
 
 abbrev pub sameShown : Shown → Shown → Bool
-sameShown a b = eqb (a .kind) (b .kind) && (eqb (a .number) (b .number) && (Bool·beq (a .bringup) (b .bringup) && eqb (a .place) (b .place)))
+sameShown a b = eqb (a .kind) (b .kind) && (eqb (a .number) (b .number) && eqb (a .place) (b .place))
 
 abbrev pub sameLookup : Lookup → ℕ → List ℕ → ℕ → Bool
 sameLookup (l.Mapped level set count) x cs n = eqb level x && (sameBytes (categories set) cs && eqb count n)
@@ -51,20 +51,17 @@ right (maps write label level cs count) = sameLookup (labelLookup (tableAfter fr
 -- ---- the answers
 
 abbrev pub granted : ℕ → Shown
-granted n = record { kind = 0; number = n; bringup = false; place = 0 }
-
-abbrev pub granted-b : Shown
-granted-b = record { kind = 0; number = 6; bringup = true; place = 0 }
+granted n = record { kind = 0; number = n; place = 0 }
 
 abbrev pub denied : ℕ → Shown
-denied n = record { kind = 1; number = n; bringup = false; place = 0 }
+denied n = record { kind = 1; number = n; place = 0 }
 
 abbrev pub refusedWith : ℕ → Shown
-refusedWith n = record { kind = 3; number = n; bringup = false; place = 0 }
+refusedWith n = record { kind = 3; number = n; place = 0 }
 
 -- 02, Three: with 3, and where the first bad byte of the first bad label is
 abbrev pub refusedAt : ℕ → Shown
-refusedAt place = record { kind = 3; number = 3; bringup = false; place = place }
+refusedAt place = record { kind = 3; number = 3; place = place }
 
 -- ---- the table of cases
 
@@ -81,8 +78,8 @@ cases =
     ∷ asks (ascii "Probe3 Air w" ∷ []) (ascii "Probe3") (ascii "Air") (ascii "w") (granted 6)
     ∷ asks (ascii "Probe3 Air w" ∷ []) (ascii "Probe3") (ascii "Air") (ascii "rw") (denied 7)
     ∷ asks (ascii "Probe3 Air w" ∷ []) (ascii "Air") (ascii "Probe3") (ascii "w") (denied 7)
-    -- P10, after `Probe3 Air rRb`
-    ∷ asks (ascii "Probe3 Air rRb" ∷ []) (ascii "Probe3") (ascii "Air") (ascii "r") granted-b
+    -- P10, after `Probe3 Air rRb` (02, Six: granted 6, and no b)
+    ∷ asks (ascii "Probe3 Air rRb" ∷ []) (ascii "Probe3") (ascii "Air") (ascii "r") (granted 6)
     -- P11, modes r, and a change with allow wa and deny w
     ∷ changes (ascii "Probe3 Air r") (ascii "Probe3 Air wa w") (ascii "Probe3") (ascii "Air") (ascii "ra")
     -- P12, `Vault7 9 1 63`
@@ -90,7 +87,8 @@ cases =
     ∷ []
 
 -- further ones, of each rule and of what P1 to P12 leave out: rule 3; the other letters of rules 2 and 3; ? and @ are ordinary; two labels that are alike in their
--- first 23 bytes; write does not stand for append; dashes between letters; a rule without b; each refusal of a question; a change of a new pair, and of one with b;
+-- first 23 bytes; write does not stand for append; dashes between letters; b grants nothing, and is no letter of a request (02, Six); each refusal of a question; a change
+-- of a new pair, and of one whose line held b;
 -- categories of each word of a set, one of them twice
 abbrev pub furtherCases : List Case
 furtherCases =
@@ -115,6 +113,8 @@ furtherCases =
     ∷ asks [] (ascii "Door") (ascii "Air") (ascii "rt") (refusedWith 8)
     ∷ asks [] (ascii "Door") (ascii "Air") [] (refusedWith 8)
     ∷ changes (ascii "Air Door r") (ascii "Probe3 Air xt -") (ascii "Probe3") (ascii "Air") (ascii "xt")
-    ∷ changes (ascii "Probe3 Air rb") (ascii "Probe3 Air a r") (ascii "Probe3") (ascii "Air") (ascii "ab")
+    ∷ changes (ascii "Probe3 Air rb") (ascii "Probe3 Air a r") (ascii "Probe3") (ascii "Air") (ascii "a")
+    ∷ asks (ascii "Probe3 Air b" ∷ []) (ascii "Probe3") (ascii "Air") (ascii "r") (denied 7)
+    ∷ asks (ascii "Probe3 Air rb" ∷ []) (ascii "Probe3") (ascii "Air") (ascii "rb") (refusedWith 8)
     ∷ maps (ascii "Vault7 9 63 64 065 128 129 184 064") (ascii "Vault7") 9 (63 ∷ 64 ∷ 65 ∷ 128 ∷ 129 ∷ 184 ∷ []) 6
     ∷ []

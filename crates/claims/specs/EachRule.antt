@@ -1,30 +1,29 @@
 -- 01, Questions: each of the seven rules as 01 says it, with the labels and the letters as text; and what the tests mean that they are made of. Assumes
 -- nothing.
-use Prim.Native.Nat.{ℕ, _<_}
+use Prim.Native.Nat.{ℕ}
 use mathlib.Core.Path.{_≡_}
 use mathlib.Core.Bool.{true, false, not, _&&_}
 use mathlib.Core.List.{List}
 use mathlib.Core.Logic.{_↔_}
 use Rattle.search.specs.Search.{all}
 use Rattle.search.specs.Bytes.{ascii, sameBytes}
-use Rattle.modes.specs.Modes.{bitOf, has}
+use Rattle.modes.specs.Modes.{bitOf, has, knownModes}
 use Rattle.store.specs.Pairs.{has-modes, no-rule}
-use Rattle.access.specs.SevenRules.{clause, holds, onlyReadExecute, bringUp, rule1, rule2, rule3, rule4, rule5, rule6, rule7}
+use Rattle.access.specs.SevenRules.{clause, holds, onlyReadExecute, rule1, rule2, rule3, rule4, rule5, rule6, rule7}
 use Rattle.access.specs.declared.Denial.the-variants.{StarSubject, AnyOther}
 use Rattle.access.specs.declared.Verdict.the-variants.{Grants, Denies}
 
 pub record EachRule : Type 0 where
   -- labels are compared whole, byte by byte
   pub same : (a b : List ℕ) → (sameBytes a b ≡ true) ↔ (a ≡ b)
-  -- a request has only r and x where it has none of the other letters; modes have b
-  pub only-r-x : (wanted : ℕ) → wanted < 64 → onlyReadExecute wanted ≡ all (λ (l : ℕ). not (has wanted (bitOf l))) (ascii "watb")
-  pub with-b : (m : ℕ) → m < 64 → bringUp m ≡ has m (bitOf 98)
+  -- a request has only r and x where it has none of the other letters
+  pub only-r-x : (wanted : ℕ) → knownModes wanted ≡ true → onlyReadExecute wanted ≡ all (λ (l : ℕ). not (has wanted (bitOf l))) (ascii "wat")
   -- the seven
   pub first : (s : List ℕ) → rule1 s ≡ clause (sameBytes s (ascii "*")) (Denies StarSubject)
-  pub second : (s : List ℕ) (wanted : ℕ) → rule2 s wanted ≡ clause (sameBytes s (ascii "^") && onlyReadExecute wanted) (Grants 2 false)
-  pub third : (o : List ℕ) (wanted : ℕ) → rule3 o wanted ≡ clause (sameBytes o (ascii "_") && onlyReadExecute wanted) (Grants 3 false)
-  pub fourth : (o : List ℕ) → rule4 o ≡ clause (sameBytes o (ascii "*")) (Grants 4 false)
-  pub fifth : (s o : List ℕ) → rule5 s o ≡ clause (sameBytes s o) (Grants 5 false)
-  pub sixth : (m wanted : ℕ) → rule6 (has-modes m) wanted ≡ clause (holds wanted m) (Grants 6 (bringUp m))
-  pub sixth-none : (wanted : ℕ) → rule6 no-rule wanted ≡ clause false (Grants 6 false)
+  pub second : (s : List ℕ) (wanted : ℕ) → rule2 s wanted ≡ clause (sameBytes s (ascii "^") && onlyReadExecute wanted) (Grants 2)
+  pub third : (o : List ℕ) (wanted : ℕ) → rule3 o wanted ≡ clause (sameBytes o (ascii "_") && onlyReadExecute wanted) (Grants 3)
+  pub fourth : (o : List ℕ) → rule4 o ≡ clause (sameBytes o (ascii "*")) (Grants 4)
+  pub fifth : (s o : List ℕ) → rule5 s o ≡ clause (sameBytes s o) (Grants 5)
+  pub sixth : (m wanted : ℕ) → rule6 (has-modes m) wanted ≡ clause (holds wanted m) (Grants 6)
+  pub sixth-none : (wanted : ℕ) → rule6 no-rule wanted ≡ clause false (Grants 6)
   pub seventh : rule7 ≡ clause true (Denies AnyOther)

@@ -2,7 +2,7 @@
 -- a name that has another number is refused. Assumes nothing.
 use Prim.Native.Nat.{ℕ, _+_, _≤_}
 use mathlib.Core.Path.{_≡_}
-use mathlib.Core.Bool.{Bool, true, false, not, _&&_}
+use mathlib.Core.Bool.{true, false, not, _&&_}
 use lib.Dec.{eqb, leb}
 use lib.ListN.{length, take, getD}
 use mathlib.Core.List.{List, [], _∷_, map, foldl}
@@ -35,7 +35,7 @@ use Rattle.load.specs.declared.Ended.the-variants as ended
 use Rattle.answers.specs.Answers.{shown, writeShown, revokeShown, pieceShown, endShown, lookupShown, searchShown, outputShown}
 use Rattle.store.specs.Pairs.{no-rule, modesSoFar}
 
--- the refusals and the limits, in 01's order
+-- the refusals and the limits, in 01's order; the last, of a listed rule, by 02, Six: five letters
 abbrev pub refusals : List Refusal
 refusals =
     refusal.damaged ∷ refusal.tooLong ∷ refusal.wrongFields ∷ refusal.badLabel ∷ refusal.badAccess ∷ refusal.sameLabels ∷ refusal.labelsFull
@@ -47,23 +47,23 @@ limits = labelLongest ∷ labelLimit ∷ ruleLimit ∷ mappingLimit ∷ onlycapL
 
 pub record NumbersOf01 : Type 0 where
   pub refused-by : refusals ≡ map refusal.plain (0 ∷ 1 ∷ 2 ∷ 3 ∷ 4 ∷ 5 ∷ 6 ∷ 7 ∷ 8 ∷ 9 ∷ 10 ∷ 11 ∷ 12 ∷ 13 ∷ [])
-  pub sizes : limits ≡ 255 ∷ 64 ∷ 256 ∷ 32 ∷ 8 ∷ 600 ∷ 255 ∷ 4294967295 ∷ 519 ∷ []
+  pub sizes : limits ≡ 255 ∷ 64 ∷ 256 ∷ 32 ∷ 8 ∷ 600 ∷ 255 ∷ 4294967295 ∷ 518 ∷ []
   -- a fresh table has the five labels and nothing else; a change of a pair that has no rule starts from no letter
   pub fresh-table :
       fresh
       ≡ record { labels = ascii "_" ∷ ascii "^" ∷ ascii "*" ∷ ascii "?" ∷ ascii "@" ∷ []; rules = []; mappings = []; onlycap = [] }
   pub from-none : modesSoFar no-rule ≡ 0
   -- a fresh loader has kept nothing and counted nothing, and an end call that is not refused leaves one
-  pub fresh-loader : freshLoader ≡ record { kept = 0; report = record { lines = 0; accepted = 0; skipped = 0; refused = 0; first = 0; reason = 0; place = 0 } }
+  pub fresh-loader : freshLoader ≡ record { kept = 0; report = record { lines = 0; accepted = 0; skipped = 0; refused = 0; first = 0; reason = 0; place = 0; bringup = 0 } }
   pub after-the-end : (s : Load) → ready s ≡ true → endAfter s .loader ≡ freshLoader
   pub levels : (n : ℕ) → isLevel n ≡ leb n 255
   -- a question: 0 granted, 1 denied, 2 granted by override, 3 refused, with the number that applies
-  pub granted : (n : ℕ) (b : Bool) → shown (answer.Granted n b) ≡ record { kind = 0; number = n; bringup = b; place = 0 }
-  pub denied-1 : shown (answer.Denied StarSubject) ≡ record { kind = 1; number = 1; bringup = false; place = 0 }
-  pub denied-7 : shown (answer.Denied AnyOther) ≡ record { kind = 1; number = 7; bringup = false; place = 0 }
-  pub override-1 : shown (answer.Override StarSubject) ≡ record { kind = 2; number = 1; bringup = false; place = 0 }
-  pub override-7 : shown (answer.Override AnyOther) ≡ record { kind = 2; number = 7; bringup = false; place = 0 }
-  pub refused : (r : Refusal) → shown (answer.Refused r) ≡ record { kind = 3; number = r .number; bringup = false; place = r .place }
+  pub granted : (n : ℕ) → shown (answer.Granted n) ≡ record { kind = 0; number = n; place = 0 }
+  pub denied-1 : shown (answer.Denied StarSubject) ≡ record { kind = 1; number = 1; place = 0 }
+  pub denied-7 : shown (answer.Denied AnyOther) ≡ record { kind = 1; number = 7; place = 0 }
+  pub override-1 : shown (answer.Override StarSubject) ≡ record { kind = 2; number = 1; place = 0 }
+  pub override-7 : shown (answer.Override AnyOther) ≡ record { kind = 2; number = 7; place = 0 }
+  pub refused : (r : Refusal) → shown (answer.Refused r) ≡ record { kind = 3; number = r .number; place = r .place }
   -- a look-up: 0 found, 1 none, 2 refused
   pub mapped :
       (level : ℕ) (set : CategorySet) (count : ℕ) →
@@ -101,7 +101,7 @@ pub record NumbersOf02 : Type 0 where
       ≡ record {
         refused = true;
         number = n;
-        report = record { lines = 0; accepted = 0; skipped = 0; refused = 0; first = 0; reason = 0; place = 0 };
+        report = record { lines = 0; accepted = 0; skipped = 0; refused = 0; first = 0; reason = 0; place = 0; bringup = 0 };
         loader = old;
       })
   pub categories-and-mapping : (categoryLimit ∷ mappingLongest ∷ []) ≡ 184 ∷ 1000 ∷ []

@@ -40,7 +40,7 @@ abbrev pub begun : Called-begin → Store
 begun k = store (first (k .last)) (now (second (k .args))) (third (k .last))
 
 -- ---- a run: the pieces of the input, and the bytes that the calls put at the front of their outputs, one behind the other. Each call is made with the
--- tables, the line and the session that the one before it left, and with an output that has 66 bytes for each byte of the piece; the last is `finish`
+-- tables, the line and the session that the one before it left, and with an output that has `lineRoom` bytes for each byte of the piece; the last is `finish`
 
 pub data InPieces : Store → List ℕ → Session → List (List ℕ) → List ℕ → Type 0 where
   an-end : (k : Called-finish) → lineRoom ≤ length (now (fifth (k .args))) →

@@ -5,7 +5,7 @@ ghost use mathlib.Core.Bool.{true, false};
 ghost use mathlib.Core.List.{List, map};
 ghost use Rattle.search.specs.Search.{all};
 ghost use Rattle.alphabet.specs.Alphabet.{classOf, ByteClasses, LabelForm};
-ghost use Rattle.modes.specs.Modes.{SixLetters};
+ghost use Rattle.modes.specs.Modes.{LettersAndBits};
 ghost use Rattle.store.specs.Layout.{tableOf, undamagedOf};
 ghost use Rattle.load.specs.Loader.{Load};
 ghost use Rattle.lists.specs.Reader.{Call, Reply, events, reports};
@@ -18,7 +18,7 @@ ghost use Rattle.claims.specs.Examples.{ExamplesOf01, ExamplesOf02};
 ghost use Rattle.claims.specs.Exported.{ExportedCalls};
 ghost use Rattle.claims.specs.Numbers.{NumbersOf01, NumbersOf02};
 ghost use Rattle.claims.specs.Program.{ProgramOutput};
-ghost use Rattle.claims.specs.ReportCounts.{FirstRefusedLine};
+ghost use Rattle.claims.specs.ReportCounts.{LineCounts};
 ghost use Rattle.claims.specs.Unchanged.{NothingChanges};
 ghost use Rattle.claims.specs.RunSearch.{SearchesTheRun};
 
@@ -69,7 +69,7 @@ pub fn search_of_a_run()
 pub fn bytes_and_letters()
     ensures { λ _. ⌜ ByteClasses classOf ⌝ }
     ensures { λ _. ⌜ LabelForm ⌝ }
-    ensures { λ _. ⌜ SixLetters ⌝ }
+    ensures { λ _. ⌜ LettersAndBits ⌝ }
 {}
 
 // The cases P1 to P12, and further ones.
@@ -93,14 +93,16 @@ pub fn examples_of_01()
     ensures { λ _. ⌜ ExamplesOf01 ⌝ }
 {}
 
-// Examples of 02: where the first bad byte is, in a line, a write and the report; what the program writes; and that categories 0 and 185 are refused.
+// Examples of 02: where the first bad byte is, in a line, a write and the report; what the program writes; that categories 0 and 185 are refused; and the
+// retired letter b, in lines, in changes, in the report and in the program.
 pub fn examples_of_02()
     ensures { λ _. ⌜ ExamplesOf02 ⌝ }
 {}
 
-// What each judged line does to the report's numbers; of the first refused line the number, the reason and the place are kept (02, Three).
-pub fn first_refused_line()
-    ensures { λ _. ⌜ FirstRefusedLine ⌝ }
+// What each judged line does to the report's numbers; of the first refused line the number, the reason and the place are kept (02, Three); a line that held
+// b counts once where it is accepted (02, Six).
+pub fn what_a_line_counts()
+    ensures { λ _. ⌜ LineCounts ⌝ }
 {}
 
 // Each of the seven rules as 01 says it, with the labels and the letters as text.

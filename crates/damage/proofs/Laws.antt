@@ -10,6 +10,7 @@ use lib.ListN.{length, take, drop, getD, length-take, length-drop}
 use lib.Seq.{take-suc, getD-take, getD-drop}
 use Rattle.search.specs.Search.{all, entries}
 use Rattle.search.proofs.Laws.{all-snoc}
+use Rattle.modes.specs.Modes.{knownModes}
 use Rattle.numbers.specs.Categories.{knownThird, knownSet}
 use Rattle.store.specs.declared.Rule.{Rule}
 use Rattle.store.specs.declared.Mapping.{Mapping}
@@ -62,25 +63,25 @@ module _ (n m : ℕ) (e : List ℕ) (size : 768 ≤ length e) (few : m ≤ 256) 
   pub rule-runs :
       all (soundRule n) (entries (ruleAt e) m)
       ≡ ((all (λ (x : ℕ). ltb x n) (take m (take 256 (drop 0 e))) && all (λ (x : ℕ). ltb x n) (take m (take 256 (drop 256 e))))
-      && all (λ (x : ℕ). ltb x 64) (take m (take 256 (drop 512 e))))
+      && all knownModes (take m (take 256 (drop 512 e))))
   unfolding soundRule ruleAt
   rule-runs =
       rw (
-        all-and (λ (r : Rule). ltb (r .subject) n && ltb (r .object) n) (λ (r : Rule). ltb (r .modes) 64) (entries (ruleAt e) m),
+        all-and (λ (r : Rule). ltb (r .subject) n && ltb (r .object) n) (λ (r : Rule). knownModes (r .modes)) (entries (ruleAt e) m),
         all-and (λ (r : Rule). ltb (r .subject) n) (λ (r : Rule). ltb (r .object) n) (entries (ruleAt e) m),
         all-run (λ (r : Rule). ltb (r .subject) n) (λ (x : ℕ). ltb x n) (ruleAt e) (take 256 (drop 0 e)) m (rw (part-length e 0 256 (omega arith)) few) (λ k h. ap (λ (x : ℕ). ltb x n) (sym (getD-take 256 e k 0 (omega arith)))),
         all-run (λ (r : Rule). ltb (r .object) n) (λ (x : ℕ). ltb x n) (ruleAt e) (take 256 (drop 256 e)) m (rw (part-length e 256 256 (omega arith)) few) (λ k h. ap (λ (x : ℕ). ltb x n) (sym (part-at e 256 256 k (omega arith)))),
-        all-run (λ (r : Rule). ltb (r .modes) 64) (λ (x : ℕ). ltb x 64) (ruleAt e) (take 256 (drop 512 e)) m (rw (part-length e 512 256 (omega arith)) few) (λ k h. ap (λ (x : ℕ). ltb x 64) (sym (part-at e 512 256 k (omega arith)))),
+        all-run (λ (r : Rule). knownModes (r .modes)) knownModes (ruleAt e) (take 256 (drop 512 e)) m (rw (part-length e 512 256 (omega arith)) few) (λ k h. ap knownModes (sym (part-at e 512 256 k (omega arith)))),
       )
 
 -- rules are sound where none exceeds numbers that are small enough
-pub rules-within : (n m label modes : ℕ) (e : List ℕ) → ((k : ℕ) → k < m → Bounded e k label modes) → label < n → modes < 64 → all (soundRule n) (entries (ruleAt e) m) ≡ true
+pub rules-within : (n m label modes : ℕ) (e : List ℕ) → ((k : ℕ) → k < m → Bounded e k label modes) → label < n → knownModes modes ≡ true → all (soundRule n) (entries (ruleAt e) m) ≡ true
 unfolding soundRule ruleAt
 rules-within n m label modes e h few known =
     all-entries (soundRule n) (ruleAt e) m
     (λ k kh.
     let w = h k kh in
-    rw (lt-ltb (getD e k 0) n (omega arith), lt-ltb (getD e (256 + k) 0) n (omega arith), lt-ltb (getD e (512 + k) 0) 64 (omega arith)))
+    rw (lt-ltb (getD e k 0) n (omega arith), lt-ltb (getD e (256 + k) 0) n (omega arith), w .modes-of known))
 
 -- the test of the damage check: the rules, two runs of numbers and one of sets
 pub sound-runs :

@@ -2,12 +2,13 @@
 use mathlib.Core.Path.{_≡_, sym, ap, _∙_}
 use mathlib.Core.Bool.{Bool, true}
 use mathlib.Core.List.{List}
-use Prim.Native.Nat.{ℕ, _+_, _<_}
+use Prim.Native.Nat.{ℕ, _+_, _%_, _<_}
 use lib.Dec.{ltb}
 use lib.ListN.{length, getD}
 use borrow.Author.Tests.{ltb-true, lt-ltb}
 use Rattle.search.specs.Search.{all, entries}
 use Rattle.search.proofs.Laws.{and-both, all-at, entries-length, entries-at}
+use Rattle.modes.proofs.Laws.{known-is}
 use Rattle.numbers.specs.Categories.{knownSet}
 use Rattle.numbers.proofs.Sets.{category-sets}
 use Rattle.store.specs.Table.{soundRule, soundMapping, soundTable}
@@ -26,12 +27,12 @@ entry-passes p f n e k h =
 rule-passes :
     (n : ℕ) (e : List ℕ) (k : ℕ) →
     soundRule n (ruleAt e k) ≡ true →
-    (getD e k 0 < n) × (getD e (256 + k) 0 < n) × (getD e (512 + k) 0 < 64)
+    (getD e k 0 < n) × (getD e (256 + k) 0 < n) × ((getD e (512 + k) 0 < 64) × (getD e (512 + k) 0 % 2 ≡ 0))
 unfolding soundRule ruleAt
 rule-passes n e k q =
     let a = and-both _ _ q in
     let b = and-both _ _ (a .0) in
-    (ltb-true _ _ (b .0), ltb-true _ _ (b .1), ltb-true _ _ (a .1))
+    (ltb-true _ _ (b .0), ltb-true _ _ (b .1), known-is (getD e (512 + k) 0) .0 (a .1))
 
 mapping-passes : (n : ℕ) (e w : List ℕ) (k : ℕ) → soundMapping n (mappingAt e w k) ≡ true → (getD e (768 + k) 0 < n) × (knownSet (setAt w k) ≡ true)
 unfolding soundMapping mappingAt
@@ -73,7 +74,7 @@ module _ (s : Store) where
   sound-by u =
       rw (
         all-entries (soundRule (getD (s .words) 0 0)) (ruleAt (s .entries)) (getD (s .words) 1 0)
-            (λ k h. rw (lt-ltb _ _ (u .subjects k h), lt-ltb _ _ (u .objects k h), lt-ltb _ _ (u .modes k h))),
+            (λ k h. rw (lt-ltb _ _ (u .subjects k h), lt-ltb _ _ (u .objects k h), known-is _ .1 (u .modes k h))),
         all-entries (soundMapping (getD (s .words) 0 0)) (mappingAt (s .entries) (s .words)) (getD (s .words) 2 0)
             (λ k h. rw (lt-ltb _ _ (u .mapped k h), category-sets .known (setAt (s .words) k) .1 (u .sets k h))),
         all-entries (λ (k : ℕ). ltb k (getD (s .words) 0 0)) (onlycapAt (s .entries)) (getD (s .words) 3 0)

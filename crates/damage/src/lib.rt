@@ -4,15 +4,13 @@ ghost use Prim.Native.Nat.{ℕ, _+_, _<_, _≤_};
 ghost use lib.ListN.{length, getD, take};
 ghost use mathlib.Core.List.{[]};
 ghost use Rattle.search.specs.Search.{all, entries as listed};
+ghost use Rattle.modes.specs.Modes.{knownModes};
 ghost use Rattle.numbers.specs.Categories.{knownThird};
 ghost use Rattle.store.specs.Table.{soundRule, soundTable, ruleLimit, mappingLimit, onlycapLimit};
 ghost use Rattle.store.specs.Layout.{store, lent, modesFrom, onlycapFrom, thirdsFrom, ruleAt, tableOf, undamagedOf};
 ghost use Rattle.store.specs.Within.{Counts};
 ghost use Rattle.damage.specs.Undamaged.{WhatUndamagedIs};
 ghost use Rattle.damage.specs.Within.{Bounded};
-
-// What no known modes reach: there are six letters, each a bit.
-const MODES_END: u8 = 64;
 
 // Where the sets' third words and the onlycap list end.
 const THIRDS_TO: usize = store::THIRDS_FROM + store::MAPPING_LIMIT;
@@ -34,6 +32,22 @@ fn all_known(run: &[u64], count: usize) -> bool
     ok
 }
 
+// Whether the first `count` numbers of a run, the modes of rules, may all be stored. It reads all of them, so that the compiler can take many at a time.
+// Who calls it has made sure that the run has that many.
+fn all_modes_known(run: &[u8], count: usize) -> bool
+    requires { ⌜ count ≤ length (now run) ⌝ }
+    ensures { λ r. ⌜ r ≡ all knownModes (take count (now (run .entry))) ⌝ }
+{
+    let mut ok = true;
+    let mut i = 0;
+    while i < count {
+        let modes = run[i];
+        ok = ok & (modes & modes::RULE_LETTERS == modes);
+        i += 1;
+    }
+    ok
+}
+
 // The larger of two numbers. (That it is one of them is nowhere needed.)
 fn larger(a: u8, b: u8) -> u8
     ensures { λ r. ⌜ (a ≤ r) × (b ≤ r) ⌝ }
@@ -41,14 +55,14 @@ fn larger(a: u8, b: u8) -> u8
     if a < b { b } else { a }
 }
 
-// What no rule of a run exceeds: the largest number of a label, and the largest modes.
+// What no rule of a run exceeds: the largest number of a label, and the modes of all of them joined.
 struct Bounds {
     label: u8,
     modes: u8,
 }
 
-// The largest numbers of the first `count` rules. It reads all of them, so that the compiler can take many at a time. Its contract says that no rule
-// exceeds them, which is all that is needed where they are small enough. Who calls it has tested the sizes.
+// What no rule of the first `count` exceeds. It reads all of them, so that the compiler can take many at a time. Its contract says no more than that no
+// rule exceeds it, which is all that is needed where the number is small enough and the modes may be stored. Who calls it has tested the sizes.
 fn largest(entries: &[u8], count: usize) -> Bounds
     requires { ⌜ (modesFrom + ruleLimit ≤ length (now entries)) × (count ≤ ruleLimit) ⌝ }
     ensures { λ r. ⌜ ((k : ℕ) → k < count → Bounded (now (entries .entry)) k (r .label) (r .modes)) ⌝ }
@@ -58,20 +72,20 @@ fn largest(entries: &[u8], count: usize) -> Bounds
     let mut i = 0;
     while i < count {
         label = larger(label, larger(entries[i], entries[store::OBJECTS_FROM + i]));
-        modes = larger(modes, entries[store::MODES_FROM + i]);
+        modes = modes | entries[store::MODES_FROM + i];
         i += 1;
     }
     Bounds { label, modes }
 }
 
-// Whether each stored rule names stored labels and known modes. The largest numbers of whole blocks of 32 places decide most calls; they may be
-// those of places that hold no rule, and where they are too large the rules alone are read. Who calls it has tested the sizes.
+// Whether each stored rule names stored labels and has known modes. What no place of whole blocks of 32 exceeds decides most calls; these may be places
+// that hold no rule, and where a number is too large or a bit unknown the rules alone are read. Who calls it has tested the sizes.
 fn rules_sound(entries: &[u8], rules: usize, labels: u8) -> bool
     requires { ⌜ (modesFrom + ruleLimit ≤ length (now entries)) × (rules ≤ ruleLimit) ⌝ }
     ensures { λ r. ⌜ r ≡ all (soundRule labels) (listed (ruleAt (now (entries .entry))) rules) ⌝ }
 {
     let most = largest(entries, (rules + 31) / 32 * 32);
-    if (most.label < labels) & (most.modes < MODES_END) {
+    if (most.label < labels) & (most.modes & modes::RULE_LETTERS == most.modes) {
         return true;
     }
     let subjects = search::all_below(&entries[0..store::OBJECTS_FROM], rules, labels);
@@ -80,11 +94,7 @@ fn rules_sound(entries: &[u8], rules: usize, labels: u8) -> bool
         rules,
         labels,
     );
-    let modes = search::all_below(
-        &entries[store::MODES_FROM..store::MAPPED_FROM],
-        rules,
-        MODES_END,
-    );
+    let modes = all_modes_known(&entries[store::MODES_FROM..store::MAPPED_FROM], rules);
     subjects & objects & modes
 }
 
@@ -108,7 +118,7 @@ fn sound(entries: &[u8], words: &[u64]) -> bool
     rules & (mapped & sets) & listed
 }
 
-// The claim that a state passes the definition's damage test, and so, by the contract below, the code's, exactly where it is as 01 says of refusal 0.
+// The claim that a state passes the definition's damage test, and so, by the contract below, the code's, exactly where it is as 01 and 02 say of refusal 0.
 pub fn what_undamaged_is()
     ensures { λ _. ⌜ WhatUndamagedIs ⌝ }
 {}

@@ -7,3 +7,4 @@ pub mod Places
 pub mod Overrides
 pub mod LabelsMapping
 pub mod Lowest
+pub mod OldFiles

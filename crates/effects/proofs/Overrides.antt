@@ -29,13 +29,13 @@ use Rattle.effects.proofs.Entering.{or-false, found-cons}
 -- ---- the answers
 
 verdict-overridden : (e : Bool) (v : Verdict) → answered e v ≡ cond e (overridden (answered false v)) (answered false v)
-verdict-overridden true (Grants n b) = refl
+verdict-overridden true (Grants n) = refl
 verdict-overridden true (Denies by) = refl
 verdict-overridden true Undecided = refl
 verdict-overridden false v = refl
 
 verdict-never : (v : Verdict) (by : Denial) → answered false v ≡ Override by → ⊥
-verdict-never (Grants n b) by e = let z : _≡_ {A = ℕ} 0 1 = cc in omega arith
+verdict-never (Grants n) by e = let z : _≡_ {A = ℕ} 0 1 = cc in omega arith
 verdict-never (Denies d) by e = let z : _≡_ {A = ℕ} 0 1 = cc in omega arith
 verdict-never Undecided by e = let z : _≡_ {A = ℕ} 0 1 = cc in omega arith
 

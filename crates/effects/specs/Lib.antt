@@ -2,3 +2,4 @@ pub mod Labels
 pub mod Effects
 pub mod MappingText
 pub mod OverrideAndLookUp
+pub mod OldFiles

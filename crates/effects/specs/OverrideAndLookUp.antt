@@ -23,7 +23,7 @@ use Rattle.effects.specs.Effects.{HasMapping}
 
 -- an answer where override counts: a denial is granted by override, with the rule that would have denied; any other answer stays
 abbrev pub overridden : Answer → Answer
-overridden (Granted n b) = Granted n b
+overridden (Granted n) = Granted n
 overridden (Denied by) = Override by
 overridden (Override by) = Override by
 overridden (Refused n) = Refused n

@@ -1,6 +1,6 @@
-// What an accepted line, change, revoke, override list and mapping do, what a mapping's text says, what override is, and what the look-ups find, as
-// contracts: these functions do nothing, and what each ensures is a theorem on the definitions. So the check names each of them, and a reader finds
-// each by its name.
+// What an accepted line, change, revoke, override list and mapping do, what a mapping's text says, what override is, what the look-ups find, and that old
+// rule files load as before but for b, as contracts: these functions do nothing, and what each ensures is a theorem on the definitions. So the check names
+// each of them, and a reader finds each by its name.
 ghost use mathlib.Core.Path.{_≡_};
 ghost use mathlib.Core.Bool.{true};
 ghost use mathlib.Core.Logic.{_↔_};
@@ -23,6 +23,7 @@ ghost use Rattle.grown.specs.Sane.{LabelsOnce};
 ghost use Rattle.grown.specs.Pairs.{SoundTable};
 ghost use Rattle.effects.specs.Effects.{Revokes, CountsRules, rulesOf, SetsFields, Maps, KeepsPlaces};
 ghost use Rattle.effects.specs.MappingText.{MappingText};
+ghost use Rattle.effects.specs.OldFiles.{AsBefore};
 ghost use Rattle.effects.specs.OverrideAndLookUp.{OverrideCounts, LabelsMapping, LowestLabel};
 
 // An accepted revoke clears the modes of every rule with its subject, which keeps its place, and changes no answer of another subject.
@@ -73,4 +74,10 @@ pub fn what_a_label_is_mapped_to()
 // The look-up by level and set, where they can be sought, finds the lowest-numbered label that has both, or none; where every label is well formed and stored once.
 pub fn lowest_label_of_a_level_and_set()
     ensures { λ _. ⌜ ((t : Table) (level : ℕ) (set : CategorySet) → LabelsOnce t → sought level set ≡ true → LowestLabel t level set) ⌝ }
+{}
+
+// Old rule files load as before but for the retired letter b: it is a placeholder; every line is accepted, skipped or refused as it was, with its other
+// letters; and every question gets the answer that it got, but that granted 6 no longer tells of b (02, Six).
+pub fn old_files_load_as_before()
+    ensures { λ _. ⌜ AsBefore ⌝ }
 {}

@@ -16,7 +16,7 @@ use Rattle.search.proofs.Laws.{no, and-both, entries-length, all-at, first-none
 use Rattle.refusals.specs.Refusals.{damaged, tooLong, wrongFields, badAccess, sameLabels, labelsFull, rulesFull, badRequest, badLevelOrCategory, mappingsFull, tooManyOverrides, noSuchNumber, badLabelAt}
 use Rattle.refusals.specs.declared.Refusal.{Refusal}
 use Rattle.alphabet.specs.Alphabet.{wellFormed, badByte, badByteOfTwo, fields, badByteIn}
-use Rattle.modes.specs.Modes.{allowedByte, modesOf, readModes, ruleLetters, changeLetters, requestLetters, any}
+use Rattle.modes.specs.Modes.{allowedByte, modesOf, readModes, lineLetters, changeLetters, requestLetters, any, storedModes}
 use Rattle.modes.specs.declared.Access.the-variants.{Modes, Bad}
 use Rattle.numbers.specs.Categories.{isLevel, isMappingLevel, isCategory, knownSet, noCategories, withCategory}
 use Rattle.numbers.specs.declared.CategorySet.{CategorySet}
@@ -33,7 +33,7 @@ use Rattle.store.specs.Pairs.{modesFound, modesBetween, modesSoFar}
 use Rattle.store.specs.Layout.{Store, tableOf, fullSizes, undamagedOf, labelAt, ruleAt, mappingAt}
 use Rattle.store.specs.Judged.{Judged, is-skipped, is-refused, is-accepted, doneOf, onState, freshWrite, freshAnswer}
 use Rattle.store.proofs.Laws.{undamaged-is}
-use Rattle.lines.specs.Lines.{skipped, refused, rule, change, ruleWith, ruleBy, ruleFields, ruleOf, changeWith, changeBy, changeFields, changeOf}
+use Rattle.lines.specs.Lines.{skipped, refused, rule, change, ruleWith, ruleBy, ruleFields, ruleOf, changeWith, changeBy, changeFields, changeOf, bringUpIn}
 use Rattle.rules.specs.Rules.{pairLabels, pairRule, withPair, pairJudged}
 use Rattle.rules.proofs.Pairs.{pair-length}
 use Rattle.writes.specs.Writes.{judged, changed, outcomeOf, lineOutcome, changeWrite, changeAnswer}
@@ -169,7 +169,7 @@ of-ended = refuses e.Refused ended-by (λ n. refl) from
 
 abbrev outcome-by : Outcome → First Refusal
 outcome-by v.Skipped = none
-outcome-by v.Accepted = none
+outcome-by (v.Accepted held) = none
 outcome-by (v.Refused n) = by n
 
 of-outcome : (x : Outcome) (faults : List (Fault Refusal)) → outcome-by x ≡ firstFault faults → Refuses x v.Refused faults
@@ -177,7 +177,7 @@ of-outcome = refuses v.Refused outcome-by (λ n. refl) from
   where
     from : (x : Outcome) (n : Refusal) → outcome-by x ≡ by n → x ≡ v.Refused n
     from v.Skipped n q = let z : _≡_ {A = ℕ} 0 1 = cc in absurd (omega arith)
-    from v.Accepted n q = let z : _≡_ {A = ℕ} 0 1 = cc in absurd (omega arith)
+    from (v.Accepted held) n q = let z : _≡_ {A = ℕ} 0 1 = cc in absurd (omega arith)
     from (v.Refused m) n q = let z : m ≡ n = cc in ap v.Refused z
 
 abbrev revoked-by : Revoked → First Refusal
@@ -229,7 +229,7 @@ of-peer = refuses not-read peer-by (λ n. refl) from
     from (not-read m) n q = let z : m ≡ n = cc in ap not-read z
 
 abbrev answer-by : Answer → First Refusal
-answer-by (a.Granted x y) = none
+answer-by (a.Granted x) = none
 answer-by (a.Denied x) = none
 answer-by (a.Override x) = none
 answer-by (a.Refused n) = by n
@@ -238,7 +238,7 @@ of-answer : (x : Answer) (faults : List (Fault Refusal)) → answer-by x ≡ fir
 of-answer = refuses a.Refused answer-by (λ n. refl) from
   where
     from : (x : Answer) (n : Refusal) → answer-by x ≡ by n → x ≡ a.Refused n
-    from (a.Granted x y) n q = let z : _≡_ {A = ℕ} 0 1 = cc in absurd (omega arith)
+    from (a.Granted x) n q = let z : _≡_ {A = ℕ} 0 1 = cc in absurd (omega arith)
     from (a.Denied x) n q = let z : _≡_ {A = ℕ} 0 1 = cc in absurd (omega arith)
     from (a.Override x) n q = let z : _≡_ {A = ℕ} 0 1 = cc in absurd (omega arith)
     from (a.Refused m) n q = let z : m ≡ n = cc in ap a.Refused z
@@ -263,10 +263,10 @@ done-judged is-skipped = refl
 done-judged (is-refused n) = refl
 done-judged (is-accepted t) = refl
 
-outcome-judged : (j : Judged) → outcome-by (outcomeOf j) ≡ judged-by j
-outcome-judged is-skipped = refl
-outcome-judged (is-refused n) = refl
-outcome-judged (is-accepted t) = refl
+outcome-judged : (held : Bool) (j : Judged) → outcome-by (outcomeOf held j) ≡ judged-by j
+outcome-judged held is-skipped = refl
+outcome-judged held (is-refused n) = refl
+outcome-judged held (is-accepted t) = refl
 
 count-judged : (k : ℕ) (j : Judged) → revoked-by (countOf k j) ≡ judged-by j
 count-judged k is-skipped = refl
@@ -350,16 +350,16 @@ module _ (t : Table) (few-labels : length (t .labels) ≤ 64) (few-rules : lengt
   rule-first :
       (place : ℕ) (s o x : List ℕ) →
       judged-by (judged t (ruleBy place s o x))
-      ≡ cond (badLabels s o) (by (badLabelAt place)) (cond (badAccessField ruleLetters true x) (by badAccess) (cond (sameBytes s o) (by sameLabels) (firstFault (pairFaults t s o))))
+      ≡ cond (badLabels s o) (by (badLabelAt place)) (cond (badAccessField lineLetters true x) (by badAccess) (cond (sameBytes s o) (by sameLabels) (firstFault (pairFaults t s o))))
   unfolding ruleBy readModes
-  rule-first place s o x = by-tests (wellFormed s) (wellFormed o) (all (allowedByte ruleLetters true) x)
+  rule-first place s o x = by-tests (wellFormed s) (wellFormed o) (all (allowedByte lineLetters true) x)
     where
       by-same :
           (b : Bool) →
           sameBytes s o ≡ b →
-          judged-by (judged t (cond b (refused sameLabels) (rule s o (modesOf x)))) ≡ cond b (by sameLabels) (firstFault (pairFaults t s o))
+          judged-by (judged t (cond b (refused sameLabels) (rule s o (storedModes (modesOf x))))) ≡ cond b (by sameLabels) (firstFault (pairFaults t s o))
       by-same true q = refl
-      by-same false q = pair-first s o (modesOf x) q
+      by-same false q = pair-first s o (storedModes (modesOf x)) q
 
       by-tests :
           (a b c : Bool) →
@@ -460,36 +460,36 @@ write-first st write more h =
 -- an outcome that is no skip
 isSkipped : Outcome → Bool
 isSkipped v.Skipped = true
-isSkipped v.Accepted = false
+isSkipped (v.Accepted held) = false
 isSkipped (v.Refused n) = false
 
 not-skipped-refused : {n : Refusal} → v.Refused n ≡ v.Skipped → ⊥
 unfolding isSkipped
 not-skipped-refused e = no (ap isSkipped e)
 
-never-skipped : (t : Table) (place : ℕ) (s o access : List ℕ) → outcomeOf (judged t (ruleBy place s o access)) ≡ v.Skipped → ⊥
+never-skipped : (t : Table) (held : Bool) (place : ℕ) (s o access : List ℕ) → outcomeOf held (judged t (ruleBy place s o access)) ≡ v.Skipped → ⊥
 unfolding isSkipped ruleBy readModes
-never-skipped t place s o access e = no (sym (by-tests (wellFormed s && wellFormed o) (all (allowedByte 63 true) access) (sameBytes s o)) ∙ ap isSkipped e)
+never-skipped t held place s o access e = no (sym (by-tests (wellFormed s && wellFormed o) (all (allowedByte lineLetters true) access) (sameBytes s o)) ∙ ap isSkipped e)
   where
-    by-room : (p q : Bool) (u : Table) → isSkipped (outcomeOf (cond p (is-refused labelsFull) (cond q (is-refused rulesFull) (is-accepted u)))) ≡ false
+    by-room : (p q : Bool) (u : Table) → isSkipped (outcomeOf held (cond p (is-refused labelsFull) (cond q (is-refused rulesFull) (is-accepted u)))) ≡ false
     by-room true q u = refl
     by-room false true u = refl
     by-room false false u = refl
 
-    by-tests : (p q same : Bool) → isSkipped (outcomeOf (judged t (cond p (ruleWith s o (cond q (Modes (modesOf access)) Bad)) (refused (badLabelAt place))))) ≡ false
+    by-tests : (p q same : Bool) → isSkipped (outcomeOf held (judged t (cond p (ruleWith s o (cond q (Modes (modesOf access)) Bad)) (refused (badLabelAt place))))) ≡ false
     by-tests false q same = refl
     by-tests true false same = refl
     by-tests true true same = by-same (sameBytes s o)
       where
-        by-same : (b : Bool) → isSkipped (outcomeOf (judged t (cond b (refused sameLabels) (rule s o (modesOf access))))) ≡ false
+        by-same : (b : Bool) → isSkipped (outcomeOf held (judged t (cond b (refused sameLabels) (rule s o (storedModes (modesOf access)))))) ≡ false
         by-same true = refl
-        by-same false = by-room (ltb 64 (length (pairLabels t s o))) (noPlace (pairRule t s o) (length (t .rules)) 256) (withPair t s o (modesOf access))
+        by-same false = by-room (ltb 64 (length (pairLabels t s o))) (noPlace (pairRule t s o) (length (t .rules)) 256) (withPair t s o (storedModes (modesOf access)))
 
 line-refused : (st : Store) (text : List ℕ) → undamagedOf st ≡ true → Refuses (lineOutcome st text) v.Refused (lineFaults (tableOf st) text)
 unfolding lineOutcome
 line-refused st text u =
     of-outcome _ (lineFaults (tableOf st) text)
-    (outcome-judged (judged (tableOf st) (ruleOf text)) ∙ line-first (tableOf st) (labels-few st u) (rules-few st u) text)
+    (outcome-judged (bringUpIn text) (judged (tableOf st) (ruleOf text)) ∙ line-first (tableOf st) (labels-few st u) (rules-few st u) text)
 
 -- a line is skipped exactly where it is not too long and has no field
 line-skipped : (st : Store) (text : List ℕ) → (lineOutcome st text ≡ v.Skipped) ↔ ((isTooLong text ≡ false) × (fields text ≡ []))
@@ -499,17 +499,17 @@ line-skipped st text = (λ e. by-length (isTooLong text) refl e, λ h. rw (h .0,
     t : Table
     t = tableOf st
 
-    by-fields : (place : ℕ) (fs : List (List ℕ)) → outcomeOf (judged t (ruleFields place fs)) ≡ v.Skipped → fs ≡ []
+    by-fields : (place : ℕ) (fs : List (List ℕ)) → outcomeOf (bringUpIn text) (judged t (ruleFields place fs)) ≡ v.Skipped → fs ≡ []
     by-fields place [] e = refl
     by-fields place (s ∷ []) e = absurd (not-skipped-refused e)
     by-fields place (s ∷ o ∷ []) e = absurd (not-skipped-refused e)
-    by-fields place (s ∷ o ∷ a ∷ []) e = absurd (never-skipped t place s o a e)
+    by-fields place (s ∷ o ∷ a ∷ []) e = absurd (never-skipped t (bringUpIn text) place s o a e)
     by-fields place (s ∷ o ∷ a ∷ x ∷ more) e = absurd (not-skipped-refused e)
 
     by-length :
         (b : Bool) →
         isTooLong text ≡ b →
-        outcomeOf (judged t (cond b (refused tooLong) (ruleFields (badByteIn text) (fields text)))) ≡ v.Skipped →
+        outcomeOf (bringUpIn text) (judged t (cond b (refused tooLong) (ruleFields (badByteIn text) (fields text)))) ≡ v.Skipped →
         (isTooLong text ≡ false) × (fields text ≡ [])
     by-length true q e = absurd (not-skipped-refused e)
     by-length false q e = (q, by-fields (badByteIn text) (fields text) e)
@@ -953,7 +953,7 @@ unfolding answer decide readModes
 asked-first t s o request capable = by-tests (wellFormed s) (wellFormed o) (eqb (length request) 0) (all (allowedByte requestLetters false) request)
   where
     by-verdict : (override : Bool) (x : Verdict) → answer-by (answered override x) ≡ none
-    by-verdict override (verdict.Grants k b) = refl
+    by-verdict override (verdict.Grants k) = refl
     by-verdict true (verdict.Denies x) = refl
     by-verdict false (verdict.Denies x) = refl
     by-verdict true verdict.Undecided = refl

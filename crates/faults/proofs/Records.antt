@@ -16,9 +16,9 @@ use Rattle.search.specs.Bytes.{ascii, sameBytes}
 use Rattle.search.proofs.Laws.{no, and-both, eqb-is, or-is}
 use Rattle.refusals.specs.Refusals.{tooLong, badLabel, sameLabels, badRecord, badLabelAt}
 use Rattle.alphabet.specs.Alphabet.{space, dash, wellFormed, fields, badByteIn}
-use Rattle.modes.specs.Modes.{bitOf, allowedByte, modesOf, readModes, has, modesText, ruleLetters, Is, any, oneOf}
+use Rattle.modes.specs.Modes.{bitOf, allowedByte, modesOf, readModes, modesText, lineLetters, storedModes, Is, oneOf}
 use Rattle.modes.specs.declared.Access.the-variants.{Modes, Bad}
-use Rattle.modes.proofs.Laws.{letterAt, six-letters}
+use Rattle.modes.proofs.Laws.{letterAt, known-stored}
 use Rattle.lines.specs.Lines as said
 use Rattle.lines.specs.Lines.{ruleWith, ruleBy, ruleFields, ruleOf}
 use Rattle.output.specs.Output as output
@@ -27,9 +27,9 @@ use Rattle.output.specs.declared.Output.{Output}
 use Rattle.output.specs.declared.Output.the-variants as l
 use Rattle.rule_text.specs.RuleText.{textOf}
 use Rattle.fixed_load.specs.Records.{subjectPlace, objectPlace, accessBytes, spaces, filled, placeLabel, isPlace, fiveLetters, inOwnPlaces, isRecord, saidBy, recordSays, ofRule, asLine, lineFrom, withoutNewline, inPlaces, recordOf, fitsARecord, ifItFits, recordFrom}
-use Rattle.fixed_load.proofs.Laws.{filled-length}
+use Rattle.fixed_load.proofs.Laws.{filled-length, own-modes}
 use Rattle.fixed_load.proofs.Back.{own-byte}
-use Rattle.faults.specs.Faults.{Fault, _when_, First, none, by, firstFault, Refuses, badLabels, badAccessField, allSpaces, byteAfterSpace, endsInSpace, badLabelPlace, badAccessBytes, recordFaults, hasB, overRecordLabel, toRecordFieldFaults, lineToRecordFaults}
+use Rattle.faults.specs.Faults.{Fault, _when_, First, none, by, firstFault, Refuses, badLabels, badAccessField, allSpaces, byteAfterSpace, endsInSpace, badLabelPlace, badAccessBytes, recordFaults, overRecordLabel, toRecordFieldFaults, lineToRecordFaults}
 
 -- ---- what an output is refused by
 
@@ -227,38 +227,6 @@ access-tested (a ∷ b ∷ c ∷ d ∷ e ∷ []) n =
     by-tests true true true true false = refl
     by-tests true true true true true = refl
 
--- ---- the letter b of an access field
-
-allowed-b : (b : ℕ) → bitOf b ≡ 1 → allowedByte 1 true b ≡ true
-unfolding allowedByte
-allowed-b b e = rw e
-
-byte-b : (b : ℕ) → (b ≡ 98) ⊎ ((b ≡ 66) ⊎ (false ≡ true)) → eqb (bitOf b) 1 ≡ true
-unfolding bitOf
-byte-b b = ⊎-elim (λ q. rw q) (⊎-elim (λ q. rw q) (λ q. absurd (no q)))
-
-no-dash : (b : ℕ) → eqb (bitOf b) 1 ≡ true → b ≡ dash → ⊥
-unfolding bitOf
-no-dash b e q = no (rw q at e)
-
-b-is : (b : ℕ) → eqb (bitOf b) 1 ≡ oneOf (ascii "bB") b
-unfolding all
-b-is b = same-test _ _ (λ e. is-one .1 (from e (own-byte (letterAt 5) b refl (allowed-b b (eqb-true (bitOf b) 1 e))))) (λ e. byte-b b (is-one .0 e))
-  where
-    is-one : (oneOf (ascii "bB") b ≡ true) ↔ ((b ≡ 98) ⊎ ((b ≡ 66) ⊎ (false ≡ true)))
-    is-one = or-is (eqb b 98) _ (eqb-is b 98) (or-is (eqb b 66) false (eqb-is b 66) (λ q. q, λ q. q))
-
-    from : eqb (bitOf b) 1 ≡ true → Is b 98 66 ⊎ (b ≡ dash) → (b ≡ 98) ⊎ ((b ≡ 66) ⊎ (false ≡ true))
-    from e = ⊎-elim (⊎-elim inl (λ q. inr (inl q))) (λ q. absurd (no-dash b e q))
-
-any-same : (p q : ℕ → Bool) → ((b : ℕ) → p b ≡ q b) → (bs : List ℕ) → any p bs ≡ any q bs
-any-same p q f [] = refl
-any-same p q f (b ∷ bs) = rw (f b, any-same p q f bs)
-
-has-b : (access : List ℕ) → has (modesOf access) 1 ≡ hasB access
-unfolding bitOf
-has-b access = six-letters .read access 98 refl ∙ any-same (λ (b : ℕ). eqb (bitOf b) 1) (oneOf (ascii "bB")) b-is access
-
 -- ---- a record to a line
 
 abbrev answered-by : List ℕ → output.Text → First ℕ
@@ -275,10 +243,14 @@ partFaults s o access out =
 
 part-first :
     (s o access out : List ℕ) → length access ≡ 5 → answered-by out (asLine (saidBy s o access)) ≡ firstFault (partFaults s o access out)
-part-first s o access out five = rw (access-tested access five) (by-tests (wellFormed s) (wellFormed o) (badAccessBytes access))
+part-first s o access out five = rw (access-tested access five) (by-tests (wellFormed s) (wellFormed o) (badAccessBytes access) refl)
   where
     given : List ℕ
     given = textOf s o (modesText (modesOf access))
+
+    -- the modes of bytes in their own places are such as a table may store
+    stored : badAccessBytes access ≡ false → storedModes (modesOf access) ≡ modesOf access
+    stored e = known-stored (modesOf access) (own-modes access (access-tested access five ∙ ap not e))
 
     by-same :
         (b : Bool) →
@@ -288,12 +260,13 @@ part-first s o access out five = rw (access-tested access five) (by-tests (wellF
 
     by-tests :
         (a b c : Bool) →
+        badAccessBytes access ≡ c →
         answered-by out (asLine (cond (a && b) (ruleWith s o (cond (not c) (Modes (modesOf access)) Bad)) (said.refused badLabel)))
         ≡ cond (not a || not b) (by 3) (cond c (by 4) (cond (sameBytes s o) (by 5) (cond (ltb (length out) (length given)) (by 12) none)))
-    by-tests false b c = refl
-    by-tests true false c = refl
-    by-tests true true true = refl
-    by-tests true true false = by-same (sameBytes s o)
+    by-tests false b c e = refl
+    by-tests true false c e = refl
+    by-tests true true true e = refl
+    by-tests true true false e = rw (stored e) (by-same (sameBytes s o))
 
 record-first : (r out : List ℕ) → answered-by out (lineFrom r) ≡ firstFault (recordFaults r out)
 unfolding lineFrom recordSays isRecord
@@ -340,42 +313,35 @@ module _ (out : List ℕ) where
   abbrev sized : First ℕ
   sized = cond (ltb (length out) 53) (by 12) none
 
-  fits-first :
-      (s o access : List ℕ) →
-      answered-by out (ifItFits s o (modesOf access)) ≡ cond (overRecordLabel s || (overRecordLabel o || hasB access)) (by 15) sized
+  fits-first : (s o : List ℕ) (m : ℕ) → answered-by out (ifItFits s o m) ≡ cond (overRecordLabel s || overRecordLabel o) (by 15) sized
   unfolding fitsARecord
-  fits-first s o access =
-      by-tests (leb (length s) 23) refl (leb (length o) 23) refl (has (modesOf access) 1) ∙ rw (not-leb (length s) 23, not-leb (length o) 23, has-b access)
+  fits-first s o m = by-tests (leb (length s) 23) refl (leb (length o) 23) refl ∙ rw (not-leb (length s) 23, not-leb (length o) 23)
     where
       by-tests :
           (p : Bool) →
           leb (length s) 23 ≡ p →
           (q : Bool) →
           leb (length o) 23 ≡ q →
-          (b : Bool) →
-          answered-by out (cond (p && (q && not b)) (output.text (recordOf s o (modesOf access))) (output.refused 15)) ≡ cond (not p || (not q || b)) (by 15) sized
-      by-tests false e q f b = refl
-      by-tests true e false f b = refl
-      by-tests true e true f true = refl
-      by-tests true e true f false =
-          text-first (recordOf s o (modesOf access)) out
-          ∙ rw (record-long s o (modesOf access) (leb-true (length s) 23 e) (leb-true (length o) 23 f))
+          answered-by out (cond (p && q) (output.text (recordOf s o m)) (output.refused 15)) ≡ cond (not p || not q) (by 15) sized
+      by-tests false e q f = refl
+      by-tests true e false f = refl
+      by-tests true e true f = text-first (recordOf s o m) out ∙ rw (record-long s o m (leb-true (length s) 23 e) (leb-true (length o) 23 f))
 
   rule-first :
       (place : ℕ) (s o access : List ℕ) →
       answered-by out (ofRule ifItFits (ruleBy place s o access))
       ≡ cond (badLabels s o) (by 3)
-      (cond (badAccessField ruleLetters true access) (by 4)
-      (cond (sameBytes s o) (by 5) (cond (overRecordLabel s || (overRecordLabel o || hasB access)) (by 15) sized)))
+      (cond (badAccessField lineLetters true access) (by 4)
+      (cond (sameBytes s o) (by 5) (cond (overRecordLabel s || overRecordLabel o) (by 15) sized)))
   unfolding ruleBy readModes
-  rule-first place s o access = by-tests (wellFormed s) (wellFormed o) (all (allowedByte ruleLetters true) access)
+  rule-first place s o access = by-tests (wellFormed s) (wellFormed o) (all (allowedByte lineLetters true) access)
     where
       rest : First ℕ
-      rest = cond (overRecordLabel s || (overRecordLabel o || hasB access)) (by 15) sized
+      rest = cond (overRecordLabel s || overRecordLabel o) (by 15) sized
 
-      by-same : (b : Bool) → answered-by out (ofRule ifItFits (cond b (said.refused sameLabels) (said.rule s o (modesOf access)))) ≡ cond b (by 5) rest
+      by-same : (b : Bool) → answered-by out (ofRule ifItFits (cond b (said.refused sameLabels) (said.rule s o (storedModes (modesOf access))))) ≡ cond b (by 5) rest
       by-same true = refl
-      by-same false = fits-first s o access
+      by-same false = fits-first s o (storedModes (modesOf access))
 
       by-tests :
           (a b c : Bool) →

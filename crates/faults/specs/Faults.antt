@@ -16,7 +16,7 @@ use Rattle.search.specs.Bytes.{ascii, sameBytes}
 use Rattle.search.specs.declared.Found.{Found}
 use Rattle.search.specs.declared.Found.the-variants.{At, Nothing}
 use Rattle.alphabet.specs.Alphabet.{wellFormed, badByte, badByteOfTwo, fields, badByteIn, lineLimit, dash, space}
-use Rattle.modes.specs.Modes.{allowedByte, ruleLetters, changeLetters, requestLetters, modesOf, modesText, any, oneOf}
+use Rattle.modes.specs.Modes.{allowedByte, lineLetters, changeLetters, requestLetters, modesOf, modesText, any, oneOf}
 use Rattle.numbers.specs.Numbers.{numberOf}
 use Rattle.numbers.specs.Categories.{isLevel, ownLevel, isMappingLevel, isCategory, knownSet}
 use Rattle.numbers.specs.declared.CategorySet.{CategorySet}
@@ -114,12 +114,12 @@ pairFaults t s o =
 
 -- ---- a line of rule text: 1 2 3 4 5 6 7
 
--- of its fields, subject, object, access, and the place of the first bad byte
+-- of its fields, subject, object, access, in which b may stand too (02, Six), and the place of the first bad byte
 abbrev pub lineFieldFaults : Table → ℕ → List (List ℕ) → List (Fault Refusal)
 lineFieldFaults t place fs =
     refusal.wrongFields when not (eqb (length fs) 3)
     ∷ refusal.badLabelAt place when badLabels (field fs 0) (field fs 1)
-    ∷ refusal.badAccess when badAccessField ruleLetters true (field fs 2)
+    ∷ refusal.badAccess when badAccessField lineLetters true (field fs 2)
     ∷ refusal.sameLabels when sameBytes (field fs 0) (field fs 1)
     ∷ pairFaults t (field fs 0) (field fs 1)
 
@@ -399,18 +399,14 @@ recordFaults r out =
 abbrev pub overRecordLabel : List ℕ → Bool
 overRecordLabel x = ltb recordLabel (length x)
 
--- an access field has a b, either case
-abbrev pub hasB : List ℕ → Bool
-hasB access = any (oneOf (ascii "bB")) access
-
--- of the fields of a line, subject, object, access
+-- of the fields of a line, subject, object, access, in which a b is dropped (02, Six)
 abbrev pub toRecordFieldFaults : List (List ℕ) → List ℕ → List (Fault ℕ)
 toRecordFieldFaults fs out =
     refusal.wrongFields .number when not (eqb (length fs) 3)
     ∷ refusal.badLabel .number when badLabels (field fs 0) (field fs 1)
-    ∷ refusal.badAccess .number when badAccessField ruleLetters true (field fs 2)
+    ∷ refusal.badAccess .number when badAccessField lineLetters true (field fs 2)
     ∷ refusal.sameLabels .number when sameBytes (field fs 0) (field fs 1)
-    ∷ refusal.notInARecord .number when (overRecordLabel (field fs 0) || (overRecordLabel (field fs 1) || hasB (field fs 2)))
+    ∷ refusal.notInARecord .number when (overRecordLabel (field fs 0) || overRecordLabel (field fs 1))
     ∷ refusal.outputTooShort .number when ltb (length out) recordSize
     ∷ []
 

@@ -1,5 +1,5 @@
 -- 02, Three: what the place beside a refusal's number means, of every write, question and mapping look-up of 01, and of a line of rule text. (That
--- the report keeps a line's place, `claims::first_refused_line` says; by which number each is refused, Faults.) Assumes nothing.
+-- the report keeps a line's place, `claims::what_a_line_counts` says; by which number each is refused, Faults.) Assumes nothing.
 use Prim.Native.Nat.{ℕ}
 use mathlib.Core.Path.{_≡_}
 use mathlib.Core.Bool.{Bool, true}

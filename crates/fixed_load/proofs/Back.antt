@@ -3,7 +3,7 @@ use mathlib.Core.Path.{_≡_, refl, sym, ap, _∙_, subst}
 use mathlib.Core.Bool.{Bool, true, false, cond, not, _&&_, _||_}
 use mathlib.Core.Logic.{_⊎_, inl, inr, ⊎-elim}
 use mathlib.Core.List.{List, [], _∷_, _++_, map, append-assoc, append-nil}
-use Prim.Native.Nat.{ℕ, zero, suc, _+_, _-_, _<_, _≤_}
+use Prim.Native.Nat.{ℕ, zero, suc, _+_, _-_, _≤_}
 use native.Mathlib.Omega.{arith}
 use lib.Dec.{eqb, leb}
 use borrow.Author.Tests.{eqb-true, leb-true, le-leb, not-true}
@@ -16,10 +16,10 @@ use Rattle.refusals.specs.Refusals.{badLabel, sameLabels, badRecord}
 use Rattle.alphabet.specs.Alphabet.{space, newline, dash, isNewline, isBlank, labelByte, wellFormed, fields}
 use Rattle.alphabet.proofs.Laws.{formed-is}
 use Rattle.text_lines.specs.TextLines.{lines, linesFrom}
-use Rattle.modes.specs.Modes.{letters, bitAmong, bitOf, allowedByte, modesOf, readModes, has, modesText, bringUpLetter, Is}
+use Rattle.modes.specs.Modes.{letters, bringUp, bitAmong, bitOf, allowedByte, modesOf, readModes, has, modesText, knownModes, storedModes, Is}
 use Rattle.modes.specs.declared.Letter.{Letter}
 use Rattle.modes.specs.declared.Access.the-variants.{Modes, Bad}
-use Rattle.modes.proofs.Laws.{below, six-letters}
+use Rattle.modes.proofs.Laws.{below, known-is, known-stored, text-long}
 use Rattle.lines.specs.Lines as said
 use Rattle.lines.specs.Lines.{Said, rule, ruleBy, ruleWith, ruleOf}
 use Rattle.lines.proofs.Laws.{Taken, Sound, rule-sound}
@@ -29,7 +29,7 @@ use Rattle.output.proofs.Laws.{length-answered}
 use Rattle.rule_text.specs.RuleText.{lineOf, textOf}
 use Rattle.rule_text.proofs.Laws.{noNewline, label-word, text-plain, text-says}
 use Rattle.fixed_load.specs.Records.{recordLabel, labelPlace, subjectPlace, objectPlace, accessBytes, spaces, filled, placeLabel, isPlace, fiveLetters, inOwnPlaces, isRecord, saidBy, recordSays, ofRule, asLine, lineFrom, withoutNewline, inPlaces, recordOf, fitsARecord, ifItFits, recordFrom, lowerCase, lowered, recordSize, accessFrom, Parts, OneLine, listingLine, InForm, BackByCalls, OldRecords}
-use Rattle.fixed_load.proofs.Laws.{filled-length, Place, place-is}
+use Rattle.fixed_load.proofs.Laws.{filled-length, Place, place-is, own-modes}
 
 -- ---- the access bytes of a record
 
@@ -38,7 +38,7 @@ abbrev ownBit : Letter → Letter → Bool
 ownBit l x = not (has (x .bit) (l .bit)) || eqb (x .letter) (l .letter)
 
 abbrev alone : Letter → Bool
-alone l = not (has 0 (l .bit)) && all (ownBit l) letters
+alone l = not (has 0 (l .bit)) && all (ownBit l) (bringUp ∷ letters)
 
 five-alone : all alone fiveLetters ≡ true
 unfolding all
@@ -73,7 +73,7 @@ unfolding allowedByte bitOf
 own-byte l b e = by-test (has (bitOf b) (l .bit)) refl
   where
     by-test : (t : Bool) → has (bitOf b) (l .bit) ≡ t → (t || eqb b dash) ≡ true → Is b (l .letter) (l .letter - 32) ⊎ (b ≡ dash)
-    by-test true h q = let s = and-both (not (has 0 (l .bit))) (all (ownBit l) letters) e in inl (among-is l b letters (s .0) (s .1) h)
+    by-test true h q = let s = and-both (not (has 0 (l .bit))) (all (ownBit l) (bringUp ∷ letters)) e in inl (among-is l b (bringUp ∷ letters) (s .0) (s .1) h)
     by-test false h q = inr (eqb-true b dash q)
 
 -- whether a test passes at every way to fill the places of these letters; where it does, it passes at bytes that are in their own places
@@ -95,45 +95,33 @@ every-way (l ∷ ls) p (b ∷ bs) e s n own =
     let at : (x : ℕ) → everyWay ls (λ cs. p (x ∷ cs)) ≡ true → b ≡ x → p (b ∷ bs) ≡ true = λ x i q. rw q (every-way ls (λ cs. p (x ∷ cs)) bs i (h .1) m (o .1)) in
     ⊎-elim (⊎-elim (at (l .letter) (w .0)) (at (l .letter - 32) (v .0))) (at dash (v .1)) (own-byte l b (h .0) (o .0))
 
--- the modes of such bytes, as access bytes again, are those bytes in lower case; they have no b, and so at most five letters: computed at all 243 ways
+-- the modes of such bytes, as access bytes again, are those bytes in lower case: computed at all 243 ways
 comesBack : List ℕ → Bool
-comesBack a = sameBytes (inPlaces fiveLetters (modesOf a)) (map lowerCase a) && (not (has (modesOf a) bringUpLetter) && leb (length (modesText (modesOf a))) 5)
+comesBack a = sameBytes (inPlaces fiveLetters (modesOf a)) (map lowerCase a)
 
 all-come-back : everyWay fiveLetters comesBack ≡ true
 unfolding everyWay comesBack sameBytes modesOf bitOf modesText
 all-come-back = refl
 
-record Again (a : List ℕ) : Type 0 where
-  lower : inPlaces fiveLetters (modesOf a) ≡ map lowerCase a
-  no-b : not (has (modesOf a) bringUpLetter) ≡ true
-  few : length (modesText (modesOf a)) ≤ 5
-
-access-again : (a : List ℕ) → length a ≡ 5 → inOwnPlaces fiveLetters a ≡ true → Again a
+access-again : (a : List ℕ) → length a ≡ 5 → inOwnPlaces fiveLetters a ≡ true → inPlaces fiveLetters (modesOf a) ≡ map lowerCase a
 unfolding comesBack
-access-again a n own =
-    let h = and-both _ _ (every-way fiveLetters comesBack a all-come-back five-alone n own) in
-    let i = and-both _ _ (h .1) in
-    record { lower = same-equal _ _ (h .0); no-b = i .0; few = leb-true _ _ (i .1) }
+access-again a n own = same-equal _ _ (every-way fiveLetters comesBack a all-come-back five-alone n own)
 
--- modes without b, as access bytes, are in their own places and are those modes again: computed at all 64
+-- modes that a table may store, as access bytes, are in their own places and are those modes again: computed at all 64
 isAgain : ℕ → Bool
-isAgain m = has m bringUpLetter || (inOwnPlaces fiveLetters (inPlaces fiveLetters m) && eqb (modesOf (inPlaces fiveLetters m)) m)
+isAgain m = not (knownModes m) || (inOwnPlaces fiveLetters (inPlaces fiveLetters m) && eqb (modesOf (inPlaces fiveLetters m)) m)
 
 all-again : all isAgain (entries (λ (k : ℕ). k) 64) ≡ true
-unfolding all entries isAgain inOwnPlaces allowedByte modesOf bitOf
+unfolding all entries isAgain inOwnPlaces allowedByte modesOf bitOf knownModes
 all-again = refl
 
-modes-again : (m : ℕ) → m < 64 → not (has m bringUpLetter) ≡ true → (inOwnPlaces fiveLetters (inPlaces fiveLetters m) ≡ true) × (modesOf (inPlaces fiveLetters m) ≡ m)
+modes-again : (m : ℕ) → knownModes m ≡ true → (inOwnPlaces fiveLetters (inPlaces fiveLetters m) ≡ true) × (modesOf (inPlaces fiveLetters m) ≡ m)
 unfolding isAgain
-modes-again m h none = let e = by-test (has m bringUpLetter) (not-true (has m bringUpLetter) none) (below isAgain 64 all-again m h) in (e .0, eqb-true _ _ (e .1))
-  where
-    by-test :
-        (t : Bool) →
-        t ≡ false →
-        (t || (inOwnPlaces fiveLetters (inPlaces fiveLetters m) && eqb (modesOf (inPlaces fiveLetters m)) m)) ≡ true →
-        (inOwnPlaces fiveLetters (inPlaces fiveLetters m) ≡ true) × (eqb (modesOf (inPlaces fiveLetters m)) m ≡ true)
-    by-test true i q = absurd (no (sym i))
-    by-test false i q = and-both _ _ q
+modes-again m h =
+    let e = below isAgain 64 all-again m (known-is m .0 h .0) in
+    let g = rw h at e in
+    let i = and-both (inOwnPlaces fiveLetters (inPlaces fiveLetters m)) (eqb (modesOf (inPlaces fiveLetters m)) m) g in
+    (i .0, eqb-true _ _ (i .1))
 
 -- ---- the place of a label
 
@@ -216,9 +204,14 @@ made-of s o a t = by-test (wellFormed s) refl (wellFormed o) refl (inOwnPlaces f
         Made s o a t
     by-test true p true q true i e = by-same (sameBytes s o) refl e
       where
-        by-same : (w : Bool) → sameBytes s o ≡ w → asLine (cond w (said.refused sameLabels) (rule s o (modesOf a))) ≡ text t → Made s o a t
+        stored : storedModes (modesOf a) ≡ modesOf a
+        stored = known-stored (modesOf a) (own-modes a i)
+
+        by-same : (w : Bool) → sameBytes s o ≡ w → asLine (cond w (said.refused sameLabels) (rule s o (storedModes (modesOf a)))) ≡ text t → Made s o a t
         by-same true k e = let z : _≡_ {A = ℕ} 0 1 = cc in absurd (omega arith)
-        by-same false k e = record { taken = record { subject = p; object = q; apart = k }; own = i; says = rw (p, q, i, k); made = cc }
+        by-same false k e =
+            let z : textOf s o (modesText (storedModes (modesOf a))) ≡ t = cc in
+            record { taken = record { subject = p; object = q; apart = k }; own = i; says = rw (p, q, i, k, stored); made = sym z ∙ rw stored }
     by-test true p true q false i e = let z : _≡_ {A = ℕ} 0 1 = cc in absurd (omega arith)
     by-test true p false q z i e = let z : _≡_ {A = ℕ} 0 1 = cc in absurd (omega arith)
     by-test false p y q z i e = let z : _≡_ {A = ℕ} 0 1 = cc in absurd (omega arith)
@@ -258,10 +251,10 @@ module _ (r t : List ℕ) (e : lineFrom r ≡ text t) where
   whole : Whole r
   whole = whole-is r (this .whole)
 
-  known : modesIn r < 64
-  known = six-letters .no-other (accessBytes r)
+  known : knownModes (modesIn r) ≡ true
+  known = own-modes (accessBytes r) (this .made .own)
 
-  again : Again (accessBytes r)
+  again : inPlaces fiveLetters (modesIn r) ≡ map lowerCase (accessBytes r)
   again = access-again (accessBytes r) (omega (arith, length-drop accessFrom r, whole .long)) (this .made .own)
 
   line : List ℕ
@@ -283,17 +276,17 @@ module _ (r t : List ℕ) (e : lineFrom r ≡ text t) where
 
   line-bytes : length t ≤ 54
   unfolding line
-  line-bytes = rw ended (simp length-append (omega (arith, whole .subject .short, whole .object .short, again .few)))
+  line-bytes = rw ended (simp length-append (omega (arith, whole .subject .short, whole .object .short, text-long (modesIn r))))
 
   -- and the record of that rule: the same in lower case
-  fits : fitsARecord (subjectIn r) (objectIn r) (modesIn r) ≡ true
+  fits : fitsARecord (subjectIn r) (objectIn r) ≡ true
   unfolding fitsARecord
-  fits = rw (le-leb (length (subjectIn r)) recordLabel (whole .subject .short), le-leb (length (objectIn r)) recordLabel (whole .object .short)) (again .no-b)
+  fits = rw (le-leb (length (subjectIn r)) recordLabel (whole .subject .short), le-leb (length (objectIn r)) recordLabel (whole .object .short))
 
   lower-again : recordOf (subjectIn r) (objectIn r) (modesIn r) ≡ lowered r
   unfolding recordOf
   lower-again =
-      rw (← whole .subject .is, ← whole .object .is, again .lower)
+      rw (← whole .subject .is, ← whole .object .is, again)
       (sym (append-assoc (subjectPlace r) (objectPlace r) (map lowerCase (accessBytes r))) ∙ ap (λ (x : List ℕ). x ++ map lowerCase (accessBytes r)) (sym (take-add labelPlace labelPlace r)))
 
   record-and-back : recordFrom t ≡ text (lowered r)
@@ -318,13 +311,12 @@ says-record r s o m e =
 -- ---- a rule's record
 
 -- of a rule that fits: 53 bytes, which say the rule
-module _ (s o : List ℕ) (m : ℕ) (taken : Taken s o) (known : m < 64) (fit : fitsARecord s o m ≡ true) where
-  fit-is : (length s ≤ recordLabel) × (length o ≤ recordLabel) × (not (has m bringUpLetter) ≡ true)
+module _ (s o : List ℕ) (m : ℕ) (taken : Taken s o) (known : knownModes m ≡ true) (fit : fitsARecord s o ≡ true) where
+  fit-is : (length s ≤ recordLabel) × (length o ≤ recordLabel)
   unfolding fitsARecord
   fit-is =
-      let h = and-both (leb (length s) recordLabel) (leb (length o) recordLabel && not (has m bringUpLetter)) fit in
-      let i = and-both (leb (length o) recordLabel) (not (has m bringUpLetter)) (h .1) in
-      (leb-true (length s) recordLabel (h .0), leb-true (length o) recordLabel (i .0), i .1)
+      let h = and-both (leb (length s) recordLabel) (leb (length o) recordLabel) fit in
+      (leb-true (length s) recordLabel (h .0), leb-true (length o) recordLabel (h .1))
 
   long-subject : length (filled s) ≡ labelPlace
   long-subject = filled-length s (fit-is .0)
@@ -358,8 +350,8 @@ module _ (s o : List ℕ) (m : ℕ) (taken : Taken s o) (known : m < 64) (fit : 
   says-again : recordSays (recordOf s o m) ≡ rule s o m
   unfolding recordSays
   says-again =
-      let a = modes-again m known (fit-is .2) in
-      rw (whole-again, subject-part, object-part, access-part, place-label s (taken .subject), place-label o (taken .object), taken .subject, taken .object, a .0, a .1, taken .apart)
+      let a = modes-again m known in
+      rw (whole-again, subject-part, object-part, access-part, place-label s (taken .subject), place-label o (taken .object), taken .subject, taken .object, a .0, a .1, taken .apart, known-stored m known)
 
 -- ---- an accepted line
 
@@ -372,9 +364,9 @@ fitted : (x : Said) (t : List ℕ) → Sound x → ofRule ifItFits x ≡ text t 
 fitted said.skipped t h e = let z : _≡_ {A = ℕ} 0 1 = cc in absurd (omega arith)
 fitted (said.refused n) t h e = let z : _≡_ {A = ℕ} 0 1 = cc in absurd (omega arith)
 fitted (said.change s o a d) t h e = let z : _≡_ {A = ℕ} 0 1 = cc in absurd (omega arith)
-fitted (said.rule s o m) t h e = by-test (fitsARecord s o m) refl e
+fitted (said.rule s o m) t h e = by-test (fitsARecord s o) refl e
   where
-    by-test : (b : Bool) → fitsARecord s o m ≡ b → cond b (text (recordOf s o m)) (refused 15) ≡ text t → Fitted (rule s o m) t
+    by-test : (b : Bool) → fitsARecord s o ≡ b → cond b (text (recordOf s o m)) (refused 15) ≡ text t → Fitted (rule s o m) t
     by-test true q e = let z : recordOf s o m ≡ t = cc in rw (← z) record { long = record-long s o m (h .0) (h .1) q; says = says-again s o m (h .0) (h .1) q }
     by-test false q e = let z : _≡_ {A = ℕ} 0 1 = cc in absurd (omega arith)
 
@@ -399,7 +391,7 @@ line-form r t e = in-form (λ s o m. text (listingLine s o m)) listingLine (reco
 
 record-form : (l t : List ℕ) → recordFrom l ≡ text t → InForm recordOf (ruleOf (withoutNewline l)) (text t)
 unfolding recordFrom
-record-form l t e = in-form ifItFits recordOf (ruleOf (withoutNewline l)) t (λ s o m q. by-test s o m (fitsARecord s o m) q) e
+record-form l t e = in-form ifItFits recordOf (ruleOf (withoutNewline l)) t (λ s o m q. by-test s o m (fitsARecord s o) q) e
   where
     by-test : (s o : List ℕ) (m : ℕ) (b : Bool) → cond b (text (recordOf s o m)) (refused 15) ≡ text t → text t ≡ text (recordOf s o m)
     by-test s o m true q = sym q
@@ -443,7 +435,7 @@ parts s o a h i j =
 
 -- ---- THE CLAIM
 
--- the two examples are computed
+-- the examples are computed
 pub old-records : OldRecords
 unfolding lineFrom recordSays isRecord isPlace placeLabel filled inOwnPlaces recordFrom withoutNewline recordOf fitsARecord sameBytes all wellFormed labelByte isBlank fields allowedByte bitOf modesOf readModes modesText ruleOf ruleBy textOf
 old-records =
@@ -466,4 +458,5 @@ old-records =
       counted = (refl, refl);
       example = refl;
       example-back = refl;
+      b-dropped = refl;
     }

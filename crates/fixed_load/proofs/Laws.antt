@@ -1,8 +1,8 @@
 -- Laws of the label places and the access bytes of a record, as the functions read and write them. Assumes nothing.
-use mathlib.Core.Path.{_≡_, refl, sym, ap, _∙_}
+use mathlib.Core.Path.{_≡_, refl, sym, ap, _∙_, subst}
 use mathlib.Core.Bool.{Bool, true, false, cond, not, _&&_, and-true}
 use mathlib.Core.List.{List, [], _∷_, _++_, foldl, append-assoc, append-nil}
-use Prim.Native.Nat.{ℕ, zero, suc, _+_, _-_, _/_, _<_, _≤_}
+use Prim.Native.Nat.{ℕ, zero, suc, _+_, _-_, _/_, _^_, _<_, _≤_}
 use native.Mathlib.Nat.{sub-zero, suc-sub-suc}
 use native.Mathlib.Numerals.{add-one}
 use native.Mathlib.Omega.{arith}
@@ -15,14 +15,14 @@ use lib.Seq.{length-take-le, getD-append-add, getD-drop, drop-cons, take-length,
 use Rattle.search.specs.Search.{all, entries}
 use Rattle.search.specs.Bytes.{sameBytes, written}
 use Rattle.search.specs.declared.Found.the-variants.{At, Nothing}
-use Rattle.search.proofs.Laws.{and-both, same-refl, same-equal, all-at, written-one, not-so}
+use Rattle.search.proofs.Laws.{no, and-both, same-refl, same-equal, all-at, written-one, not-so}
 use Rattle.refusals.specs.Refusals.{badLabel, badAccess, sameLabels}
 use Rattle.alphabet.specs.Alphabet.{space, dash, faultOf}
-use Rattle.modes.specs.Modes.{bitOf, allowedByte, modesOf, readModes, has, modesText}
+use Rattle.modes.specs.Modes.{bitOf, allowedByte, modesOf, readModes, has, modesText, knownModes}
 use Rattle.modes.specs.declared.Letter.{Letter}
 use Rattle.modes.specs.declared.Access.{Access}
 use Rattle.modes.specs.declared.Access.the-variants.{Modes, Bad}
-use Rattle.modes.proofs.Laws.{noLetter, letterAt, below, joined}
+use Rattle.modes.proofs.Laws.{noLetter, below, joined, known-is, known-or, known-stored, byte-known}
 use Rattle.fixed_load.specs.Records.{recordLabel, labelPlace, spaces, filled, placeLabel, isPlace, fiveLetters, inOwnPlaces, recordAccess, withoutNewline, inPlaces, recordSize, recordOf, fitsARecord, ifItFits, subjectPlace, objectPlace, accessBytes, isRecord, saidBy, recordSays, ofRule, asLine, lineFrom, recordFrom}
 use Rattle.alphabet.proofs.Laws.{fault-formed, fault-unformed}
 use Rattle.lines.specs.Lines as said
@@ -184,9 +184,9 @@ module _ (line : List ℕ) where
 
 -- ---- the access bytes: with i places passed, what is left is read with the modes m so far
 
--- the bit of place i: half of the one before
+-- the bit of place i: half of the one before, from that of r on
 abbrev pub placeBit : ℕ → ℕ
-placeBit i = letterAt i .bit
+placeBit i = 32 / 2 ^ i
 
 halfTest : ℕ → Bool
 halfTest i = eqb (placeBit i / 2) (placeBit (i + 1)) && eqb (getD fiveLetters i noLetter .bit) (placeBit i)
@@ -287,12 +287,12 @@ module _ (out₀ : List ℕ) (at m : ℕ) where
   placed-none = paste-zero out₀ at (inPlaces fiveLetters m)
 
   pub placed-more :
-      (out : List ℕ) (i : ℕ) → i < 5 → at + 10 ≤ length out₀ → m < 64 → out ≡ paste out₀ at (inPlaces fiveLetters m) i →
+      (out : List ℕ) (i : ℕ) → i < 5 → at + 9 ≤ length out₀ → knownModes m ≡ true → out ≡ paste out₀ at (inPlaces fiveLetters m) i →
       written out (at + i) (modesText (bitAnd m (placeBit i))) ≡ paste out₀ at (inPlaces fiveLetters m) (i + 1)
   placed-more out i h room known e =
       let long = places-length fiveLetters m in
       let kept : length out ≡ length out₀ = ap length e ∙ length-paste out₀ at (inPlaces fiveLetters m) i (omega arith) (omega (arith, long)) in
-      let byte = one-place m i known h ∙ ap (λ (b : ℕ). b ∷ []) (sym (places-at fiveLetters m i h)) in
+      let byte = one-place m i (known-is m .0 known .0) h ∙ ap (λ (b : ℕ). b ∷ []) (sym (places-at fiveLetters m i h)) in
       rw byte
       (sym (written-one out (at + i) (getD (inPlaces fiveLetters m) i 0) (omega (arith, kept)))
       ∙ rw (e, add-one i) (paste-suc out₀ at (inPlaces fiveLetters m) i 0 (omega arith) (omega (arith, long))))
@@ -314,14 +314,9 @@ module _ (s o : List ℕ) (m : ℕ) where
   unfolding fitsARecord
   long-object h i = rw (le-leb (length s) recordLabel h, lt-leb (length o) recordLabel i)
 
-  module _ (h : length s ≤ recordLabel) (i : length o ≤ recordLabel) where
-    pub has-b : (bitAnd m 1 ≡ 0 → ⊥) → ifItFits s o m ≡ refused 15
-    unfolding fitsARecord
-    has-b f = rw (le-leb (length s) recordLabel h, le-leb (length o) recordLabel i, ne-eqb (bitAnd m 1) 0 f)
-
-    pub it-fits : bitAnd m 1 ≡ 0 → ifItFits s o m ≡ text (recordOf s o m)
-    unfolding fitsARecord
-    it-fits e = rw (le-leb (length s) recordLabel h, le-leb (length o) recordLabel i, eq-eqb (bitAnd m 1) 0 e)
+  pub it-fits : length s ≤ recordLabel → length o ≤ recordLabel → ifItFits s o m ≡ text (recordOf s o m)
+  unfolding fitsARecord
+  it-fits h i = rw (le-leb (length s) recordLabel h, le-leb (length o) recordLabel i)
 
 -- one text written over the front of another, and behind a first part
 spaces-drop : (n k : ℕ) → k ≤ n → drop k (spaces n) ≡ spaces (n - k)
@@ -351,7 +346,7 @@ pub record-built :
     (s o : List ℕ) (m : ℕ) (x y z : List ℕ) →
     length s ≤ recordLabel →
     length o ≤ recordLabel →
-    x ≡ written (spaces 58) 0 s →
+    x ≡ written (spaces 57) 0 s →
     y ≡ written x labelPlace o →
     z ≡ written y 48 (inPlaces fiveLetters m) →
     take recordSize z ≡ recordOf s o m
@@ -359,22 +354,22 @@ unfolding recordOf filled
 record-built s o m x y z h i a b c =
     let p = inPlaces fiveLetters m in
     let five = places-length fiveLetters m in
-    let x-is : x ≡ filled s ++ (spaces labelPlace ++ spaces 10) = a ∙ written-front labelPlace s (spaces labelPlace ++ spaces 10) (omega arith) in
-    let y-is : y ≡ (filled s ++ filled o) ++ spaces 10 =
+    let x-is : x ≡ filled s ++ (spaces labelPlace ++ spaces 9) = a ∙ written-front labelPlace s (spaces labelPlace ++ spaces 9) (omega arith) in
+    let y-is : y ≡ (filled s ++ filled o) ++ spaces 9 =
     b ∙ ap (λ (v : List ℕ). written v labelPlace o) x-is
-    ∙ written-behind (filled s) (spaces labelPlace ++ spaces 10) o labelPlace (filled-length s h)
-    ∙ ap (λ (v : List ℕ). filled s ++ v) (written-front labelPlace o (spaces 10) (omega arith))
-    ∙ sym (append-assoc (filled s) (filled o) (spaces 10)) in
+    ∙ written-behind (filled s) (spaces labelPlace ++ spaces 9) o labelPlace (filled-length s h)
+    ∙ ap (λ (v : List ℕ). filled s ++ v) (written-front labelPlace o (spaces 9) (omega arith))
+    ∙ sym (append-assoc (filled s) (filled o) (spaces 9)) in
     let both : length (filled s ++ filled o) ≡ 48 = length-append (filled s) (filled o) ∙ omega (arith, filled-length s h, filled-length o i) in
-    let z-is : z ≡ ((filled s ++ filled o) ++ p) ++ spaces (10 - length p) =
-    c ∙ ap (λ (v : List ℕ). written v 48 p) y-is ∙ written-behind (filled s ++ filled o) (spaces 10) p 48 both
+    let z-is : z ≡ ((filled s ++ filled o) ++ p) ++ spaces (9 - length p) =
+    c ∙ ap (λ (v : List ℕ). written v 48 p) y-is ∙ written-behind (filled s ++ filled o) (spaces 9) p 48 both
     ∙ ap (λ (v : List ℕ). (filled s ++ filled o) ++ v) (last-part p (omega (arith, five)))
-    ∙ sym (append-assoc (filled s ++ filled o) p (spaces (10 - length p))) in
+    ∙ sym (append-assoc (filled s ++ filled o) p (spaces (9 - length p))) in
     let long : length ((filled s ++ filled o) ++ p) ≡ recordSize = length-append (filled s ++ filled o) p ∙ omega (arith, both, five) in
-    ap (take recordSize) z-is ∙ take-at ((filled s ++ filled o) ++ p) (spaces (10 - length p)) recordSize long ∙ append-assoc (filled s) (filled o) p
+    ap (take recordSize) z-is ∙ take-at ((filled s ++ filled o) ++ p) (spaces (9 - length p)) recordSize long ∙ append-assoc (filled s) (filled o) p
   where
-    last-part : (l : List ℕ) → length l ≤ 10 → written (spaces 10) 0 l ≡ l ++ spaces (10 - length l)
-    last-part l h = written-front 10 l [] h ∙ append-nil (l ++ spaces (10 - length l))
+    last-part : (l : List ℕ) → length l ≤ 9 → written (spaces 9) 0 l ≡ l ++ spaces (9 - length l)
+    last-part l h = written-front 9 l [] h ∙ append-nil (l ++ spaces (9 - length l))
 
 -- ---- what a line says, turned into a record
 
@@ -391,6 +386,31 @@ module _ (line text : List ℕ) (taken-off : text ≡ withoutNewline line) where
 pub as-answered : (x y : Text) (out : List ℕ) → x ≡ y → (textAnswer y out ≡ textAnswer x out) × (textOut y out ≡ textOut x out)
 as-answered x y out e = (ap (λ (t : Text). textAnswer t out) (sym e), ap (λ (t : Text). textOut t out) (sym e))
 
+-- ---- the modes of access bytes in their own places are such as a table may store
+
+own-known :
+    (ls : List Letter) (a : List ℕ) (m : ℕ) →
+    all (λ (l : Letter). knownModes (l .bit)) ls ≡ true → inOwnPlaces ls a ≡ true → knownModes m ≡ true → knownModes (foldl joined m a) ≡ true
+unfolding all inOwnPlaces
+own-known [] [] m k own h = h
+own-known [] (b ∷ bs) m k own h = absurd (no own)
+own-known (l ∷ ls) [] m k own h = h
+own-known (l ∷ ls) (b ∷ bs) m k own h =
+    let f = and-both (knownModes (l .bit)) (all (λ (x : Letter). knownModes (x .bit)) ls) k in
+    let o = and-both (allowedByte (l .bit) true b) (inOwnPlaces ls bs) own in
+    own-known ls bs (joined m b) (f .1) (o .1) (known-or m (bitOf b) h (byte-known (l .bit) true (f .0) b (o .0)))
+
+pub own-modes : (a : List ℕ) → inOwnPlaces fiveLetters a ≡ true → knownModes (modesOf a) ≡ true
+unfolding modesOf knownModes all
+own-modes a own = own-known fiveLetters a 0 refl own refl
+
+own-access : (a : List ℕ) (m : ℕ) → recordAccess a ≡ Modes m → knownModes m ≡ true
+own-access a m e = by-test (inOwnPlaces fiveLetters a) refl e
+  where
+    by-test : (t : Bool) → inOwnPlaces fiveLetters a ≡ t → cond t (Modes (modesOf a)) Bad ≡ Modes m → knownModes m ≡ true
+    by-test true own q = let z : modesOf a ≡ m = cc in subst (λ (x : ℕ). knownModes x ≡ true) z (own-modes a own)
+    by-test false own q = let z : _≡_ {A = ℕ} 0 1 = cc in absurd (omega arith)
+
 -- ---- what two labels and the access bytes say
 
 module _ (s o access : List ℕ) where
@@ -406,7 +426,7 @@ module _ (s o access : List ℕ) where
       bad-access e = rw (fault-formed s f, fault-formed o g, e)
 
       pub by-labels : (m : ℕ) → recordAccess access ≡ Modes m → (t : Bool) → sameBytes s o ≡ t → saidBy s o access ≡ cond t (said.refused sameLabels) (said.rule s o m)
-      by-labels m e t q = rw (fault-formed s f, fault-formed o g, e, q)
+      by-labels m e t q = rw (fault-formed s f, fault-formed o g, e, q, known-stored m (own-access access m e))
 
 -- ---- what a record says
 

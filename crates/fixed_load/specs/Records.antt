@@ -1,7 +1,7 @@
 -- 02, One: old fixed records. A rule as a record of 53 bytes, the source's fixed load form, turned into a rule line and back. Assumes nothing.
 use Prim.Native.Nat.{ℕ, zero, suc, _+_, _-_, _≤_}
 use mathlib.Core.Path.{_≡_}
-use mathlib.Core.Bool.{Bool, true, false, cond, not, _&&_}
+use mathlib.Core.Bool.{Bool, true, false, cond, _&&_}
 use mathlib.Core.List.{List, [], _∷_, _++_, map}
 use lib.ListN.{length, take, drop, getD}
 use lib.Dec.{eqb, leb}
@@ -9,7 +9,7 @@ use Rattle.refusals.specs.Refusals.{wrongFields, badLabel, badRecord, notInARec
 use Rattle.search.specs.Bytes.{ascii, sameBytes}
 use Rattle.alphabet.specs.Alphabet.{space, newline, dash, isNewline, wellFormed}
 use Rattle.text_lines.specs.TextLines.{lines}
-use Rattle.modes.specs.Modes.{letters, allowedByte, modesOf, has, modesText, bringUpLetter}
+use Rattle.modes.specs.Modes.{letters, allowedByte, modesOf, has, modesText}
 use Rattle.modes.specs.declared.Letter.{Letter}
 use Rattle.modes.specs.declared.Access.{Access}
 use Rattle.modes.specs.declared.Access.the-variants.{Modes, Bad}
@@ -126,12 +126,12 @@ unfoldable pub recordOf : List ℕ → List ℕ → ℕ → List ℕ
 unfolding filled
 recordOf s o m = filled s ++ (filled o ++ inPlaces fiveLetters m)
 
--- a label over 23 bytes, and the letter b, have no place in a record
-unfoldable pub fitsARecord : List ℕ → List ℕ → ℕ → Bool
-fitsARecord s o m = leb (length s) recordLabel && (leb (length o) recordLabel && not (has m bringUpLetter))
+-- a label over 23 bytes has no place in a record (02, Six: a b in the line is dropped)
+unfoldable pub fitsARecord : List ℕ → List ℕ → Bool
+fitsARecord s o = leb (length s) recordLabel && leb (length o) recordLabel
 
 abbrev pub ifItFits : List ℕ → List ℕ → ℕ → Text
-ifItFits s o m = cond (fitsARecord s o m) (text (recordOf s o m)) (refused (notInARecord .number))
+ifItFits s o m = cond (fitsARecord s o) (text (recordOf s o m)) (refused (notInARecord .number))
 
 unfoldable pub recordFrom : List ℕ → Text
 unfolding withoutNewline recordOf fitsARecord
@@ -204,3 +204,5 @@ pub record OldRecords : Type 0 where
   -- one each way, byte by byte
   pub example : lineFrom (ascii "Probe-North             Store                   Rw-aT") ≡ text (ascii "Probe-North Store rwat\n")
   pub example-back : recordFrom (ascii " Store  ^ xR-") ≡ text (ascii "Store                   ^                       r-x--")
+  -- 02, Six: b is dropped
+  pub b-dropped : recordFrom (ascii "Store ^ Brb") ≡ text (ascii "Store                   ^                       r----")

@@ -5,8 +5,10 @@ use modes::Access;
 use output::Output;
 use search::Found;
 ghost use mathlib.Core.Path.{_≡_};
+ghost use mathlib.Core.Bool.{true};
 ghost use Prim.Native.Nat.{_+_, _<_, _≤_};
 ghost use lib.ListN.{length};
+ghost use Rattle.modes.specs.Modes.{knownModes};
 ghost use Rattle.search.specs.Bytes.{written};
 ghost use Rattle.alphabet.specs.Alphabet.{labelLongest};
 ghost use Rattle.output.specs.Output.{textAnswer, textOut};
@@ -70,10 +72,10 @@ fn read_access(access: &[u8]) -> Access
     Access::Modes(modes)
 }
 
-// Writes modes as access bytes from index `at`, each the letter of its place or a dash. Who calls it has made sure that there is room for ten, since
-// `write_modes` wants room for six from the fifth of them on too.
+// Writes modes as access bytes from index `at`, each the letter of its place or a dash. Who calls it has made sure that there is room for nine, since
+// `write_modes` wants room for five from the fifth of them on too.
 fn write_access(out: &mut [u8], at: usize, modes: u8)
-    requires { ⌜ (at + 10 ≤ length (now out)) × (modes < 64) ⌝ }
+    requires { ⌜ (at + 9 ≤ length (now out)) × (knownModes modes ≡ true) ⌝ }
     ensures { λ _. ⌜ now (out .exit) ≡ written (now (out .entry)) at (inPlaces fiveLetters modes) ⌝ }
 {
     let mut bit = modes::READ;
@@ -103,7 +105,7 @@ fn put_line(out: &mut [u8], subject: &[u8], object: &[u8], access: &[u8]) -> Out
     if search::same_bytes(subject, object) {
         return Output::Refused(refusals::SAME_LABELS.number);
     }
-    let mut text = [0u8; 6];
+    let mut text = [0u8; 5];
     let n = modes::write_modes(&mut text, 0, m);
     rule_text::put_text(out, subject, object, &text[0..n])
 }
@@ -144,9 +146,9 @@ fn without_newline<'a>(line: &'a [u8]) -> &'a [u8]
     &line[0..count - 1]
 }
 
-// A rule as a record at the front of `out`, or refused where a label is over 23 bytes or the modes have b.
+// A rule as a record at the front of `out`, or refused where a label is over 23 bytes.
 fn put_record(out: &mut [u8], subject: &[u8], object: &[u8], modes: u8) -> Output
-    requires { ⌜ modes < 64 ⌝ }
+    requires { ⌜ knownModes modes ≡ true ⌝ }
     ensures { λ r. ⌜ r ≡ textAnswer (ifItFits (now (subject .entry)) (now (object .entry)) modes) (now (out .entry)) ⌝ }
     ensures { λ _. ⌜ now (out .exit) ≡ textOut (ifItFits (now (subject .entry)) (now (object .entry)) modes) (now (out .entry)) ⌝ }
 {
@@ -156,11 +158,8 @@ fn put_record(out: &mut [u8], subject: &[u8], object: &[u8], modes: u8) -> Outpu
     if RECORD_LABEL < object.len() {
         return Output::Refused(refusals::NOT_IN_A_RECORD.number);
     }
-    if modes & modes::BRING_UP != 0 {
-        return Output::Refused(refusals::NOT_IN_A_RECORD.number);
-    }
     // 53 bytes, and as many more as `write_access` wants.
-    let mut text = [alphabet::SPACE; 58];
+    let mut text = [alphabet::SPACE; 57];
     search::copy_at(&mut text, 0, subject);
     search::copy_at(&mut text, LABEL_PLACE, object);
     write_access(&mut text, ACCESS_FROM, modes);
@@ -177,7 +176,7 @@ pub fn line_to_record(line: &[u8], out: &mut [u8]) -> Output
     match said {
         RuleLine::Skipped => Output::Refused(refusals::WRONG_FIELDS.number),
         RuleLine::Refused(refusal) => Output::Refused(refusal.number),
-        RuleLine::Rule(pair, m) => {
+        RuleLine::Rule(pair, m, _) => {
             let a = pair.subject.start;
             let b = pair.subject.end;
             let c = pair.object.start;

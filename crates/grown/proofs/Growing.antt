@@ -18,6 +18,7 @@ use Rattle.refusals.specs.Refusals.{tooLong, badLabelAt}
 use Rattle.alphabet.specs.Alphabet.{wellFormed, fields, badByte}
 use Rattle.numbers.specs.Categories.{isMappingLevel, noCategories, knownSet, InWords}
 use Rattle.numbers.specs.declared.CategorySet.{CategorySet}
+use Rattle.modes.specs.Modes.{knownModes}
 use Rattle.store.specs.declared.Rule.{Rule}
 use Rattle.store.specs.declared.Mapping.{Mapping}
 use Rattle.store.proofs.Pairs.{enter-front, enter-length, enter-number, enter-once, enter-all}
@@ -63,11 +64,11 @@ module _ (n : ℕ) where
   revoked-pair r q = rw (same-subject r, same-object r, same-subject q, same-object q)
 
   revoked-sound : (k : ℕ) (r : Rule) → soundRule k r ≡ true → soundRule k (revokedRule n r) ≡ true
-  unfolding soundRule
+  unfolding soundRule knownModes
   revoked-sound k r e = by-test (hasSubject n r)
     where
       by-test : (b : Bool) → soundRule k (cond b (record { subject = r .subject; object = r .object; modes = 0 }) r) ≡ true
-      by-test true = rw (and-both (ltb (r .subject) k && ltb (r .object) k) (ltb (r .modes) 64) e .0)
+      by-test true = rw (and-both (ltb (r .subject) k && ltb (r .object) k) (knownModes (r .modes)) e .0)
       by-test false = e
 
   cleared-sane : (t : Table) → Sane t → Sane (withoutModes t (At n))

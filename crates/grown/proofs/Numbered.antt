@@ -12,7 +12,7 @@ use Rattle.search.specs.declared.Found.{Found}
 use Rattle.search.specs.declared.Found.the-variants.{At, Nothing}
 use Rattle.search.proofs.Laws.{all-at}
 use Rattle.alphabet.specs.Alphabet.{newline, wellFormed, fields}
-use Rattle.modes.specs.Modes.{modesText, readModes, ruleLetters}
+use Rattle.modes.specs.Modes.{modesText, readModes, lineLetters, knownModes}
 use Rattle.modes.specs.declared.Access.the-variants.{Modes}
 use Rattle.modes.proofs.Laws.{text-read}
 use Rattle.store.specs.Table.{Table, withLabels, labelIn, labelNumbered, ruleNumbered}
@@ -79,7 +79,7 @@ module _ (st : Store) (undamaged : undamagedOf st ≡ true) (h : Sane (tableOf s
   lineNumbered k = lineOf (subject k) (object k) (modesText (modes k))
 
   module _ (k : ℕ) (below : k < length (t .rules)) where
-    known : (ruleNumbered t k .subject < length (t .labels)) × (ruleNumbered t k .object < length (t .labels)) × (modes k < 64)
+    known : (ruleNumbered t k .subject < length (t .labels)) × (ruleNumbered t k .object < length (t .labels)) × (knownModes (modes k) ≡ true)
     known = stored-known t (length (t .labels)) (h .sound) k below
 
     -- it is written as one line with these fields
@@ -151,7 +151,7 @@ module _ (st : Store) (undamaged : undamagedOf st ≡ true) (h : Sane (tableOf s
         by-case (At k) e = absurd (none k (found-listed k e))
         by-case Nothing e = refl
 
-    says : (k : ℕ) (w : ListedAs st out k s o) → (readModes ruleLetters true (w .access) ≡ Modes (modes k)) × (modesBetween t s o ≡ has-modes (modes k))
+    says : (k : ℕ) (w : ListedAs st out k s o) → (readModes lineLetters true (w .access) ≡ Modes (modes k)) × (modesBetween t s o ≡ has-modes (modes k))
     says k w =
         let r = read k s o w in
         (rw (r .same-access) (text-read (modes k) (known k (r .below) .2)), rw (r .same-subject, r .same-object) (says-itself k (r .below)))

@@ -65,15 +65,15 @@ first-told ls (suc k) v f =
 
 module _ (t : Table) (s o : List ℕ) (wanted : ℕ) where
   -- each says its own number
-  granted-number : (k : ℕ) → k < 7 → (n : ℕ) (b : Bool) → getD (sevenRules t s o wanted) k none .says ≡ Grants n b → n ≡ suc k
-  granted-number zero h n b e = let z : _≡_ {A = ℕ} 0 1 = cc in absurd (omega arith)
-  granted-number (suc zero) h n b e = cc
-  granted-number (suc (suc zero)) h n b e = cc
-  granted-number (suc (suc (suc zero))) h n b e = cc
-  granted-number (suc (suc (suc (suc zero)))) h n b e = cc
-  granted-number (suc (suc (suc (suc (suc zero))))) h n b e = cc
-  granted-number (suc (suc (suc (suc (suc (suc zero)))))) h n b e = let z : _≡_ {A = ℕ} 0 1 = cc in absurd (omega arith)
-  granted-number (suc (suc (suc (suc (suc (suc (suc k))))))) h n b e = absurd (omega arith)
+  granted-number : (k : ℕ) → k < 7 → (n : ℕ) → getD (sevenRules t s o wanted) k none .says ≡ Grants n → n ≡ suc k
+  granted-number zero h n e = let z : _≡_ {A = ℕ} 0 1 = cc in absurd (omega arith)
+  granted-number (suc zero) h n e = cc
+  granted-number (suc (suc zero)) h n e = cc
+  granted-number (suc (suc (suc zero))) h n e = cc
+  granted-number (suc (suc (suc (suc zero)))) h n e = cc
+  granted-number (suc (suc (suc (suc (suc zero))))) h n e = cc
+  granted-number (suc (suc (suc (suc (suc (suc zero)))))) h n e = let z : _≡_ {A = ℕ} 0 1 = cc in absurd (omega arith)
+  granted-number (suc (suc (suc (suc (suc (suc (suc k))))))) h n e = absurd (omega arith)
 
   denied-number : (k : ℕ) → k < 7 → (by : Denial) → getD (sevenRules t s o wanted) k none .says ≡ Denies by → denialNumber by ≡ suc k
   denied-number zero h by e = let z : by ≡ StarSubject = cc in rw z
@@ -107,9 +107,9 @@ pub by-first :
     ByFirst t s o request capable wanted
 by-first t s o request capable wanted asks off =
     record {
-      granted = λ n b. (
-        λ e. first-numbered t s o wanted n (Grants n b) refl (λ k h. granted-number t s o wanted k h n b) (grants n b (firstOf (sevenRules t s o wanted)) (sym is ∙ e)),
-        λ f. is ∙ ap (answered false) (first-told (sevenRules t s o wanted) n (Grants n b) f),
+      granted = λ n. (
+        λ e. first-numbered t s o wanted n (Grants n) refl (λ k h. granted-number t s o wanted k h n) (grants n (firstOf (sevenRules t s o wanted)) (sym is ∙ e)),
+        λ f. is ∙ ap (answered false) (first-told (sevenRules t s o wanted) n (Grants n) f),
       );
       denied = λ by. (
         λ e. first-numbered t s o wanted (denialNumber by) (Denies by) refl (λ k h. denied-number t s o wanted k h by) (denies by (firstOf (sevenRules t s o wanted)) (all-decided t s o wanted) (sym is ∙ e)),
@@ -122,12 +122,12 @@ by-first t s o request capable wanted asks off =
         answer-is t s o request capable wanted (asks .subject) (asks .object) (asks .some) (asks .letters)
         ∙ ap (λ (b : Bool). answered b (firstOf (sevenRules t s o wanted))) off
 
-    grants : (n : ℕ) (b : Bool) (v : Verdict) → answered false v ≡ Granted n b → v ≡ Grants n b
-    grants n b (Grants m c) q = let x : m ≡ n = cc in let y : c ≡ b = cc in rw (x, y)
-    grants n b (Denies by) q = let z : _≡_ {A = ℕ} 0 1 = cc in absurd (omega arith)
-    grants n b Undecided q = let z : _≡_ {A = ℕ} 0 1 = cc in absurd (omega arith)
+    grants : (n : ℕ) (v : Verdict) → answered false v ≡ Granted n → v ≡ Grants n
+    grants n (Grants m) q = let x : m ≡ n = cc in rw x
+    grants n (Denies by) q = let z : _≡_ {A = ℕ} 0 1 = cc in absurd (omega arith)
+    grants n Undecided q = let z : _≡_ {A = ℕ} 0 1 = cc in absurd (omega arith)
 
     denies : (by : Denial) (v : Verdict) → decides v ≡ true → answered false v ≡ Denied by → v ≡ Denies by
-    denies by (Grants m c) d q = let z : _≡_ {A = ℕ} 0 1 = cc in absurd (omega arith)
+    denies by (Grants m) d q = let z : _≡_ {A = ℕ} 0 1 = cc in absurd (omega arith)
     denies by (Denies other) d q = let x : other ≡ by = cc in rw x
     denies by Undecided d q = absurd (no d)

@@ -16,7 +16,7 @@ use Rattle.search.specs.declared.Found.the-variants.{At, Nothing}
 use Rattle.search.proofs.Laws.{no, and-both, same-refl, same-equal, first-place, first-put, entries-length, first-put-other, found-put-other, put-at, not-so, Front, front-first, front-beyond}
 use Rattle.refusals.specs.Refusals.{tooLong, sameLabels, labelsFull, rulesFull, badLabelAt}
 use Rattle.alphabet.specs.Alphabet.{wellFormed, fields, badByteIn}
-use Rattle.modes.specs.Modes.{readModes, ruleLetters, changeLetters, requestLetters}
+use Rattle.modes.specs.Modes.{readModes, lineLetters, changeLetters, requestLetters, storedModes}
 use Rattle.modes.specs.declared.Access.{Access}
 use Rattle.modes.specs.declared.Access.the-variants.{Modes, Bad}
 use Rattle.store.specs.declared.Rule.{Rule}
@@ -248,8 +248,9 @@ triple-rule {text} {s} {o} {m} w =
       w .three,
       w .subject,
       w .object,
-      w .modes,
+      w .read,
       not-so (sameBytes s o) (λ e. w .different (same-equal s o e)),
+      w .modes,
     )
 
 -- and a line that says a rule is such a triple
@@ -263,24 +264,26 @@ rule-triple text s o m e = by-length (ltb 600 (length text)) refl e
         fields text ≡ x ∷ y ∷ a ∷ [] →
         wellFormed x ≡ true →
         wellFormed y ≡ true →
-        readModes ruleLetters true a ≡ Modes n →
+        readModes lineLetters true a ≡ Modes n →
         (b : Bool) →
         sameBytes x y ≡ b →
-        cond b (refused sameLabels) (rule x y n) ≡ rule s o m →
+        cond b (refused sameLabels) (rule x y (storedModes n)) ≡ rule s o m →
         Triple text s o m
     by-same x y a n short three fx fy r true q e = let z : _≡_ {A = ℕ} 0 1 = cc in absurd (omega arith)
     by-same x y a n short three fx fy r false q e =
         let i : x ≡ s = cc in
         let j : y ≡ o = cc in
-        let k : n ≡ m = cc in
-        rw (← i, ← j, ← k)
+        let k : storedModes n ≡ m = cc in
+        rw (← i, ← j)
         (record {
           short = short;
           access = a;
           three = three;
           subject = fx;
           object = fy;
-          modes = r;
+          letters = n;
+          read = r;
+          modes = k;
           different = λ z. no (sym q ∙ ap (λ (v : List ℕ). sameBytes v y) z ∙ same-refl y);
         })
 
@@ -291,7 +294,7 @@ rule-triple text s o m e = by-length (ltb 600 (length text)) refl e
         wellFormed x ≡ true →
         wellFormed y ≡ true →
         (v : Access) →
-        readModes ruleLetters true a ≡ v →
+        readModes lineLetters true a ≡ v →
         ruleWith x y v ≡ rule s o m →
         Triple text s o m
     by-access x y a short three fx fy (Modes n) r e = by-same x y a n short three fx fy r (sameBytes x y) refl e
@@ -305,9 +308,9 @@ rule-triple text s o m e = by-length (ltb 600 (length text)) refl e
         wellFormed x ≡ b →
         (c : Bool) →
         wellFormed y ≡ c →
-        cond (b && c) (ruleWith x y (readModes ruleLetters true a)) (refused (badLabelAt (badByteIn text))) ≡ rule s o m →
+        cond (b && c) (ruleWith x y (readModes lineLetters true a)) (refused (badLabelAt (badByteIn text))) ≡ rule s o m →
         Triple text s o m
-    by-formed x y a short three true fx true fy e = by-access x y a short three fx fy (readModes ruleLetters true a) refl e
+    by-formed x y a short three true fx true fy e = by-access x y a short three fx fy (readModes lineLetters true a) refl e
     by-formed x y a short three true fx false fy e = let z : _≡_ {A = ℕ} 0 1 = cc in absurd (omega arith)
     by-formed x y a short three false fx c fy e = let z : _≡_ {A = ℕ} 0 1 = cc in absurd (omega arith)
 

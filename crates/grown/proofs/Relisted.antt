@@ -1,7 +1,7 @@
 -- A listing loads back: each of its lines says its rule, which goes last, and there is room, since no label enters that the table has not.
 -- Assumes nothing.
 use mathlib.Core.Path.{_≡_, refl, sym, ap, _∙_, subst}
-use mathlib.Core.Bool.{true}
+use mathlib.Core.Bool.{true, false}
 use mathlib.Core.List.{List, [], _∷_, _++_, append-assoc, append-nil, foldl-append, map}
 use Prim.Native.Nat.{ℕ, _+_, _<_, _≤_}
 use native.Mathlib.Omega.{arith}
@@ -15,10 +15,10 @@ use Rattle.search.specs.declared.Found.{Found}
 use Rattle.search.specs.declared.Found.the-variants.{At, Nothing}
 use Rattle.search.proofs.Laws.{no, and-both, same-equal, not-so, all-at, all-by, first-is, front-first, map-at, map-same, map-snoc, distinct-fits}
 use Rattle.alphabet.specs.Alphabet.{newline, wellFormed}
-use Rattle.modes.specs.Modes.{modesText}
+use Rattle.modes.specs.Modes.{modesText, knownModes}
 use Rattle.store.specs.declared.Rule.{Rule}
 use Rattle.store.specs.Table.{Table, fresh, labelIn, enter, isPair, pairIn, soundRule, labelNumbered, ruleNumbered}
-use Rattle.lines.specs.Lines.{rule, ruleOf}
+use Rattle.lines.specs.Lines.{rule, ruleOf, bringUpIn}
 use Rattle.store.proofs.Pairs.{same-bytes, enter-once, enter-all}
 use Rattle.rules.specs.Rules.{pairLabels}
 use Rattle.lines.proofs.Laws.{Taken}
@@ -29,7 +29,7 @@ use Rattle.access.specs.Access.{isFound}
 use Rattle.lists.specs.Reader.{Reader, Totals, endLine, takeByte, takePiece, finish, limited, limitedTotals, done, report}
 use Rattle.lists.proofs.Lines.{line-ends}
 use Rattle.rule_text.specs.RuleText.{lineOf, textOf}
-use Rattle.rule_text.proofs.Laws.{noNewline, text-plain, text-says}
+use Rattle.rule_text.proofs.Laws.{noNewline, text-plain, text-says, text-no-b}
 use Rattle.listing.specs.Listing.{ruleText, textsOf, listing}
 use Rattle.grown.specs.Sane.{twoLabels, Sane}
 use Rattle.grown.specs.Pairs.{newLabels, hasRoom}
@@ -43,9 +43,9 @@ use Rattle.grown.proofs.Pairs.{pair-read, rule-accepted, accepted-as, l
 abbrev between : Table → ℕ → Reader
 between u n = record { table = u; kept = []; totals = allAccepted n }
 
-accepts : (u u′ : Table) (line : List ℕ) (n : ℕ) → all noNewline line ≡ true → judged u (ruleOf line) ≡ is-accepted u′ → takePiece (between u n) (line ++ (newline ∷ [])) ≡ between u′ (n + 1)
+accepts : (u u′ : Table) (line : List ℕ) (n : ℕ) → all noNewline line ≡ true → bringUpIn line ≡ false → judged u (ruleOf line) ≡ is-accepted u′ → takePiece (between u n) (line ++ (newline ∷ [])) ≡ between u′ (n + 1)
 unfolding endLine
-accepts u u′ line n plain e = line-ends (between u n) line plain ∙ rw e
+accepts u u′ line n plain no-b e = line-ends (between u n) line plain ∙ rw (e, no-b)
 
 -- ---- one rule more
 
@@ -85,8 +85,8 @@ module _ (t u : Table) (rs rest : List Rule) (r : Rule) (h : Sane t) (w : Loaded
   r-is : ruleNumbered t (length rs) ≡ r
   r-is = ap (λ (l : List Rule). getD l (length rs) none) is ∙ getD-at rs r rest none (length rs) refl
 
-  r-known : (r .subject < length (t .labels)) × (r .object < length (t .labels)) × (r .modes < 64)
-  r-known = subst (λ (x : Rule). (x .subject < length (t .labels)) × (x .object < length (t .labels)) × (x .modes < 64)) r-is (stored-known t (length (t .labels)) (h .sound) (length rs) at-end)
+  r-known : (r .subject < length (t .labels)) × (r .object < length (t .labels)) × (knownModes (r .modes) ≡ true)
+  r-known = subst (λ (x : Rule). (x .subject < length (t .labels)) × (x .object < length (t .labels)) × (knownModes (x .modes) ≡ true)) r-is (stored-known t (length (t .labels)) (h .sound) (length rs) at-end)
 
   s-number : labelIn t s ≡ At (r .subject)
   s-number = h .labels-once .label-once (r .subject) (r-known .0)
@@ -237,7 +237,7 @@ module _ (t u : Table) (rs rest : List Rule) (r : Rule) (h : Sane t) (w : Loaded
   next : takePiece (between u (length rs)) (ruleText t r) ≡ between (paired u s o m) (length (rs ++ (r ∷ [])))
   unfolding ruleText textOf
   next =
-      accepts u (paired u s o m) listed (length rs) (text-plain s o m taken (r-known .2)) accepted
+      accepts u (paired u s o m) listed (length rs) (text-plain s o m taken (r-known .2)) (text-no-b s o m taken (r-known .2)) accepted
       ∙ ap (between (paired u s o m)) (sym (length-append rs (r ∷ [])))
 
 -- ---- the whole listing

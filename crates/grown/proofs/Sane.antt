@@ -15,6 +15,7 @@ use Rattle.search.specs.declared.Found.{Found}
 use Rattle.search.specs.declared.Found.the-variants.{At, Nothing}
 use Rattle.search.proofs.Laws.{no, and-both, same-refl, same-equal, same-sym, all-at, all-put, first-is, length-put, Same, distinct-put, Front, front-more, front-length}
 use Rattle.alphabet.specs.Alphabet.{labelByte, wellFormed}
+use Rattle.modes.specs.Modes.{knownModes}
 use Rattle.store.specs.declared.Rule.{Rule}
 use Rattle.store.specs.Table.{Table, fresh, labelIn, labelsEntered, enter, isPair, pairIn, soundRule, soundMapping, soundTable, labelNumbered, ruleNumbered}
 use Rattle.store.proofs.Laws.{sound-more}
@@ -32,7 +33,7 @@ use Rattle.writes.specs.Writes.{changed, judged}
 use Rattle.writes.specs.Within.{settingAt}
 use Rattle.writes.specs.declared.Setting.the-variants as setting
 use Rattle.store.specs.Judged.{is-accepted}
-use Rattle.writes.proofs.Laws.{changed-small, rule-at, change-at}
+use Rattle.writes.proofs.Laws.{changed-known, rule-at, change-at}
 use Rattle.grown.specs.Sane.{twoLabels, Sane}
 
 -- ---- tests that tell labels and rules apart
@@ -86,9 +87,9 @@ pub sound-whole :
 unfolding soundTable
 sound-whole t n a b c = rw (a, b, c)
 
-sound-rule : (n : ℕ) (r : Rule) → r .subject < n → r .object < n → r .modes < 64 → soundRule n r ≡ true
+sound-rule : (n : ℕ) (r : Rule) → r .subject < n → r .object < n → knownModes (r .modes) ≡ true → soundRule n r ≡ true
 unfolding soundRule
-sound-rule n r a b c = rw (lt-ltb _ _ a, lt-ltb _ _ b, lt-ltb _ _ c)
+sound-rule n r a b c = rw (lt-ltb _ _ a, lt-ltb _ _ b, c)
 
 module _ (t : Table) (s o : List ℕ) where
   -- the numbers that the two labels have or get, and the place of their rule
@@ -142,8 +143,8 @@ module _ (t : Table) (s o : List ℕ) (taken : Taken s o) where
   unfolding placing
   pair-room spot e = placed (length (t .labels)) (length (t .rules)) (labelIn t s) (labelIn t o) (ruleOfPair t (labelIn t s) (labelIn t o)) spot e
 
-  pub pair-sound : (m : ℕ) → soundTable (length (t .labels)) t ≡ true → m < 64 → soundTable (length (pairLabels t s o)) (paired t s o m) ≡ true
-  pair-sound m sound small =
+  pub pair-sound : (m : ℕ) → soundTable (length (t .labels)) t ≡ true → knownModes m ≡ true → soundTable (length (pairLabels t s o)) (paired t s o m) ≡ true
+  pair-sound m sound known =
       let n = length (pairLabels t s o) in
       let a = sound-parts t n (sound-more (length (t .labels)) n (front-length pair-front) t sound) in
       let new : Rule = record { subject = subjectAt t s o; object = objectAt t s o; modes = m } in
@@ -154,10 +155,10 @@ module _ (t : Table) (s o : List ℕ) (taken : Taken s o) where
           sound-rule (length (pairLabels t s o)) (record { subject = subjectAt t s o; object = objectAt t s o; modes = m })
           (first-is (sameBytes s) [] (pairLabels t s o) (subjectAt t s o) subject-number .0)
           (first-is (sameBytes o) [] (pairLabels t s o) (objectAt t s o) object-number .0)
-          small
+          known
 
-  pub pair-sane : (m : ℕ) (spot : Spot) → Sane t → m < 64 → placing t s o ≡ p.At spot → Sane (paired t s o m)
-  pair-sane m spot h small e =
+  pub pair-sane : (m : ℕ) (spot : Spot) → Sane t → knownModes m ≡ true → placing t s o ≡ p.At spot → Sane (paired t s o m)
+  pair-sane m spot h known e =
       let room = pair-room spot e in
       let new : Rule = record { subject = subjectAt t s o; object = objectAt t s o; modes = m } in
       record {
@@ -169,7 +170,7 @@ module _ (t : Table) (s o : List ℕ) (taken : Taken s o) where
             };
         two-labels = all-put twoLabels (pairIn t (subjectAt t s o) (objectAt t s o)) (t .rules) new (h .two-labels) (rw (ne-eqb (subjectAt t s o) (objectAt t s o) pair-apart));
         pair-once = distinct-put samePair (record { subject = 0; object = 0; modes = 0 }) (t .rules) new same-pair (h .pair-once);
-        sound = pair-sound m (h .sound) small;
+        sound = pair-sound m (h .sound) known;
         mapping-once = h .mapping-once;
         levels = h .levels;
         in-words = h .in-words;
@@ -184,34 +185,35 @@ module _ (t : Table) (s o : List ℕ) (taken : Taken s o) where
 -- an accepted write that sets a pair to modes m
 pub record Paired (t t′ : Table) (s o : List ℕ) (m : ℕ) : Type 0 where
   pub taken : Taken s o
-  pub small : m < 64
+  pub known : knownModes m ≡ true
   pub spot : Spot
   pub at : placing t s o ≡ p.At spot
   pub is : t′ ≡ paired t s o m
 
 pub paired-sane : {t t′ : Table} {s o : List ℕ} {m : ℕ} → Sane t → Paired t t′ s o m → Sane t′
-paired-sane {t} {s = s} {o = o} {m = m} h q = subst Sane (sym (q .is)) (pair-sane t s o (q .taken) m (q .spot) h (q .small) (q .at))
+paired-sane {t} {s = s} {o = o} {m = m} h q = subst Sane (sym (q .is)) (pair-sane t s o (q .taken) m (q .spot) h (q .known) (q .at))
 
--- a stored rule names stored labels, and its modes are the six letters'
-pub rule-known : (n : ℕ) (r : Rule) → soundRule n r ≡ true → (r .subject < n) × (r .object < n) × (r .modes < 64)
+-- a stored rule names stored labels, and its modes are those of a rule's letters
+pub rule-known : (n : ℕ) (r : Rule) → soundRule n r ≡ true → (r .subject < n) × (r .object < n) × (knownModes (r .modes) ≡ true)
 unfolding soundRule
 rule-known n r e =
-    let a = and-both (ltb (r .subject) n && ltb (r .object) n) (ltb (r .modes) 64) e in
+    let a = and-both (ltb (r .subject) n && ltb (r .object) n) (knownModes (r .modes)) e in
     let b = and-both (ltb (r .subject) n) (ltb (r .object) n) (a .0) in
-    (ltb-true _ _ (b .0), ltb-true _ _ (b .1), ltb-true _ _ (a .1))
+    (ltb-true _ _ (b .0), ltb-true _ _ (b .1), a .1)
 
-pub stored-known : (t : Table) (n : ℕ) → soundTable n t ≡ true → (k : ℕ) → k < length (t .rules) → (ruleNumbered t k .subject < n) × (ruleNumbered t k .object < n) × (ruleNumbered t k .modes < 64)
+pub stored-known : (t : Table) (n : ℕ) → soundTable n t ≡ true → (k : ℕ) → k < length (t .rules) → (ruleNumbered t k .subject < n) × (ruleNumbered t k .object < n) × (knownModes (ruleNumbered t k .modes) ≡ true)
 stored-known t n sound k h = rule-known n (ruleNumbered t k) (all-at (soundRule n) (record { subject = 0; object = 0; modes = 0 }) (t .rules) (sound-parts t n sound .0) k h)
 
-pub modes-below : (t : Table) (n : ℕ) → soundTable n t ≡ true → (i j : ℕ) → modesOfRule (pairIn t i j) (t .rules) < 64
-modes-below t n sound i j = by-case (pairIn t i j) (first-is (isPair i j) (record { subject = 0; object = 0; modes = 0 }) (t .rules))
+pub modes-stored : (t : Table) (n : ℕ) → soundTable n t ≡ true → (i j : ℕ) → knownModes (modesOfRule (pairIn t i j) (t .rules)) ≡ true
+unfolding knownModes
+modes-stored t n sound i j = by-case (pairIn t i j) (first-is (isPair i j) (record { subject = 0; object = 0; modes = 0 }) (t .rules))
   where
     by-case :
         (f : Found) →
         ((k : ℕ) → f ≡ At k → (k < length (t .rules)) × (isPair i j (getD (t .rules) k (record { subject = 0; object = 0; modes = 0 })) ≡ true)) →
-        modesOfRule f (t .rules) < 64
+        knownModes (modesOfRule f (t .rules)) ≡ true
     by-case (At k) h = stored-known t n sound k (h k refl .0) .2
-    by-case Nothing h = omega arith
+    by-case Nothing h = refl
 
 -- a rule is set wholly
 pub rule-paired : (t t′ : Table) (s o : List ℕ) (m : ℕ) → soundTable (length (t .labels)) t ≡ true → Sound (rule s o m) → judged t (rule s o m) ≡ is-accepted t′ → Paired t t′ s o m
@@ -221,7 +223,7 @@ rule-paired t t′ s o m sound f e = by-place (placing t s o) refl (sym (rule-at
     by-place (p.Refused n) w e = let z : _≡_ {A = ℕ} 0 1 = cc in absurd (omega arith)
     by-place (p.At spot) w e =
         let z : withPairAt t s o spot m ≡ t′ = cc in
-        record { taken = f .0; small = f .1; spot = spot; at = w; is = sym z ∙ paired-is t s o (f .0) m spot w }
+        record { taken = f .0; known = f .1; spot = spot; at = w; is = sym z ∙ paired-is t s o (f .0) m spot w }
 
 -- a change starts from the modes that its pair has
 abbrev pub modesFrom : Table → List ℕ → List ℕ → ℕ
@@ -242,7 +244,7 @@ change-paired t t′ s o a d sound f e = by-place (placing t s o) refl (sym (cha
         let same = pair-room t s o (f .0) spot w .same in
         record {
           taken = f .0;
-          small = changed-small (modesFrom t s o) a d (modes-below t (length (t .labels)) sound (subjectAt t s o) (objectAt t s o)) (f .1) (f .2);
+          known = changed-known (modesFrom t s o) a d (modes-stored t (length (t .labels)) sound (subjectAt t s o) (objectAt t s o)) (f .1);
           spot = spot;
           at = w;
           is =

@@ -10,7 +10,7 @@ use Rattle.search.specs.Bytes.{sameBytes}
 use Rattle.search.specs.declared.Found.{Found}
 use Rattle.search.specs.declared.Found.the-variants.{At, Nothing}
 use Rattle.alphabet.specs.Alphabet.{newline, fields}
-use Rattle.modes.specs.Modes.{readModes, ruleLetters}
+use Rattle.modes.specs.Modes.{readModes, lineLetters}
 use Rattle.modes.specs.declared.Access.the-variants.{Modes}
 use Rattle.store.specs.Table.{Table, withLabels, labelIn}
 use Rattle.store.specs.Layout.{Store, tableOf}
@@ -53,5 +53,5 @@ pub record FindsListed (st : Store) (out s o : List ℕ) : Type 0 where
   pub unknown-subject : labelIn (tableOf st) s ≡ Nothing → (x : List ℕ) → Unlisted st out s x
   pub unknown-object : labelIn (tableOf st) o ≡ Nothing → (x : List ℕ) → Unlisted st out x o
   -- the modes that rule 6 looks at are those that the listed line's access field says; and where no line is listed the pair has no rule
-  pub modes : (k : ℕ) (listed : ListedAs st out k s o) (m : ℕ) → (readModes ruleLetters true (listed .access) ≡ Modes m) ↔ (modesBetween (tableOf st) s o ≡ has-modes m)
+  pub modes : (k : ℕ) (listed : ListedAs st out k s o) (m : ℕ) → (readModes lineLetters true (listed .access) ≡ Modes m) ↔ (modesBetween (tableOf st) s o ≡ has-modes m)
   pub no-modes : (modesBetween (tableOf st) s o ≡ no-rule) ↔ Unlisted st out s o

@@ -39,5 +39,5 @@ pub record FirstSays (rules : List Clause) (n : ℕ) (v : Verdict) : Type 0 wher
 
 -- granted by rule n exactly when rule n is the first of the seven that applies and it grants, and denied likewise
 pub record ByFirst (t : Table) (s o request : List ℕ) (capable : Bool) (wanted : ℕ) : Type 0 where
-  pub granted : (n : ℕ) (b : Bool) → (answer t s o request capable ≡ Granted n b) ↔ FirstSays (sevenRules t s o wanted) n (Grants n b)
+  pub granted : (n : ℕ) → (answer t s o request capable ≡ Granted n) ↔ FirstSays (sevenRules t s o wanted) n (Grants n)
   pub denied : (by : Denial) → (answer t s o request capable ≡ Denied by) ↔ FirstSays (sevenRules t s o wanted) (denialNumber by) (Denies by)

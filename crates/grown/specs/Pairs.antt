@@ -9,7 +9,7 @@ use lib.Dec.{leb, ltb}
 use Rattle.search.specs.declared.Found.{Found}
 use Rattle.search.specs.declared.Found.the-variants.{At, Nothing}
 use Rattle.alphabet.specs.Alphabet.{wellFormed, lineLimit, fields}
-use Rattle.modes.specs.Modes.{readModes, ruleLetters, changeLetters}
+use Rattle.modes.specs.Modes.{readModes, lineLetters, changeLetters, storedModes}
 use Rattle.modes.specs.declared.Access.the-variants.{Modes}
 use Rattle.store.specs.Table.{Table, labelIn, labelLimit, ruleLimit, soundTable}
 use Rattle.store.specs.Judged.{Judged, is-skipped, is-refused, is-accepted}
@@ -22,14 +22,17 @@ use Rattle.access.specs.Access.{effective, answer}
 abbrev pub SoundTable : Table → Type 0
 SoundTable t = soundTable (length (t .labels)) t ≡ true
 
--- a well-formed triple of two different labels, within the line length: subject, object and the modes that its access field says
+-- a well-formed triple of two different labels, within the line length: subject, object and the modes that its access field says, in which b is a
+-- placeholder (02, Six)
 pub record Triple (text s o : List ℕ) (m : ℕ) : Type 0 where
   pub short : length text ≤ lineLimit
   pub access : List ℕ
   pub three : fields text ≡ s ∷ o ∷ access ∷ []
   pub subject : wellFormed s ≡ true
   pub object : wellFormed o ≡ true
-  pub modes : readModes ruleLetters true access ≡ Modes m
+  pub letters : ℕ
+  pub read : readModes lineLetters true access ≡ Modes letters
+  pub modes : storedModes letters ≡ m
   pub different : s ≡ o → ⊥
 
 -- a well-formed change of two different labels, within the length: subject, object, and the modes that allow and deny say

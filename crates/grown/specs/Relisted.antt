@@ -32,9 +32,9 @@ spelled t = map (spell t) (t .rules)
 abbrev pub reload : List ℕ → List Call
 reload text = piece text ∷ end-call ∷ []
 
--- a report of n lines, all of them accepted
+-- a report of n lines, all of them accepted, and none with b
 abbrev pub allAccepted : ℕ → Totals
-allAccepted n = record { lines = n; accepted = n; skipped = 0; refused = 0; first = 0; reason = 0; place = 0 }
+allAccepted n = record { lines = n; accepted = n; skipped = 0; refused = 0; first = 0; reason = 0; place = 0; bringup = 0 }
 
 -- the plain reader, begun on a fresh table, has then the same rules in the same order, and has refused no line
 pub record LoadsBack (t : Table) (text : List ℕ) : Type 0 where
@@ -57,7 +57,7 @@ listedByCalls st buffers k (suc n) = front (listAnswer st k (buffers k)) (listOu
 abbrev pub textNumbered : Store → ℕ → List ℕ
 textNumbered st k = ruleText (tableOf st) (ruleNumbered (tableOf st) k)
 
--- a buffer that is long enough for its rule gets the rule's text at its front, and the rest of it is unchanged; one of 519 bytes is long enough for every
+-- a buffer that is long enough for its rule gets the rule's text at its front, and the rest of it is unchanged; one of 518 bytes is long enough for every
 -- rule; asked for each number in turn the call writes the listing; and the number after the last rule's is refused with 13, so that a host knows where it
 -- ends. What was written loads back
 pub record ListedByNumber (st : Store) : Type 0 where

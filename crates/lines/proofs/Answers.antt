@@ -14,7 +14,7 @@ use Rattle.alphabet.specs.declared.Field.the-variants.{Part, End}
 use Rattle.alphabet.specs.declared.LabelField.the-variants as labelField
 use Rattle.alphabet.proofs.Laws.{field-some, label-field-some, label-field-none}
 use Rattle.alphabet.proofs.Places.{place-all, place-here, place-later}
-use Rattle.modes.specs.Modes.{readModes, ruleLetters, changeLetters}
+use Rattle.modes.specs.Modes.{readModes, lineLetters, changeLetters, storedModes, hasBringUp}
 use Rattle.modes.specs.declared.Access.{Access}
 use Rattle.modes.specs.declared.Access.the-variants.{Modes, Bad}
 use Rattle.lines.proofs.Laws.{inside}
@@ -114,7 +114,7 @@ module _ {line : List ℕ} {a b : ℕ} {subject : Bool} {c d : ℕ} {object : Bo
 
   module _ (ends : fieldAt line f ≡ End) where
     abbrev access : Access
-    access = readModes ruleLetters true (part line e f)
+    access = readModes lineLetters true (part line e f)
 
     rule-three : lineAt ruleKind line ≡ labelsAt ruled.Refused line (pair a b c d) (ruleAtAccess line (pair a b c d) access)
     rule-three = rule-fourth ∙ ap (ruleAtFourth line (pair a b c d) (span e f)) ends
@@ -135,8 +135,8 @@ module _ {line : List ℕ} {a b : ℕ} {subject : Bool} {c d : ℕ} {object : Bo
       pub rule-bad : access ≡ Bad → lineAt ruleKind line ≡ ruled.Refused badAccess
       rule-bad x = rule-formed ∙ ap (ruleAtAccess line (pair a b c d)) x
 
-      pub rule-judged : {m : ℕ} {t : Bool} → access ≡ Modes m → sameBytes (part line a b) (part line c d) ≡ t → lineAt ruleKind line ≡ cond t (ruled.Refused sameLabels) (ruled.Rule (pair a b c d) m)
-      rule-judged {m} x z = rule-formed ∙ ap (ruleAtAccess line (pair a b c d)) x ∙ ap (λ (u : Bool). cond u (ruled.Refused sameLabels) (ruled.Rule (pair a b c d) m)) z
+      pub rule-judged : {m : ℕ} {t : Bool} → access ≡ Modes m → sameBytes (part line a b) (part line c d) ≡ t → lineAt ruleKind line ≡ cond t (ruled.Refused sameLabels) (ruled.Rule (pair a b c d) (storedModes m) (hasBringUp m))
+      rule-judged {m} x z = rule-formed ∙ ap (ruleAtAccess line (pair a b c d)) x ∙ ap (λ (u : Bool). cond u (ruled.Refused sameLabels) (ruled.Rule (pair a b c d) (storedModes m) (hasBringUp m))) z
 
 -- ---- a change-rule write
 

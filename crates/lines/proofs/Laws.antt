@@ -2,21 +2,22 @@
 use mathlib.Core.Path.{_≡_, refl}
 use mathlib.Core.Bool.{Bool, true, false, cond, _&&_}
 use mathlib.Core.List.{List, [], _∷_}
-use Prim.Native.Nat.{ℕ, _<_}
+use Prim.Native.Nat.{ℕ}
 use lib.Dec.{ltb}
 use lib.ListN.{length, drop}
 use Rattle.search.specs.Bytes.{sameBytes}
+use Rattle.search.specs.Search.{all}
 use Rattle.refusals.specs.Refusals.{tooLong, wrongFields, badAccess, sameLabels, badLabelAt}
 use Rattle.refusals.specs.declared.Refusal.{Refusal}
 use Rattle.alphabet.specs.Alphabet.{wellFormed, fields, lineLimit, badByteIn}
 use Rattle.alphabet.specs.Within.{fieldAt, part}
 use Rattle.alphabet.proofs.Laws.{FieldFrom, in-a-row}
-use Rattle.modes.specs.Modes.{readModes, ruleLetters, changeLetters}
+use Rattle.modes.specs.Modes.{allowedByte, modesOf, readModes, lineLetters, changeLetters, knownModes, storedModes, hasBringUp}
 use Rattle.modes.specs.declared.Access.{Access}
 use Rattle.modes.specs.declared.Access.the-variants.{Modes, Bad}
-use Rattle.modes.proofs.Laws.{modes-small}
-use Rattle.lines.specs.Lines.{Said, skipped, refused, rule, change, ruleWith, ruleBy, ruleFields, ruleOf, changeWith, changeBy, changeFields, changeOf}
-use Rattle.lines.specs.Within.{at, span, pair, ruleSaid, changeSaid, SpanInside, RuleInside, ChangeInside, labelsAt, apartAt, Kind, firstAt, secondAt, lineAt, ruleAtAccess, ruleAtFourth, ruleAtThird, ruleKind, ruleLineAt, changeAtAccess, changeAtFifth, changeAtFourth, changeAtThird, changeKind, changeLineAt}
+use Rattle.modes.proofs.Laws.{modes-known, stored-known}
+use Rattle.lines.specs.Lines.{Said, skipped, refused, rule, change, ruleWith, ruleBy, ruleFields, ruleOf, bringUpAmong, bringUpIn, changeWith, changeBy, changeFields, changeOf}
+use Rattle.lines.specs.Within.{at, span, pair, ruleSaid, changeSaid, SpanInside, RuleInside, RuleHeld, ChangeInside, labelsAt, apartAt, Kind, firstAt, secondAt, lineAt, ruleAtAccess, ruleAtFourth, ruleAtThird, ruleKind, ruleLineAt, changeAtAccess, changeAtFifth, changeAtFourth, changeAtThird, changeKind, changeLineAt}
 use Rattle.lines.specs.declared.Pair.{Pair}
 use Rattle.lines.specs.declared.RuleLine.{RuleLine}
 use Rattle.lines.specs.declared.RuleLine.the-variants as ruled
@@ -81,26 +82,71 @@ module _ (line : List ℕ) where
   rule-two-labels a b c d s o =
       in-a-row (RightRule line) line d (ruleAtThird line p) (λ l. ruleFields (badByteIn line) (part line a b ∷ part line c d ∷ l)) (rule-refuses wrongFields)
       (λ e f x. in-a-row (RightRule line) line f (ruleAtFourth line p (span e f)) (λ l. ruleFields (badByteIn line) (part line a b ∷ part line c d ∷ part line e f ∷ l))
-      (labels-right ruled.Refused (RightRule line) rule-refuses line p _ _ (by-access (readModes ruleLetters true (part line e f)) (modes-small ruleLetters true (part line e f))))
+      (labels-right ruled.Refused (RightRule line) rule-refuses line p _ _ (by-access (readModes lineLetters true (part line e f))))
       (λ g h y. rule-refuses wrongFields))
     where
       p : Pair
       p = pair a b c d
 
-      by-access : (x : Access) → ((m : ℕ) → x ≡ Modes m → m < 64) → RightRule line (ruleAtAccess line p x) (ruleWith (part line a b) (part line c d) x)
-      by-access (Modes m) h = apart-right ruled.Refused (RightRule line) rule-refuses line p (ruled.Rule p m) (rule (part line a b) (part line c d) m) (refl, (s, o, h m refl))
-      by-access Bad h = rule-refuses badAccess
+      by-access : (x : Access) → RightRule line (ruleAtAccess line p x) (ruleWith (part line a b) (part line c d) x)
+      by-access (Modes m) =
+          apart-right ruled.Refused (RightRule line) rule-refuses line p (ruled.Rule p (storedModes m) (hasBringUp m)) (rule (part line a b) (part line c d) (storedModes m))
+          (refl, (s, o, stored-known m))
+      by-access Bad = rule-refuses badAccess
 
   pub rule-right : RightRule line (ruleLineAt line) (ruleOf line)
   unfolding ruleLineAt ruleOf
   rule-right = line-right ruleKind (RightRule line) rule-refuses line (ruleFields (badByteIn line)) (refl, tt) (λ s. rule-refuses wrongFields) rule-two-labels
 
+  -- and a rule's line held b where the definition says so
+  apart-held : (p : Pair) (x : RuleLine) (b : Bool) → RuleHeld x b → RuleHeld (apartAt ruled.Refused line p x) b
+  apart-held p x b h = by-test (sameBytes (at line (p .subject)) (at line (p .object)))
+    where
+      by-test : (t : Bool) → RuleHeld (cond t (ruled.Refused sameLabels) x) b
+      by-test true = tt
+      by-test false = h
+
+  labels-held : (p : Pair) (x : RuleLine) (b : Bool) → RuleHeld x b → RuleHeld (labelsAt ruled.Refused line p x) b
+  labels-held p x b h = by-test (wellFormed (at line (p .subject)) && wellFormed (at line (p .object)))
+    where
+      by-test : (t : Bool) → RuleHeld (cond t x (ruled.Refused (badLabelAt (badByteIn line)))) b
+      by-test true = h
+      by-test false = tt
+
+  access-held : (p : Pair) (a : List ℕ) → RuleHeld (ruleAtAccess line p (readModes lineLetters true a)) (hasBringUp (modesOf a))
+  unfolding readModes
+  access-held p a = by-test (all (allowedByte lineLetters true) a)
+    where
+      by-test : (t : Bool) → RuleHeld (ruleAtAccess line p (cond t (Modes (modesOf a)) Bad)) (hasBringUp (modesOf a))
+      by-test true = apart-held p (ruled.Rule p (storedModes (modesOf a)) (hasBringUp (modesOf a))) (hasBringUp (modesOf a)) refl
+      by-test false = tt
+
+  pub rule-held : RuleHeld (ruleLineAt line) (bringUpIn line)
+  unfolding ruleLineAt bringUpIn
+  rule-held = by-test (ltb lineLimit (length line))
+    where
+      by-test : (t : Bool) → RuleHeld (cond t (ruled.Refused tooLong) (firstAt ruleKind line (fieldAt line 0))) (bringUpAmong (fields line))
+      by-test true = tt
+      by-test false =
+          in-a-row RuleHeld line 0 (firstAt ruleKind line) bringUpAmong tt
+          (λ a b s. in-a-row RuleHeld line b (secondAt ruleKind line a b) (λ l. bringUpAmong (part line a b ∷ l)) tt
+          (λ c d o. in-a-row RuleHeld line d (ruleAtThird line (pair a b c d)) (λ l. bringUpAmong (part line a b ∷ part line c d ∷ l)) tt
+          (λ e f x. in-a-row RuleHeld line f (ruleAtFourth line (pair a b c d) (span e f)) (λ l. bringUpAmong (part line a b ∷ part line c d ∷ part line e f ∷ l))
+          (labels-held (pair a b c d) (ruleAtAccess line (pair a b c d) (readModes lineLetters true (part line e f))) (hasBringUp (modesOf (part line e f))) (access-held (pair a b c d) (part line e f)))
+          (λ g h y. tt))))
+
   -- the answer meets its contract
-  pub rule-meets : (x : RuleLine) → lineAt ruleKind line ≡ x → (x ≡ ruleLineAt line) × RightRule line x (ruleOf line)
+  pub rule-meets :
+      (x : RuleLine) → lineAt ruleKind line ≡ x →
+      (x ≡ ruleLineAt line) × ((ruleSaid line x ≡ ruleOf line) × (RuleInside line x × RuleHeld x (bringUpIn line)))
   unfolding ruleLineAt
-  rule-meets x e = rw (← e) (refl, rule-right)
+  rule-meets x e = rw (← e) (refl, (rule-right .0, (rule-right .1, rule-held)))
 
 -- ---- a change-rule write
+
+change-known : knownModes changeLetters ≡ true
+unfolding knownModes
+change-known = refl
 
 abbrev pub RightChange : List ℕ → ChangeLine → Said → Type 0
 RightChange line x said = (changeSaid line x ≡ said) × ChangeInside line x
@@ -120,8 +166,8 @@ module _ (line : List ℕ) where
       (λ e f x. in-a-row (RightChange line) line f (changeAtFourth line p (span e f)) (λ l. changeFields (badByteIn line) (part line a b ∷ part line c d ∷ part line e f ∷ l)) (change-refuses wrongFields)
       (λ g h y. in-a-row (RightChange line) line h (changeAtFifth line p (span e f) (span g h)) (λ l. changeFields (badByteIn line) (part line a b ∷ part line c d ∷ part line e f ∷ part line g h ∷ l))
       (labels-right changed.Refused (RightChange line) change-refuses line p _ _
-      (by-access (readModes changeLetters true (part line e f)) (modes-small changeLetters true (part line e f))
-      (readModes changeLetters true (part line g h)) (modes-small changeLetters true (part line g h))))
+      (by-access (readModes changeLetters true (part line e f)) (modes-known changeLetters true change-known (part line e f))
+      (readModes changeLetters true (part line g h)) (modes-known changeLetters true change-known (part line g h))))
       (λ i j z. change-refuses wrongFields)))
     where
       p : Pair
@@ -129,9 +175,9 @@ module _ (line : List ℕ) where
 
       by-access :
           (x : Access) →
-          ((m : ℕ) → x ≡ Modes m → m < 64) →
+          ((m : ℕ) → x ≡ Modes m → knownModes m ≡ true) →
           (y : Access) →
-          ((n : ℕ) → y ≡ Modes n → n < 64) →
+          ((n : ℕ) → y ≡ Modes n → knownModes n ≡ true) →
           RightChange line (changeAtAccess line p x y) (changeWith (part line a b) (part line c d) x y)
       by-access (Modes m) i (Modes n) j =
           apart-right changed.Refused (RightChange line) change-refuses line p (changed.Change p m n) (change (part line a b) (part line c d) m n)
@@ -156,12 +202,12 @@ pub record Taken (s o : List ℕ) : Type 0 where
   pub object : wellFormed o ≡ true
   pub apart : sameBytes s o ≡ false
 
--- what is said names such labels alone, and modes below 64
+-- what is said names such labels alone, and modes that a table may store
 abbrev pub Sound : Said → Type 0
 Sound skipped = Unit {0}
 Sound (refused n) = Unit {0}
-Sound (rule s o m) = Taken s o × (m < 64)
-Sound (change s o a d) = Taken s o × (a < 64) × (d < 64)
+Sound (rule s o m) = Taken s o × (knownModes m ≡ true)
+Sound (change s o a d) = Taken s o × (knownModes a ≡ true) × (knownModes d ≡ true)
 
 -- said of two labels: refused, or taken with what holds of the modes
 module _ (s o : List ℕ) (said : Said) where
@@ -193,11 +239,11 @@ rule-fields-sound place [] = tt
 rule-fields-sound place (s ∷ []) = tt
 rule-fields-sound place (s ∷ o ∷ []) = tt
 rule-fields-sound place (s ∷ o ∷ a ∷ []) =
-    formed-or s o (ruleWith s o (readModes ruleLetters true a)) (badLabelAt place) (by-access (readModes ruleLetters true a) (modes-small ruleLetters true a))
+    formed-or s o (ruleWith s o (readModes lineLetters true a)) (badLabelAt place) (by-access (readModes lineLetters true a))
   where
-    by-access : (x : Access) → ((m : ℕ) → x ≡ Modes m → m < 64) → wellFormed s ≡ true → wellFormed o ≡ true → Sound (ruleWith s o x)
-    by-access (Modes m) h e i = taken-or s o (rule s o m) (λ t. (t, h m refl)) e i
-    by-access Bad h e i = tt
+    by-access : (x : Access) → wellFormed s ≡ true → wellFormed o ≡ true → Sound (ruleWith s o x)
+    by-access (Modes m) e i = taken-or s o (rule s o (storedModes m)) (λ t. (t, stored-known m)) e i
+    by-access Bad e i = tt
 rule-fields-sound place (s ∷ o ∷ a ∷ x ∷ more) = tt
 
 pub rule-sound : (line : List ℕ) → Sound (ruleOf line)
@@ -212,13 +258,13 @@ change-fields-sound place (s ∷ o ∷ []) = tt
 change-fields-sound place (s ∷ o ∷ a ∷ []) = tt
 change-fields-sound place (s ∷ o ∷ a ∷ d ∷ []) =
     formed-or s o (changeWith s o (readModes changeLetters true a) (readModes changeLetters true d)) (badLabelAt place)
-    (by-access (readModes changeLetters true a) (modes-small changeLetters true a) (readModes changeLetters true d) (modes-small changeLetters true d))
+    (by-access (readModes changeLetters true a) (modes-known changeLetters true change-known a) (readModes changeLetters true d) (modes-known changeLetters true change-known d))
   where
     by-access :
         (x : Access) →
-        ((m : ℕ) → x ≡ Modes m → m < 64) →
+        ((m : ℕ) → x ≡ Modes m → knownModes m ≡ true) →
         (y : Access) →
-        ((n : ℕ) → y ≡ Modes n → n < 64) →
+        ((n : ℕ) → y ≡ Modes n → knownModes n ≡ true) →
         wellFormed s ≡ true →
         wellFormed o ≡ true →
         Sound (changeWith s o x y)

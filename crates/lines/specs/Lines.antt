@@ -1,7 +1,7 @@
--- 01, Rule text and Single writes: what a line of rule text and a change-rule write say by their bytes alone, with refusals 1 to 5 in
--- their order. Assumes nothing.
+-- 01, Rule text and Single writes, and 02, Six: what a line of rule text and a change-rule write say by their bytes alone, with refusals 1 to 5 in
+-- their order; and whether a line held the retired letter b. Assumes nothing.
 use Prim.Native.Nat.{ℕ}
-use mathlib.Core.Bool.{true, cond, _&&_}
+use mathlib.Core.Bool.{Bool, true, false, cond, _&&_}
 use mathlib.Core.List.{List, [], _∷_}
 use lib.ListN.{length}
 use lib.Dec.{ltb}
@@ -9,7 +9,7 @@ use Rattle.search.specs.Bytes.{sameBytes}
 use Rattle.refusals.specs.Refusals.{tooLong, wrongFields, badLabelAt, badAccess, sameLabels}
 use Rattle.refusals.specs.declared.Refusal.{Refusal}
 use Rattle.alphabet.specs.Alphabet.{wellFormed, lineLimit, fields, badByteIn}
-use Rattle.modes.specs.Modes.{readModes, ruleLetters, changeLetters}
+use Rattle.modes.specs.Modes.{readModes, modesOf, lineLetters, changeLetters, storedModes, hasBringUp}
 use Rattle.modes.specs.declared.Access.{Access}
 use Rattle.modes.specs.declared.Access.the-variants.{Modes, Bad}
 
@@ -23,14 +23,14 @@ pub data Said : Type 0 where
   rule : List ℕ → List ℕ → ℕ → Said
   change : List ℕ → List ℕ → ℕ → ℕ → Said
 
--- the access field has a byte not allowed there, then subject equals object
+-- the access field has a byte not allowed there, then subject equals object; a b in it is a placeholder (02, Six)
 abbrev pub ruleWith : List ℕ → List ℕ → Access → Said
 ruleWith s o Bad = refused badAccess
-ruleWith s o (Modes m) = cond (sameBytes s o) (refused sameLabels) (rule s o m)
+ruleWith s o (Modes m) = cond (sameBytes s o) (refused sameLabels) (rule s o (storedModes m))
 
 -- before these, a label is not well formed; with the place of the first bad byte in the line (02, Three)
 unfoldable pub ruleBy : ℕ → List ℕ → List ℕ → List ℕ → Said
-ruleBy place s o a = cond (wellFormed s && wellFormed o) (ruleWith s o (readModes ruleLetters true a)) (refused (badLabelAt place))
+ruleBy place s o a = cond (wellFormed s && wellFormed o) (ruleWith s o (readModes lineLetters true a)) (refused (badLabelAt place))
 
 -- not three fields; no field at all is a line that is skipped
 abbrev pub ruleFields : ℕ → List (List ℕ) → Said
@@ -44,6 +44,16 @@ ruleFields place (s ∷ o ∷ a ∷ x ∷ more) = refused wrongFields
 unfoldable pub ruleOf : List ℕ → Said
 unfolding ruleBy
 ruleOf line = cond (ltb lineLimit (length line)) (refused tooLong) (ruleFields (badByteIn line) (fields line))
+
+-- 02, Six: whether the access field of a line held b, in either case
+abbrev pub bringUpAmong : List (List ℕ) → Bool
+bringUpAmong [] = false
+bringUpAmong (s ∷ []) = false
+bringUpAmong (s ∷ o ∷ []) = false
+bringUpAmong (s ∷ o ∷ a ∷ more) = hasBringUp (modesOf a)
+
+unfoldable pub bringUpIn : List ℕ → Bool
+bringUpIn line = bringUpAmong (fields line)
 
 -- ---- a change-rule write: subject, object, allow, deny
 

@@ -1,7 +1,8 @@
 -- Where in the line the fields of what is said stand: the answers of the code, which name a label by its place in the line. Nobody has to believe
 -- it: the contracts say of each answer that it says what `ruleOf` and `changeOf` say. Assumes nothing.
 use Prim.Native.Nat.{ℕ, _<_, _≤_}
-use mathlib.Core.Bool.{true, cond, _&&_}
+use mathlib.Core.Path.{_≡_}
+use mathlib.Core.Bool.{Bool, true, cond, _&&_}
 use mathlib.Core.List.{List}
 use lib.ListN.{length}
 use lib.Dec.{ltb}
@@ -12,7 +13,7 @@ use Rattle.alphabet.specs.Alphabet.{wellFormed, lineLimit, badByteIn}
 use Rattle.alphabet.specs.Within.{fieldAt, part}
 use Rattle.alphabet.specs.declared.Field.{Field}
 use Rattle.alphabet.specs.declared.Field.the-variants.{Part, End}
-use Rattle.modes.specs.Modes.{readModes, ruleLetters, changeLetters}
+use Rattle.modes.specs.Modes.{readModes, lineLetters, changeLetters, knownModes, storedModes, hasBringUp}
 use Rattle.modes.specs.declared.Access.{Access}
 use Rattle.modes.specs.declared.Access.the-variants.{Modes, Bad}
 use Rattle.lines.specs.Lines.{Said, skipped, refused, rule, change}
@@ -37,13 +38,13 @@ pair a b c d = record { subject = span a b; object = span c d }
 abbrev pub ruleSaid : List ℕ → RuleLine → Said
 ruleSaid line r.Skipped = skipped
 ruleSaid line (r.Refused n) = refused n
-ruleSaid line (r.Rule p m) = rule (at line (p .subject)) (at line (p .object)) m
+ruleSaid line (r.Rule p m held) = rule (at line (p .subject)) (at line (p .object)) m
 
 abbrev pub changeSaid : List ℕ → ChangeLine → Said
 changeSaid line (c.Refused n) = refused n
 changeSaid line (c.Change p a d) = change (at line (p .subject)) (at line (p .object)) a d
 
--- a field is a part of the line, and has a byte
+-- a field is a part of the line, and has a byte; and modes are such as a table may store
 pub record SpanInside (line : List ℕ) (s : Span) : Type 0 where
   pub starts : s .start < s .end
   pub ends : s .end ≤ length line
@@ -51,11 +52,17 @@ pub record SpanInside (line : List ℕ) (s : Span) : Type 0 where
 abbrev pub RuleInside : List ℕ → RuleLine → Type 0
 RuleInside line r.Skipped = Unit {0}
 RuleInside line (r.Refused n) = Unit {0}
-RuleInside line (r.Rule p m) = SpanInside line (p .subject) × SpanInside line (p .object) × (m < 64)
+RuleInside line (r.Rule p m held) = SpanInside line (p .subject) × SpanInside line (p .object) × (knownModes m ≡ true)
 
 abbrev pub ChangeInside : List ℕ → ChangeLine → Type 0
 ChangeInside line (c.Refused n) = Unit {0}
-ChangeInside line (c.Change p a d) = SpanInside line (p .subject) × SpanInside line (p .object) × (a < 64) × (d < 64)
+ChangeInside line (c.Change p a d) = SpanInside line (p .subject) × SpanInside line (p .object) × (knownModes a ≡ true) × (knownModes d ≡ true)
+
+-- whether a rule's line held b
+abbrev pub RuleHeld : RuleLine → Bool → Type 0
+RuleHeld r.Skipped b = Unit {0}
+RuleHeld (r.Refused n) b = Unit {0}
+RuleHeld (r.Rule p m held) b = held ≡ b
 
 -- ---- what both kinds of line share
 
@@ -90,10 +97,10 @@ module _ {A : Type 0} (k : Kind A) (line : List ℕ) where
 
 abbrev pub ruleAtAccess : List ℕ → Pair → Access → RuleLine
 ruleAtAccess line p Bad = r.Refused badAccess
-ruleAtAccess line p (Modes m) = apartAt r.Refused line p (r.Rule p m)
+ruleAtAccess line p (Modes m) = apartAt r.Refused line p (r.Rule p (storedModes m) (hasBringUp m))
 
 abbrev pub ruleAtFourth : List ℕ → Pair → Span → Field → RuleLine
-ruleAtFourth line p a End = labelsAt r.Refused line p (ruleAtAccess line p (readModes ruleLetters true (at line a)))
+ruleAtFourth line p a End = labelsAt r.Refused line p (ruleAtAccess line p (readModes lineLetters true (at line a)))
 ruleAtFourth line p a (Part g h) = r.Refused wrongFields
 
 abbrev pub ruleAtThird : List ℕ → Pair → Field → RuleLine

@@ -1,12 +1,13 @@
 // Rule lines and change-rule writes, judged by their bytes alone: refusals 1 to 5, before any table is looked at (01, Rule text and Single
-// writes). Each field is judged where it stands in the line.
+// writes). Each field is judged where it stands in the line. In a rule line b is a placeholder (02, Six): it is dropped here,
+// and nothing above knows more of it than whether a line held it.
 use alphabet::Field;
 use alphabet::LabelField;
 use modes::Access;
 use refusals::Refusal;
 ghost use mathlib.Core.Path.{_≡_};
-ghost use Rattle.lines.specs.Lines.{ruleOf, changeOf};
-ghost use Rattle.lines.specs.Within.{ruleLineAt, ruleSaid, RuleInside, changeLineAt, changeSaid, ChangeInside};
+ghost use Rattle.lines.specs.Lines.{ruleOf, bringUpIn, changeOf};
+ghost use Rattle.lines.specs.Within.{ruleLineAt, ruleSaid, RuleInside, RuleHeld, changeLineAt, changeSaid, ChangeInside};
 
 // Where a field stands: line[start..end].
 pub struct Span {
@@ -20,11 +21,11 @@ pub struct Pair {
     pub object: Span,
 }
 
-// What a line of rule text says: nothing, a refusal, or a rule with its modes.
+// What a line of rule text says: nothing, a refusal, or a rule with its modes, and whether its access field held b.
 pub enum RuleLine {
     Skipped,
     Refused(Refusal),
-    Rule(Pair, u8),
+    Rule(Pair, u8, bool),
 }
 
 // What a change-rule write says: a refusal, or a change with the modes that it allows and those that it denies.
@@ -38,6 +39,7 @@ pub fn rule_line(line: &[u8]) -> RuleLine
     ensures { λ r. ⌜ r ≡ ruleLineAt (now (line .entry)) ⌝ }
     ensures { λ r. ⌜ ruleSaid (now (line .entry)) r ≡ ruleOf (now (line .entry)) ⌝ }
     ensures { λ r. ⌜ RuleInside (now (line .entry)) r ⌝ }
+    ensures { λ r. ⌜ RuleHeld r (bringUpIn (now (line .entry))) ⌝ }
 {
     if alphabet::LINE_LIMIT < line.len() {
         return RuleLine::Refused(refusals::TOO_LONG);
@@ -71,7 +73,7 @@ pub fn rule_line(line: &[u8]) -> RuleLine
     if !object_formed {
         return RuleLine::Refused(alphabet::bad_label_at(&line[c..d], c));
     }
-    let Access::Modes(m) = modes::read_modes(&line[x..y], modes::RULE_LETTERS, true) else {
+    let Access::Modes(m) = modes::read_modes(&line[x..y], modes::LINE_LETTERS, true) else {
         return RuleLine::Refused(refusals::BAD_ACCESS);
     };
     if search::same_bytes(&line[a..b], &line[c..d]) {
@@ -82,7 +84,8 @@ pub fn rule_line(line: &[u8]) -> RuleLine
             subject: Span { start: a, end: b },
             object: Span { start: c, end: d },
         },
-        m,
+        m & modes::RULE_LETTERS,
+        m & modes::BRING_UP != 0,
     )
 }
 

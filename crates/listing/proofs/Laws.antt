@@ -33,8 +33,8 @@ label-short labels k = by-place (take 256 (drop (k * 256) labels)) (rw length-ta
     by-place (n ∷ bytes) h = rw length-take (omega arith)
 
 module _ (s : Store) (u : Undamaged s) (k : ℕ) (h : k < getD (s .words) 1 0) where
-  -- its numbers name stored labels, and its modes are known
-  pub rule-sound : (getD (s .entries) k 0 < getD (s .words) 0 0) × (getD (s .entries) (256 + k) 0 < getD (s .words) 0 0) × (getD (s .entries) (512 + k) 0 < 64)
+  -- its numbers name stored labels
+  pub rule-sound : (getD (s .entries) k 0 < getD (s .words) 0 0) × (getD (s .entries) (256 + k) 0 < getD (s .words) 0 0)
   unfolding soundTable soundRule ruleAt
   rule-sound =
       let n = getD (s .words) 0 0 in
@@ -45,7 +45,7 @@ module _ (s : Store) (u : Undamaged s) (k : ℕ) (h : k < getD (s .words) 1 0) w
       let c : soundRule n (ruleAt (s .entries) k) ≡ true = ap (soundRule n) (sym (entries-at (ruleAt (s .entries)) d r k h)) ∙ b in
       let e = and-both _ _ c in
       let f = and-both _ _ (e .0) in
-      (ltb-true _ _ (f .0), ltb-true _ _ (f .1), ltb-true _ _ (e .1))
+      (ltb-true _ _ (f .0), ltb-true _ _ (f .1))
 
   pub rule-listed :
       ruleText (tableOf s) (ruleNumbered (tableOf s) k)

@@ -20,7 +20,7 @@ pub fn list_rule(labels: &[u8], entries: &[u8], words: &[u64], k: usize, out: &m
     }
     let subject = places::label_at(labels, entries[k] as usize);
     let object = places::label_at(labels, entries[store::OBJECTS_FROM + k] as usize);
-    let mut text = [0u8; 6];
+    let mut text = [0u8; 5];
     let n = modes::write_modes(&mut text, 0, entries[store::MODES_FROM + k]);
     rule_text::put_text(out, subject, object, &text[0..n])
 }

@@ -13,7 +13,7 @@ use lib.Seq.{take-all, take-suc-set, take-append-le}
 use Rattle.refusals.specs.Refusals.{tooLong}
 use Rattle.store.specs.Table.{Table}
 use Rattle.store.specs.Layout.{Store, store, tableOf, undamagedOf}
-use Rattle.lines.specs.Lines.{ruleOf, refused}
+use Rattle.lines.specs.Lines.{ruleOf, refused, bringUpIn}
 use Rattle.writes.specs.Writes.{judged, outcomeOf, lineOutcome, lineStored}
 use Rattle.store.specs.Judged.{Judged, is-skipped, is-refused, is-accepted, tableAfter}
 use Rattle.writes.specs.declared.Outcome.{Outcome}
@@ -36,6 +36,7 @@ pub record SameTotals (l : Report) (c : Totals) : Type 0 where
   pub first : l .first ≡ limited (c .first)
   pub reason : l .reason ≡ c .reason
   pub place : l .place ≡ c .place
+  pub bringup : l .bringup ≡ limited (c .bringup)
 
 -- the kept line, as much of it as is stored
 pub record SameLine (line : List ℕ) (stored : ℕ) (kept : List ℕ) : Type 0 where
@@ -74,8 +75,8 @@ same-first false x x′ y y′ p q = q
 same-either : (b : Bool) (n : ℕ) {y y′ : ℕ} → y ≡ y′ → cond b n y ≡ cond b n y′
 same-either b n p = rw p
 
-count-follows : (l : Report) (c : Totals) (j : Judged) → SameTotals l c → SameTotals (withLine l (outcomeOf j)) (counted c j)
-count-follows l c is-skipped s =
+count-follows : (l : Report) (c : Totals) (held : Bool) (j : Judged) → SameTotals l c → SameTotals (withLine l (outcomeOf held j)) (counted c held j)
+count-follows l c held is-skipped s =
     record {
       lines = more-limited _ _ (s .lines);
       accepted = s .accepted;
@@ -84,8 +85,9 @@ count-follows l c is-skipped s =
       first = s .first;
       reason = s .reason;
       place = s .place;
+      bringup = s .bringup;
     }
-count-follows l c (is-accepted t) s =
+count-follows l c held (is-accepted t) s =
     record {
       lines = more-limited _ _ (s .lines);
       accepted = more-limited _ _ (s .accepted);
@@ -94,8 +96,9 @@ count-follows l c (is-accepted t) s =
       first = s .first;
       reason = s .reason;
       place = s .place;
+      bringup = same-first held (more (l .bringup)) (c .bringup + 1) (l .bringup) (c .bringup) (more-limited _ _ (s .bringup)) (s .bringup);
     }
-count-follows l c (is-refused r) s =
+count-follows l c held (is-refused r) s =
     let z = zero-limited _ _ (s .refused) in
     record {
       lines = more-limited _ _ (s .lines);
@@ -105,6 +108,7 @@ count-follows l c (is-refused r) s =
       first = rw z (same-first (eqb (c .refused) 0) (more (l .lines)) (c .lines + 1) (l .first) (c .first) (more-limited _ _ (s .lines)) (s .first));
       reason = rw z (same-either (eqb (c .refused) 0) (r .number) (s .reason));
       place = rw z (same-either (eqb (c .refused) 0) (r .place) (s .place));
+      bringup = s .bringup;
     }
 
 empty-line : (line : List ℕ) (n : ℕ) → length line ≡ 600 → n ≡ 0 → SameLine line n []
@@ -124,7 +128,7 @@ end-parts :
     (s : Load) (p : Reader) (st : Store) (q : Outcome) (j : Judged) →
     Ready (load st (s .line) (count (s .loader) q)) →
     tableOf st ≡ tableAfter (p .table) j →
-    q ≡ outcomeOf j →
+    q ≡ outcomeOf (bringUpIn (p .kept)) j →
     j ≡ judged (p .table) (ruleOf (p .kept)) →
     Holds s p →
     Holds (load st (s .line) (count (s .loader) q)) (endLine p)
@@ -134,10 +138,10 @@ end-parts s p st q j r t e f h =
       ready = r;
       table = t ∙ ap (λ (x : Judged). tableAfter (p .table) x) f;
       line = empty-line (s .line) (count (s .loader) q .kept) (h .line .full) refl;
-      totals = rw (e, ← f) (count-follows (s .loader .report) (p .totals) j (h .totals));
+      totals = rw (e, ← f) (count-follows (s .loader .report) (p .totals) (bringUpIn (p .kept)) j (h .totals));
     }
 
-verdict-is : (st : Store) (text : List ℕ) → lineOutcome st text ≡ outcomeOf (judged (tableOf st) (ruleOf text))
+verdict-is : (st : Store) (text : List ℕ) → lineOutcome st text ≡ outcomeOf (bringUpIn text) (judged (tableOf st) (ruleOf text))
 unfolding lineOutcome
 verdict-is st text = refl
 
@@ -164,7 +168,7 @@ end-follows s p h = by-test (ltb 600 (s .loader .kept)) refl (ready-end s (h .re
         let same : text ≡ p .kept = whole-line (s .line) (s .loader .kept) (p .kept) (h .line) (ltb-false 600 (s .loader .kept) e) in
         end-parts s p (lineStored (s .store) text) (lineOutcome (s .store) text) (judged (tableOf (s .store)) (ruleOf text)) r
         (line-table (s .store) text (h .ready .undamaged) ∙ ap (λ (t : Table). tableAfter t (judged (tableOf (s .store)) (ruleOf text))) (h .table))
-        (verdict-is (s .store) text)
+        (verdict-is (s .store) text ∙ ap (λ (l : List ℕ). outcomeOf (bringUpIn l) (judged (tableOf (s .store)) (ruleOf text))) same)
         (rw (h .table, same))
         h
 
@@ -272,5 +276,5 @@ fresh-holds st line u full =
       ready = record { undamaged = u; line = full; kept = omega arith };
       table = refl;
       line = empty-line line 0 full refl;
-      totals = record { lines = refl; accepted = refl; skipped = refl; refused = refl; first = refl; reason = refl; place = refl };
+      totals = record { lines = refl; accepted = refl; skipped = refl; refused = refl; first = refl; reason = refl; place = refl; bringup = refl };
     }

@@ -34,7 +34,7 @@ fed-reply (f.Done l) = done
 fed-reply (f.Refused n) = refusal (plain n)
 
 abbrev pub totals-of : Report → Totals
-totals-of r = record { lines = r .lines; accepted = r .accepted; skipped = r .skipped; refused = r .refused; first = r .first; reason = r .reason; place = r .place }
+totals-of r = record { lines = r .lines; accepted = r .accepted; skipped = r .skipped; refused = r .refused; first = r .first; reason = r .reason; place = r .place; bringup = r .bringup }
 
 abbrev pub end-reply : Ended → Reply
 end-reply (e.Report r l) = report (totals-of r)
@@ -61,7 +61,7 @@ piece-law text {s} p answer-is after-is h =
     record { holds = subst (λ (x : Load). Holds x (takePiece p text)) (sym b) (piece-follows s p text h); reply = ap fed-reply a }
 
 same-report : (l : Report) (c : Totals) → SameTotals l c → totals-of l ≡ limitedTotals c
-same-report l c s = rw (s .lines, s .accepted, s .skipped, s .refused, s .first, s .reason, s .place)
+same-report l c s = rw (s .lines, s .accepted, s .skipped, s .refused, s .first, s .reason, s .place, s .bringup)
 
 pub end-law :
     {s s′ : Load} {r : Ended} (p : Reader) →

@@ -15,7 +15,7 @@ use Rattle.numbers.specs.declared.CategorySet.{CategorySet}
 use Rattle.store.specs.Table.{Table, labelNumbered}
 use Rattle.store.specs.declared.Done.{Done}
 use Rattle.store.specs.declared.Done.the-variants as d
-use Rattle.lines.specs.Lines.{ruleOf}
+use Rattle.lines.specs.Lines.{ruleOf, bringUpIn}
 use Rattle.writes.specs.Writes.{judged, changeWrite}
 use Rattle.store.specs.Judged.{Judged, is-skipped, is-refused, is-accepted, tableAfter, doneOf}
 use Rattle.revoke.specs.Revoke.{revokeWrite, revokeCount, countOf}
@@ -37,7 +37,7 @@ use Rattle.answers.specs.declared.Lowest.{Lowest}
 use Rattle.answers.specs.declared.Length.{Length}
 
 -- the report's numbers, as they are; `first`, `reason` and `place` are the number (from 1), the reason and the place of the first refused line, 0 where
--- there is none; the place is 0, too, where the reason is not 3 (02, Three)
+-- there is none; the place is 0, too, where the reason is not 3 (02, Three); `bringup` is how many accepted lines held b (02, Six)
 pub record Totals : Type 0 where
   pub lines : ℕ
   pub accepted : ℕ
@@ -46,13 +46,14 @@ pub record Totals : Type 0 where
   pub first : ℕ
   pub reason : ℕ
   pub place : ℕ
+  pub bringup : ℕ
 
 abbrev pub zeros : Totals
-zeros = record { lines = 0; accepted = 0; skipped = 0; refused = 0; first = 0; reason = 0; place = 0 }
+zeros = record { lines = 0; accepted = 0; skipped = 0; refused = 0; first = 0; reason = 0; place = 0; bringup = 0 }
 
--- a line more: every line counts; the first refused one is kept
-abbrev pub counted : Totals → Judged → Totals
-counted c is-skipped =
+-- a line more, with whether it held b: every line counts; the first refused one is kept; an accepted one that held b is also one more of `bringup`
+abbrev pub counted : Totals → Bool → Judged → Totals
+counted c held is-skipped =
     record {
       lines = c .lines + 1;
       accepted = c .accepted;
@@ -61,8 +62,9 @@ counted c is-skipped =
       first = c .first;
       reason = c .reason;
       place = c .place;
+      bringup = c .bringup;
     }
-counted c (is-accepted t) =
+counted c held (is-accepted t) =
     record {
       lines = c .lines + 1;
       accepted = c .accepted + 1;
@@ -71,8 +73,9 @@ counted c (is-accepted t) =
       first = c .first;
       reason = c .reason;
       place = c .place;
+      bringup = cond held (c .bringup + 1) (c .bringup);
     }
-counted c (is-refused r) =
+counted c held (is-refused r) =
     record {
       lines = c .lines + 1;
       accepted = c .accepted;
@@ -81,6 +84,7 @@ counted c (is-refused r) =
       first = cond (eqb (c .refused) 0) (c .lines + 1) (c .first);
       reason = cond (eqb (c .refused) 0) (r .number) (c .reason);
       place = cond (eqb (c .refused) 0) (r .place) (c .place);
+      bringup = c .bringup;
     }
 
 pub record Reader : Type 0 where
@@ -98,7 +102,7 @@ endLine p =
     record {
       table = tableAfter (p .table) (judged (p .table) (ruleOf (p .kept)));
       kept = [];
-      totals = counted (p .totals) (judged (p .table) (ruleOf (p .kept)));
+      totals = counted (p .totals) (bringUpIn (p .kept)) (judged (p .table) (ruleOf (p .kept)));
     }
 
 -- piece: each byte but a newline joins the kept line; a newline ends it
@@ -126,6 +130,7 @@ limitedTotals c =
       first = limited (c .first);
       reason = c .reason;
       place = c .place;
+      bringup = limited (c .bringup);
     }
 
 -- ---- the calls, and what is answered

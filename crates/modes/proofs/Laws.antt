@@ -1,33 +1,33 @@
 -- Laws of the definitions of specs/Modes.antt: the table of letters, a field read from some byte on, and modes as text. Assumes nothing.
-use mathlib.Core.Path.{_≡_, refl, sym, ap, _∙_}
-use mathlib.Core.Bool.{Bool, true, false, cond, not, _&&_, _||_, Bool·beq, or-true, or-false, or-assoc, and-false}
+use mathlib.Core.Path.{_≡_, refl, sym, ap, _∙_, subst}
+use mathlib.Core.Bool.{Bool, true, false, cond, not, _&&_, _||_, Bool·beq, or-true, or-false, or-assoc, and-true, and-false}
 use mathlib.Core.Logic.{_↔_, _⊎_}
 use mathlib.Core.List.{List, [], _∷_, foldl, append-assoc}
-use Prim.Native.Nat.{ℕ, zero, suc, _+_, _-_, _<_, _≤_}
+use Prim.Native.Nat.{ℕ, zero, suc, _+_, _-_, _%_, _<_, _≤_}
 use native.Mathlib.Numerals.{add-one}
 use native.Mathlib.Omega.{arith}
 use lib.Dec.{eqb, leb, ltb}
-use lib.Bits.{bitAnd, bitOr, or-lt}
-use borrow.Author.Tests.{eqb-true, eq-eqb, ne-eqb, ltb-true, lt-ltb, leb-true}
+use lib.Bits.{bitAnd, bitOr, or-lt, or-mod, and-mod, and-zero-l, and-zero-r, and-le-l, and-le-r, or-add-and, and-shifted}
+use borrow.Author.Tests.{not-true, eqb-true, eq-eqb, ne-eqb, ltb-true, lt-ltb, leb-true}
 use lib.ListN.{length, take, drop, getD, set, length-set, drop-of-length-le}
 use lib.Seq.{drop-cons, drop-nil, take-length, set-split, paste, paste-zero, paste-suc}
 use Rattle.search.specs.Search.{all, entries}
 use Rattle.search.specs.Bytes.{ascii, written}
 use Rattle.search.proofs.Laws.{no, and-both, eqb-is, or-is, not-is, number-is, all-at, entries-at, entries-length}
-use Rattle.modes.specs.Modes.{letters, bitAmong, bitOf, allowedByte, modesOf, readModes, has, lettersIn, modesText, ruleLetters, changeLetters, requestLetters, Is, LetterBit, any, oneOf, SixLetters}
+use Rattle.modes.specs.Modes.{letters, bringUp, bitAmong, bitOf, allowedByte, modesOf, readModes, has, lettersIn, modesText, lineLetters, changeLetters, requestLetters, knownModes, storedModes, hasBringUp, Is, LetterBit, any, oneOf, LettersAndBits}
 use Rattle.modes.specs.Within.{bitWhere}
-use Rattle.modes.proofs.Bits.{single, has-or, six}
+use Rattle.modes.proofs.Bits.{single, has-or, has-and, six, five}
 use Rattle.modes.specs.declared.Letter.{Letter}
 use Rattle.modes.specs.declared.Access.{Access}
 use Rattle.modes.specs.declared.Access.the-variants.{Modes, Bad}
 
 -- ---- the table of letters
 
--- the rule of the table, computed once over all of it: each letter is a small one, and each bit is below 64
+-- the rule of the letters, computed once over all of them and b: each letter is a small one, and each bit is even and below 128
 abbrev pub soundLetter : Letter → Bool
-soundLetter l = leb 97 (l .letter) && leb (l .letter) 122 && ltb 0 (l .bit) && ltb (l .bit) 64
+soundLetter l = leb 97 (l .letter) && leb (l .letter) 122 && eqb (l .bit % 2) 0 && ltb (l .bit) 128
 
-letters-sound : all soundLetter letters ≡ true
+letters-sound : all soundLetter (bringUp ∷ letters) ≡ true
 unfolding all
 letters-sound = refl
 
@@ -39,29 +39,33 @@ abbrev pub letterAt : ℕ → Letter
 letterAt i = getD letters i noLetter
 
 -- what the rule says of one letter, as facts
-pub sound-parts : (l : Letter) → soundLetter l ≡ true → (97 ≤ l .letter) × (l .letter ≤ 122) × (0 < l .bit) × (l .bit < 64)
+pub sound-parts : (l : Letter) → soundLetter l ≡ true → (97 ≤ l .letter) × (l .letter ≤ 122) × (l .bit % 2 ≡ 0) × (l .bit < 128)
 sound-parts l e =
     let h₁ = and-both _ _ e in
     let h₂ = and-both _ _ (h₁ .0) in
     let h₃ = and-both _ _ (h₂ .0) in
-    (leb-true _ _ (h₃ .0), leb-true _ _ (h₃ .1), ltb-true _ _ (h₂ .1), ltb-true _ _ (h₁ .1))
+    (leb-true _ _ (h₃ .0), leb-true _ _ (h₃ .1), eqb-true _ _ (h₂ .1), ltb-true _ _ (h₁ .1))
 
 -- ---- the bit of a byte
 
-bit-or : (t : Bool) (l : Letter) (n : ℕ) → soundLetter l ≡ true → n < 64 → cond t (l .bit) n < 64
-bit-or true l n e h = sound-parts l e .3
+-- what a byte adds to modes: an even number below 128
+abbrev pub Read : ℕ → Type 0
+Read m = (m < 128) × (m % 2 ≡ 0)
+
+bit-or : (t : Bool) (l : Letter) (n : ℕ) → soundLetter l ≡ true → Read n → Read (cond t (l .bit) n)
+bit-or true l n e h = (sound-parts l e .3, sound-parts l e .2)
 bit-or false l n e h = h
 
-among-lt : (ls : List Letter) (b : ℕ) → all soundLetter ls ≡ true → bitAmong ls b < 64
+among-read : (ls : List Letter) (b : ℕ) → all soundLetter ls ≡ true → Read (bitAmong ls b)
 unfolding all
-among-lt [] b e = omega arith
-among-lt (l ∷ ls) b e =
+among-read [] b e = (omega arith, refl)
+among-read (l ∷ ls) b e =
     let h = and-both (soundLetter l) (all soundLetter ls) e in
-    bit-or (eqb b (l .letter) || eqb b (l .letter - 32)) l (bitAmong ls b) (h .0) (among-lt ls b (h .1))
+    bit-or (eqb b (l .letter) || eqb b (l .letter - 32)) l (bitAmong ls b) (h .0) (among-read ls b (h .1))
 
-pub bit-lt : (b : ℕ) → bitOf b < 64
+bit-read : (b : ℕ) → Read (bitOf b)
 unfolding bitOf
-bit-lt b = among-lt letters b letters-sound
+bit-read b = among-read (bringUp ∷ letters) b letters-sound
 
 -- ---- the bit of each byte, as 01 says it
 
@@ -116,7 +120,7 @@ letter-bit b h =
       execute = bit-is 8 120 88 refl b h;
       append = bit-is 4 97 65 refl b h;
       transmute = bit-is 2 116 84 refl b h;
-      bring-up = bit-is 1 98 66 refl b h;
+      bring-up = bit-is 64 98 66 refl b h;
       none = no-letter-is b h;
     }
 
@@ -126,17 +130,17 @@ abbrev pub picked : ℕ → ℕ → Letter → ℕ
 picked small m l = bitOr m (bitWhere small l)
 
 pickedTest : ℕ → Bool
-pickedTest b = eqb (foldl (picked (bitOr b 32)) 0 letters) (bitOf b)
+pickedTest b = eqb (foldl (picked (bitOr b 32)) (bitWhere (bitOr b 32) bringUp) letters) (bitOf b)
 
 picked-right : all pickedTest (entries (λ (j : ℕ). j) 256) ≡ true
 unfolding all entries pickedTest bitOf
 picked-right = refl
 
-pub picked-all : (b : ℕ) → b < 256 → foldl (picked (bitOr b 32)) 0 letters ≡ bitOf b
+pub picked-all : (b : ℕ) → b < 256 → foldl (picked (bitOr b 32)) (bitWhere (bitOr b 32) bringUp) letters ≡ bitOf b
 unfolding pickedTest
-picked-all b h = eqb-true (foldl (picked (bitOr b 32)) 0 letters) (bitOf b) (below pickedTest 256 picked-right b h)
+picked-all b h = eqb-true (foldl (picked (bitOr b 32)) (bitWhere (bitOr b 32) bringUp) letters) (bitOf b) (below pickedTest 256 picked-right b h)
 
-pub picked-next : (small m i : ℕ) → i < 6 → foldl (picked small) m (drop i letters) ≡ foldl (picked small) (picked small m (letterAt i)) (drop (i + 1) letters)
+pub picked-next : (small m i : ℕ) → i < 5 → foldl (picked small) m (drop i letters) ≡ foldl (picked small) (picked small m (letterAt i)) (drop (i + 1) letters)
 picked-next small m i h = rw (add-one i, drop-cons letters i noLetter h)
 
 -- ---- the bytes that each place allows, computed at all 256
@@ -156,9 +160,9 @@ abbrev pub joined : ℕ → ℕ → ℕ
 joined m b = bitOr m (bitOf b)
 
 -- the bytes' bits are single: one has the bit k where it is k
-bit-alone : (k : ℕ) → all (λ (l : Letter). Bool·beq (has (l .bit) k) (eqb (l .bit) k)) letters ≡ true → has 0 k ≡ eqb 0 k → (b : ℕ) → has (bitOf b) k ≡ eqb (bitOf b) k
+bit-alone : (k : ℕ) → all (λ (l : Letter). Bool·beq (has (l .bit) k) (eqb (l .bit) k)) (bringUp ∷ letters) ≡ true → has 0 k ≡ eqb 0 k → (b : ℕ) → has (bitOf b) k ≡ eqb (bitOf b) k
 unfolding bitOf all
-bit-alone k e z b = among letters e
+bit-alone k e z b = among (bringUp ∷ letters) e
   where
     by-test : (l : Letter) (n : ℕ) (t : Bool) → has (l .bit) k ≡ eqb (l .bit) k → has n k ≡ eqb n k → has (cond t (l .bit) n) k ≡ eqb (cond t (l .bit) n) k
     by-test l n true p q = p
@@ -188,35 +192,126 @@ field-has field l =
     (joined-has 3 (bit-alone 8 refl refl) field _)
     (joined-has 2 (bit-alone 4 refl refl) field _)
     (joined-has 1 (bit-alone 2 refl refl) field _)
-    (joined-has 0 (bit-alone 1 refl refl) field _)
+    (joined-has 6 (bit-alone 64 refl refl) field _)
 
--- modes that were read are below 64
-modes-lt : (field : List ℕ) (m : ℕ) → m < 64 → foldl joined m field < 64
-modes-lt [] m h = h
-modes-lt (b ∷ bs) m h = modes-lt bs (joined m b) (or-lt 6 m (bitOf b) h (bit-lt b))
+-- modes that were read are even and below 128
+or-read : (a b : ℕ) → Read a → Read b → Read (bitOr a b)
+or-read a b h i = (or-lt 7 a b (h .0) (i .0), or-mod a b 1 ∙ rw (h .1, i .1))
 
-field-small : (field : List ℕ) → modesOf field < 64
+modes-read : (field : List ℕ) (m : ℕ) → Read m → Read (foldl joined m field)
+modes-read [] m h = h
+modes-read (b ∷ bs) m h = modes-read bs (joined m b) (or-read m (bitOf b) h (bit-read b))
+
+field-read : (field : List ℕ) → Read (modesOf field)
 unfolding modesOf
-field-small field = modes-lt field _ (omega arith)
+field-read field = modes-read field _ (omega arith, refl)
 
--- ---- THE LETTERS as 01 says them
+-- ---- the modes that a table may store
 
-pub six-letters : SixLetters
+knownTest : ℕ → Bool
+knownTest m = not (eqb (m % 2) 0) || knownModes m
+
+known-right : all knownTest (entries (λ (j : ℕ). j) 64) ≡ true
+unfolding all entries knownTest knownModes
+known-right = refl
+
+-- what is known is stored as it is
+pub known-stored : (m : ℕ) → knownModes m ≡ true → storedModes m ≡ m
+unfolding knownModes
+known-stored m e = eqb-true (bitAnd m 62) m e
+
+known-below : (m : ℕ) → (m < 64) × (m % 2 ≡ 0) → knownModes m ≡ true
+unfolding knownTest
+known-below m h = let e = below knownTest 64 known-right m (h .0) in rw (h .1) at e
+
+pub known-is : (m : ℕ) → (knownModes m ≡ true) ↔ ((m < 64) × (m % 2 ≡ 0))
+known-is m = (
+  λ e.
+      let q = known-stored m e in
+      (omega (arith, and-le-r m 62), ap (λ (x : ℕ). x % 2) (sym q) ∙ and-mod m 62 1 ∙ and-zero-r (m % 2)),
+  known-below m,
+)
+
+-- they stay such where they are joined, and where some are taken away
+pub known-or : (a b : ℕ) → knownModes a ≡ true → knownModes b ≡ true → knownModes (bitOr a b) ≡ true
+known-or a b h i =
+    let p = known-is a .0 h in
+    let q = known-is b .0 i in
+    known-is (bitOr a b) .1 (or-lt 6 a b (p .0) (q .0), or-mod a b 1 ∙ rw (p .1, q .1))
+
+-- and where they are such when joined, each of them is
+module _ (a b : ℕ) (h : knownModes (bitOr a b) ≡ true) where
+  pub known-of-or : (knownModes a ≡ true) × (knownModes b ≡ true)
+  known-of-or =
+      let p = known-is (bitOr a b) .0 h in
+      let e : bitOr (a % 2) (b % 2) ≡ 0 = sym (or-mod a b 1) ∙ p .1 in (
+        known-is a .1 (omega (arith, p .0, or-add-and a b, and-le-r a b), omega (arith, e, or-add-and (a % 2) (b % 2), and-le-r (a % 2) (b % 2))),
+        known-is b .1 (omega (arith, p .0, or-add-and a b, and-le-l a b), omega (arith, e, or-add-and (a % 2) (b % 2), and-le-l (a % 2) (b % 2))),
+      )
+
+pub known-and : (a b : ℕ) → knownModes a ≡ true → knownModes (bitAnd a b) ≡ true
+known-and a b h =
+    let p = known-is a .0 h in
+    known-is (bitAnd a b) .1 (omega (arith, and-le-l a b, p .0), and-mod a b 1 ∙ rw (p .1) (and-zero-l (b % 2)))
+
+pub stored-known : (m : ℕ) → knownModes (storedModes m) ≡ true
+stored-known m = known-is (bitAnd m 62) .1 (omega (arith, and-le-r m 62), and-mod m 62 1 ∙ and-zero-r (m % 2))
+
+stored-has : (m l : ℕ) → oneOf (ascii "rwxat") l ≡ true → has (storedModes m) (bitOf l) ≡ has m (bitOf l)
+unfolding bitOf
+stored-has m l =
+    five (λ (x : ℕ). has (storedModes m) (bitOf x) ≡ has m (bitOf x)) l (at 5 refl) (at 4 refl) (at 3 refl) (at 2 refl) (at 1 refl)
+  where
+    at : (k : ℕ) → has 62 (single k) ≡ true → has (bitAnd m 62) (single k) ≡ has m (single k)
+    at k e = has-and k m 62 ∙ rw e (and-true (has m (single k)))
+
+-- b is in a field where one of its bytes is b or B: no other letter has its bit
+rule-bit : (b : ℕ) → bitAmong letters b < 64
+rule-bit b =
+    by-test (eqb b 114 || eqb b 82) 32 _ (omega arith) (by-test (eqb b 119 || eqb b 87) 16 _ (omega arith) (by-test (eqb b 120 || eqb b 88) 8 _ (omega arith)
+    (by-test (eqb b 97 || eqb b 65) 4 _ (omega arith) (by-test (eqb b 116 || eqb b 84) 2 _ (omega arith) (omega arith)))))
+  where
+    by-test : (t : Bool) (k n : ℕ) → k < 64 → n < 64 → cond t k n < 64
+    by-test true k n h i = h
+    by-test false k n h i = i
+
+is-b : (b : ℕ) → eqb (bitOf b) 64 ≡ oneOf (ascii "bB") b
+unfolding bitOf
+is-b b = by-test (eqb b 98) (eqb b 66) (rule-bit b)
+  where
+    by-test : (s t : Bool) {n : ℕ} → n < 64 → eqb (cond (s || t) 64 n) 64 ≡ (s || (t || false))
+    by-test true t h = refl
+    by-test false true h = refl
+    by-test false false {n} h = ne-eqb n 64 (λ e. omega arith)
+
+any-same : (p q : ℕ → Bool) → ((b : ℕ) → p b ≡ q b) → (bs : List ℕ) → any p bs ≡ any q bs
+any-same p q e [] = refl
+any-same p q e (b ∷ bs) = rw (e b, any-same p q e bs)
+
+held-b : (field : List ℕ) → hasBringUp (modesOf field) ≡ any (oneOf (ascii "bB")) field
+unfolding modesOf bitOf all
+held-b field = joined-has 6 (bit-alone 64 refl refl) field _ ∙ any-same (λ (b : ℕ). eqb (bitOf b) 64) (oneOf (ascii "bB")) is-b field
+
+-- ---- THE LETTERS as 01 and 02 say them
+
+pub letters-and-bits : LettersAndBits
 unfolding modesText allowedByte allowedTest bitOf all entries
-six-letters =
+letters-and-bits =
     record {
       bits = letter-bit;
-      rule-bytes = allowed-is ruleLetters true (ascii "rwxatbRWXATB-") refl;
+      line-bytes = allowed-is lineLetters true (ascii "rwxatbRWXATB-") refl;
       change-bytes = allowed-is changeLetters true (ascii "rwxatRWXAT-") refl;
       request-bytes = allowed-is requestLetters false (ascii "rwxaRWXA") refl;
       read = field-has;
-      no-other = field-small;
+      no-other = field-read;
       written = λ m. refl;
       in-a-rule = refl;
-      in-a-change = refl;
       in-a-request = refl;
       read-execute = refl;
-      bring-up-letter = refl;
+      known = known-is;
+      stored = stored-has;
+      stored-known = stored-known;
+      held = held-b;
     }
 
 -- ---- a field read from some byte on, with the modes m of the bytes before
@@ -258,16 +353,42 @@ module _ (allowed : ℕ) (dashes : Bool) (m : ℕ) (field : List ℕ) (i : ℕ) 
   unfolding allowedByte
   read-other z n = read-stop (rw (← is, eq-eqb (bitAnd bit allowed) 0 z, ne-eqb (getD field i 0) 45 n) (and-false dashes))
 
-pub modes-small : (allowed : ℕ) (dashes : Bool) (field : List ℕ) (m : ℕ) → readModes allowed dashes field ≡ Modes m → m < 64
-unfolding readModes modesOf
-modes-small allowed dashes field m e = by-test (all (allowedByte allowed dashes) field) e
-  where
-    by-test : (t : Bool) → cond t (Modes (foldl joined 0 field)) Bad ≡ Modes m → m < 64
-    by-test true q =
-        let h = modes-lt field 0 (omega arith) in
-        let z : m ≡ foldl joined 0 field = cc in
-        omega arith
-    by-test false q = let z : _≡_ {A = ℕ} 0 1 = cc in absurd (omega arith)
+-- modes that were read of a field in which only a rule's letters are allowed are those that a table may store
+module _ (allowed : ℕ) (dashes : Bool) (few : knownModes allowed ≡ true) where
+  pub byte-known : (b : ℕ) → allowedByte allowed dashes b ≡ true → knownModes (bitOf b) ≡ true
+  unfolding bitOf allowedByte all
+  byte-known b = by-test (eqb b 98) (eqb b 66) (eqb-true b 98) (eqb-true b 66)
+    where
+      none : bitAnd 64 allowed ≡ 0
+      none = and-shifted 1 6 allowed (known-is allowed .0 few .0)
+
+      no-letter : (k : ℕ) → b ≡ k → eqb k 45 ≡ false → (not (eqb (bitAnd 64 allowed) 0) || (dashes && eqb b 45)) ≡ true → {P : Type 0} → P
+      no-letter k e other h = absurd (no (sym (rw (none, e, other) (and-false dashes)) ∙ h))
+
+      by-test :
+          (s t : Bool) → (s ≡ true → b ≡ 98) → (t ≡ true → b ≡ 66) →
+          (not (eqb (bitAnd (cond (s || t) 64 (bitAmong letters b)) allowed) 0) || (dashes && eqb b 45)) ≡ true →
+          knownModes (cond (s || t) 64 (bitAmong letters b)) ≡ true
+      by-test true t is-s is-t h = no-letter 98 (is-s refl) refl h
+      by-test false true is-s is-t h = no-letter 66 (is-t refl) refl h
+      by-test false false is-s is-t h = known-is (bitAmong letters b) .1 (rule-bit b, among-read letters b (and-both (soundLetter bringUp) (all soundLetter letters) letters-sound .1) .1)
+
+  joined-known : (field : List ℕ) (m : ℕ) → all (allowedByte allowed dashes) field ≡ true → knownModes m ≡ true → knownModes (foldl joined m field) ≡ true
+  unfolding all
+  joined-known [] m e h = h
+  joined-known (b ∷ bs) m e h =
+      let g = and-both (allowedByte allowed dashes b) (all (allowedByte allowed dashes) bs) e in
+      joined-known bs (joined m b) (g .1) (known-or m (bitOf b) h (byte-known b (g .0)))
+
+  pub modes-known : (field : List ℕ) (m : ℕ) → readModes allowed dashes field ≡ Modes m → knownModes m ≡ true
+  unfolding readModes modesOf knownModes
+  modes-known field m e = by-test (all (allowedByte allowed dashes) field) refl e
+    where
+      by-test : (t : Bool) → all (allowedByte allowed dashes) field ≡ t → cond t (Modes (foldl joined 0 field)) Bad ≡ Modes m → knownModes m ≡ true
+      by-test true h q =
+          let z : foldl joined 0 field ≡ m = cc in
+          subst (λ (x : ℕ). knownModes x ≡ true) z (joined-known field 0 h refl)
+      by-test false h q = let z : _≡_ {A = ℕ} 0 1 = cc in absurd (omega arith)
 
 -- ---- modes as text
 
@@ -277,24 +398,33 @@ isModes m (Modes n) = eqb n m
 isModes m Bad = false
 
 readsBack : ℕ → Bool
-readsBack m = isModes m (readModes ruleLetters true (modesText m)) && ltb 0 (length (modesText m))
+readsBack m = not (knownModes m) || (isModes m (readModes lineLetters true (modesText m)) && (ltb 0 (length (modesText m)) && not (hasBringUp (modesOf (modesText m)))))
 
 all-read-back : all readsBack (entries (λ (k : ℕ). k) 64) ≡ true
-unfolding all entries readsBack readModes allowedByte modesOf bitOf modesText
+unfolding all entries readsBack readModes allowedByte modesOf bitOf modesText knownModes
 all-read-back = refl
 
 is-modes : (m : ℕ) (a : Access) → isModes m a ≡ true → a ≡ Modes m
 is-modes m (Modes n) e = ap Modes (eqb-true n m e)
 is-modes m Bad e = absurd (no e)
 
--- modes written out are read back
-pub text-read : (m : ℕ) → m < 64 → readModes ruleLetters true (modesText m) ≡ Modes m
-unfolding readsBack
-text-read m h = is-modes m (readModes ruleLetters true (modesText m)) (and-both _ _ (below readsBack 64 all-read-back m h) .0)
+-- modes written out are read back, and hold no b
+module _ (m : ℕ) (h : knownModes m ≡ true) where
+  known-back : (isModes m (readModes lineLetters true (modesText m)) && (ltb 0 (length (modesText m)) && not (hasBringUp (modesOf (modesText m))))) ≡ true
+  unfolding readsBack
+  known-back = let e = below readsBack 64 all-read-back m (known-is m .0 h .0) in rw h at e
 
-pub text-some : (m : ℕ) → m < 64 → 1 ≤ length (modesText m)
-unfolding readsBack
-text-some m h = ltb-true _ _ (and-both (isModes m (readModes ruleLetters true (modesText m))) (ltb 0 (length (modesText m))) (below readsBack 64 all-read-back m h) .1)
+  rest-back : (ltb 0 (length (modesText m)) && not (hasBringUp (modesOf (modesText m)))) ≡ true
+  rest-back = and-both (isModes m (readModes lineLetters true (modesText m))) _ known-back .1
+
+  pub text-read : readModes lineLetters true (modesText m) ≡ Modes m
+  text-read = is-modes m (readModes lineLetters true (modesText m)) (and-both _ _ known-back .0)
+
+  pub text-some : 1 ≤ length (modesText m)
+  text-some = ltb-true _ _ (and-both (ltb 0 (length (modesText m))) _ rest-back .0)
+
+  pub text-no-b : hasBringUp (modesOf (modesText m)) ≡ false
+  text-no-b = not-true _ (and-both (ltb 0 (length (modesText m))) _ rest-back .1)
 
 among-long : (ls : List Letter) (m : ℕ) → length (lettersIn ls m) ≤ length ls
 among-long [] m = omega arith
@@ -304,11 +434,11 @@ among-long (l ∷ ls) m = by-test (has m (l .bit)) (among-long ls m)
     by-test true h = omega arith
     by-test false h = omega arith
 
-pub text-long : (m : ℕ) → length (modesText m) ≤ 6
+pub text-long : (m : ℕ) → length (modesText m) ≤ 5
 unfolding modesText
 text-long m = by-test (eqb m 0)
   where
-    by-test : (t : Bool) → length (cond t (45 ∷ []) (lettersIn letters m)) ≤ 6
+    by-test : (t : Bool) → length (cond t (45 ∷ []) (lettersIn letters m)) ≤ 5
     by-test true = omega arith
     by-test false = among-long letters m
 
@@ -321,7 +451,7 @@ unfolding all
 among-bytes [] m e = refl
 among-bytes (l ∷ ls) m e = let h = and-both (soundLetter l) (all soundLetter ls) e in by-test (has m (l .bit)) (sound-parts l (h .0)) (among-bytes ls m (h .1))
   where
-    by-test : (t : Bool) → (97 ≤ l .letter) × (l .letter ≤ 122) × (0 < l .bit) × (l .bit < 64) → all textByte (lettersIn ls m) ≡ true → all textByte (cond t (l .letter ∷ lettersIn ls m) (lettersIn ls m)) ≡ true
+    by-test : (t : Bool) → (97 ≤ l .letter) × (l .letter ≤ 122) × (l .bit % 2 ≡ 0) × (l .bit < 128) → all textByte (lettersIn ls m) ≡ true → all textByte (cond t (l .letter ∷ lettersIn ls m) (lettersIn ls m)) ≡ true
     by-test true p h = rw (lt-ltb 32 (l .letter) (omega arith), lt-ltb (l .letter) 127 (omega arith)) h
     by-test false p h = h
 
@@ -331,7 +461,7 @@ text-bytes m = by-test (eqb m 0)
   where
     by-test : (t : Bool) → all textByte (cond t (45 ∷ []) (lettersIn letters m)) ≡ true
     by-test true = refl
-    by-test false = among-bytes letters m letters-sound
+    by-test false = among-bytes letters m (and-both (soundLetter bringUp) (all soundLetter letters) letters-sound .1)
 
 pub text-byte : (m k : ℕ) → k < length (modesText m) → (32 < getD (modesText m) k 0) × (getD (modesText m) k 0 < 127)
 text-byte m k h =
@@ -362,7 +492,7 @@ pub text-letters : (m : ℕ) → (m ≡ 0 → ⊥) → modesText m ≡ lettersIn
 unfolding modesText
 text-letters m n = rw (ne-eqb m 0 n)
 
-module _ (m i : ℕ) (h : i < 6) where
+module _ (m i : ℕ) (h : i < 5) where
   pub letter-in : (bitAnd m (letterAt i .bit) ≡ 0 → ⊥) → lettersIn (drop i letters) m ≡ letterAt i .letter ∷ lettersIn (drop (i + 1) letters) m
   letter-in n = rw (add-one i, drop-cons letters i noLetter h, ne-eqb (bitAnd m (letterAt i .bit)) 0 n)
 
@@ -381,7 +511,7 @@ module _ (out₀ : List ℕ) (at m : ℕ) where
   pub wrote-none : (m ≡ 0 → ⊥) → Wrote out₀ at m out₀ 0 0
   wrote-none h = record { passed = omega arith; within = omega arith; kept = refl; left = text-letters m h; written-so-far = paste-zero out₀ at (modesText m) }
 
-  module _ (room : at + 6 ≤ length out₀) (out : List ℕ) (n i : ℕ) (so-far : Wrote out₀ at m out n i) (h : i < 6) (out′ : List ℕ) (n′ : ℕ) where
+  module _ (room : at + 5 ≤ length out₀) (out : List ℕ) (n i : ℕ) (so-far : Wrote out₀ at m out n i) (h : i < 5) (out′ : List ℕ) (n′ : ℕ) where
     pub wrote-letter : (bitAnd m (letterAt i .bit) ≡ 0 → ⊥) → out′ ≡ set out (at + n) (letterAt i .letter) → n′ ≡ n + 1 → Wrote out₀ at m out′ n′ (i + 1)
     wrote-letter has-it p q =
         let r = rest-some (modesText m) n (letterAt i .letter) (lettersIn (drop (i + 1) letters) m) (so-far .left ∙ letter-in m i h has-it) in
@@ -406,7 +536,7 @@ module _ (out₀ : List ℕ) (at m : ℕ) where
           written-so-far = so-far .written-so-far;
         }
 
-  pub wrote-all : (out : List ℕ) (n i : ℕ) → 6 ≤ i → Wrote out₀ at m out n i → (n ≡ length (modesText m)) × (out ≡ written out₀ at (modesText m))
+  pub wrote-all : (out : List ℕ) (n i : ℕ) → 5 ≤ i → Wrote out₀ at m out n i → (n ≡ length (modesText m)) × (out ≡ written out₀ at (modesText m))
   unfolding written
   wrote-all out n i h w =
       let none-left = rest-none (modesText m) n (w .left ∙ rw (drop-of-length-le letters {i = i} h)) in

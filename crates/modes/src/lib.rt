@@ -1,9 +1,9 @@
-// Access modes: the letters r w x a t b and their bits, read from text and written to it (01, Modes).
+// Access modes: the letters r w x a t and their bits, read from text and written to it (01, Modes), and the retired letter b (02, Six).
 ghost use mathlib.Core.Path.{_≡_};
 ghost use Prim.Native.Nat.{_+_, _≤_};
 ghost use lib.ListN.{length};
 ghost use Rattle.search.specs.Bytes.{written};
-ghost use Rattle.modes.specs.Modes.{bitOf, readModes, modesText, SixLetters};
+ghost use Rattle.modes.specs.Modes.{bitOf, readModes, modesText, LettersAndBits};
 ghost use Rattle.modes.specs.Within.{bitWhere};
 
 // A letter and its bit.
@@ -12,11 +12,11 @@ pub struct Letter {
     pub bit: u8,
 }
 
-// How many letters there are.
-const COUNT: usize = 6;
+// How many letters a rule may have.
+const COUNT: usize = 5;
 
-// The letters in the order in which they are written out: r, w, x, a, t, b. Reading searches it, listing walks it.
-const LETTERS: [Letter; 6] = [
+// These letters in the order in which they are written out: r, w, x, a, t. Reading searches it, listing walks it.
+const LETTERS: [Letter; 5] = [
     Letter {
         letter: b'r',
         bit: 32,
@@ -37,23 +37,28 @@ const LETTERS: [Letter; 6] = [
         letter: b't',
         bit: 2,
     },
-    Letter {
-        letter: b'b',
-        bit: 1,
-    },
 ];
 
-// The letters that each place allows: a rule's all six, a change's all but b, a request's r w x a.
-pub const RULE_LETTERS: u8 = 63;
+// The bit of b, the retired letter, in what is read of a line: a placeholder, which is never stored (02, Six).
+pub const BRING_UP: u8 = 64;
 
-pub const CHANGE_LETTERS: u8 = 62;
+const RETIRED: Letter = Letter {
+    letter: b'b',
+    bit: BRING_UP,
+};
+
+// The letters that a rule may have: r w x a t.
+pub const RULE_LETTERS: u8 = 62;
+
+// The letters that each place allows: a line's those of a rule and b, a change's those of a rule, a request's r w x a.
+pub const LINE_LETTERS: u8 = RULE_LETTERS + BRING_UP;
+
+pub const CHANGE_LETTERS: u8 = RULE_LETTERS;
 
 pub const REQUEST_LETTERS: u8 = 60;
 
-// The first letter, r, and the last, b: the bits go down by halves in the order of the letters.
+// The first letter, r: the bits go down by halves in the order of the letters.
 pub const READ: u8 = 32;
-
-pub const BRING_UP: u8 = 1;
 
 // The bit that a small letter has and a capital one has not.
 const SMALL: u8 = 32;
@@ -77,7 +82,7 @@ fn bit_of(b: u8) -> u8
     ensures { λ r. ⌜ r ≡ bitOf b ⌝ }
 {
     let small = b | SMALL;
-    let mut bit = 0;
+    let mut bit = bit_where(small, RETIRED);
     let mut i = 0;
     while i < COUNT {
         bit = bit | bit_where(small, LETTERS[i]);
@@ -86,9 +91,10 @@ fn bit_of(b: u8) -> u8
     bit
 }
 
-// The claim that letters and bits are those that 01 says, that each place allows the bytes that 01 says, and how a field is read and modes are written.
-pub fn six_letters()
-    ensures { λ _. ⌜ SixLetters ⌝ }
+// The claim that letters and bits are those that 01 and 02 say, that each place allows the bytes that they say, how a field is read and modes are written,
+// which modes a table may store, and what is stored of a line's letters.
+pub fn letters_and_bits()
+    ensures { λ _. ⌜ LettersAndBits ⌝ }
 {}
 
 // The modes of an access field, which may have the letters of `allowed` and, where `dashes` says so, dashes.
@@ -115,9 +121,9 @@ pub fn read_modes(field: &[u8], allowed: u8, dashes: bool) -> Access
 }
 
 // Writes modes as text from index `at`, the letters in their order or a dash, and answers how many bytes that took. Who calls it has made
-// sure that there is room for six.
+// sure that there is room for five.
 pub fn write_modes(out: &mut [u8], at: usize, modes: u8) -> usize
-    requires { ⌜ at + 6 ≤ length (now out) ⌝ }
+    requires { ⌜ at + 5 ≤ length (now out) ⌝ }
     ensures { λ r. ⌜ r ≡ length (modesText modes) ⌝ }
     ensures { λ _. ⌜ now (out .exit) ≡ written (now (out .entry)) at (modesText modes) ⌝ }
 {

@@ -29,7 +29,7 @@ use Rattle.lists.specs.Reader.{Totals, Reader, startOn, finish, limitedTotals, 
 use Rattle.lists.specs.Reader as reader
 use Rattle.lists.proofs.Follows.{SameLine, Holds, step-follows, fresh-holds}
 use Rattle.lists.proofs.Steps.{totals-of, end-reply, end-law, question-law}
-use Rattle.replies.specs.Replies.{answerLine}
+use Rattle.replies.specs.Replies.{lineRoom, answerLine}
 use Rattle.program.specs.Program.{mark, isMark, asked, answerTo, reportLine}
 use Rattle.program.specs.declared.Turn.{Turn}
 use Rattle.program.specs.Turns.{wentCount}
@@ -193,13 +193,13 @@ turn-says {most = most} {said = said} {out = out} {out′ = out′} turn room fi
     let c = turn .output in
     (rw (p, fine) at b, ap (λ (t : Turn). take (wentCount t) out′) (rw (p, fine) at a) ∙ ap (λ (l : List ℕ). take (length said) l) (rw (p, fine) at c) ∙ front-is out said)
 
-pub feed-law : {s s′ : State} {out out′ : List ℕ} {r : Turn} (q : Phase) (input : List ℕ) → Turns (66 * length input) s (takeInput s input) (sayInput s input) out r s′ out′ → 66 * length input ≤ length out → Stands s q → Kept s′ (take (wentCount r) out′) (phaseOn q input) (saidOn q input)
+pub feed-law : {s s′ : State} {out out′ : List ℕ} {r : Turn} (q : Phase) (input : List ℕ) → Turns (lineRoom * length input) s (takeInput s input) (sayInput s input) out r s′ out′ → lineRoom * length input ≤ length out → Stands s q → Kept s′ (take (wentCount r) out′) (phaseOn q input) (saidOn q input)
 feed-law {s} q input turn room h =
     let t = turn-says turn room (stands-ready s q h) in
     let k = input-follows s q input h in
     record { stands = subst (λ (x : State). Stands x (phaseOn q input)) (sym (t .0)) (k .stands); says = t .1 ∙ k .says }
 
-pub finish-law : {s s′ : State} {out out′ : List ℕ} {r : Turn} (q : Phase) → Turns 66 s (takeLast s) (sayLast s) out r s′ out′ → 66 ≤ length out → Stands s q → take (wentCount r) out′ ≡ phaseLast q
+pub finish-law : {s s′ : State} {out out′ : List ℕ} {r : Turn} (q : Phase) → Turns lineRoom s (takeLast s) (sayLast s) out r s′ out′ → lineRoom ≤ length out → Stands s q → take (wentCount r) out′ ≡ phaseLast q
 finish-law {s} q turn room h = turn-says turn room (stands-ready s q h) .1 ∙ last-follows s q h
 
 pub begun : (st : Store) (line : List ℕ) → Sizes (st .labels) (st .entries) (st .words) → length line ≡ lineLimit → Stands (state (freshStore st) line freshSession) (loads (startOn fresh))

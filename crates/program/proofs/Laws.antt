@@ -28,7 +28,7 @@ use Rattle.text_lines.proofs.Laws.{run-last, end-within}
 use Rattle.load.specs.Loader.{Load, load, ready, stepByte, stepPiece, pieceAnswer, pieceAfter, stepEnd, endAnswer, endAfter}
 use Rattle.load.specs.Within.{fedLoader, endedLoader}
 use Rattle.load.proofs.Laws.{Ready, ready-is, is-ready, ready-step, ready-piece, joins, too-long, byte-empties}
-use Rattle.replies.specs.Replies.{reportText}
+use Rattle.replies.specs.Replies.{lineRoom, reportText}
 use Rattle.replies.specs.Within.{Put}
 use Rattle.replies.proofs.Laws.{written-none, put-length, put-said, put-none, put-next}
 use Rattle.program.specs.Program.{mark, asked}
@@ -332,31 +332,31 @@ module _ (s : State) {last : Loader} (p : last ≡ unmarked (s .load .line) (s .
   ended : r ≡ endAnswer (withoutMark (s .load))
   ended = answer ∙ ap (λ (x : Loader). endAnswer (load (s .load .store) (s .load .line) x)) p
 
-  pub text-damaged : {n : ℕ} (out : List ℕ) → r ≡ e.Refused n → 66 ≤ length out → Turns 66 s (textAfter (s .load)) (textSays (s .load)) out t.Damaged (state st line (sessionOf s)) out
+  pub text-damaged : {n : ℕ} (out : List ℕ) → r ≡ e.Refused n → lineRoom ≤ length out → Turns lineRoom s (textAfter (s .load)) (textSays (s .load)) out t.Damaged (state st line (sessionOf s)) out
   text-damaged out told room =
       let q = end-refused (withoutMark (s .load)) (sym told ∙ ended) in
       let stays = end-stays (load (s .load .store) (s .load .line) last) (ap (λ (x : Loader). ready (load (s .load .store) (s .load .line) x)) p ∙ q) in
-      subst (λ (x : State). Turns 66 s (textAfter (s .load)) (textSays (s .load)) out t.Damaged x out)
+      subst (λ (x : State). Turns lineRoom s (textAfter (s .load)) (textSays (s .load)) out t.Damaged x out)
       (sym (same-slices s (ap (λ (x : Loader). load st line x) (sym (ap (endedLoader last) told)) ∙ after ∙ stays)))
       (damaged out room (sym (ready-unmarked (s .load)) ∙ q))
 
   pub text-went :
       {a : Report} {next : Loader} {n : ℕ} {out out′ : List ℕ} →
       r ≡ e.Report a next →
-      66 ≤ length out →
-      Put 66 out 0 (reportText a) out′ n →
-      Turns 66 s (textAfter (s .load)) (textSays (s .load)) out (t.Went (record { loading = false; loader = next }) n) (state st line (record { loading = false; loader = next })) out′
+      lineRoom ≤ length out →
+      Put lineRoom out 0 (reportText a) out′ n →
+      Turns lineRoom s (textAfter (s .load)) (textSays (s .load)) out (t.Went (record { loading = false; loader = next }) n) (state st line (record { loading = false; loader = next })) out′
   text-went told room w =
       went room
       (sym (ready-unmarked (s .load)) ∙ end-reported (withoutMark (s .load)) (sym told ∙ ended))
       (ap asking (ap (λ (x : Loader). load st line x) (sym (ap (endedLoader last) told)) ∙ after ∙ ap (λ (x : Loader). endAfter (load (s .load .store) (s .load .line) x)) p))
-      (put-said 66 w (ap endedText (sym told ∙ ended)) (omega arith))
+      (put-said lineRoom w (ap endedText (sym told ∙ ended)) (omega arith))
 
 -- ---- and the question lines behind it
 
-module _ (s : State) {out out₁ : List ℕ} {r : Turn} {st : Store} {line : List ℕ} (turn : Turns 66 s (textAfter (s .load)) (textSays (s .load)) out r (state st line (wentSession (sessionOf s) r)) out₁) (room : 66 ≤ length out) (small : wentCount r ≤ 66) where
+module _ (s : State) {out out₁ : List ℕ} {r : Turn} {st : Store} {line : List ℕ} (turn : Turns lineRoom s (textAfter (s .load)) (textSays (s .load)) out r (state st line (wentSession (sessionOf s) r)) out₁) (room : lineRoom ≤ length out) (small : wentCount r ≤ lineRoom) where
   answered : {b : Bool} → ready (s .load) ≡ b → r ≡ cond b (t.Went (sessionOf (textAfter (s .load))) (length (textSays (s .load)))) t.Damaged
-  answered q = let z = turn .answer in rw (le-leb 66 (length out) room, q) at z
+  answered q = let z = turn .answer in rw (le-leb lineRoom (length out) room, q) at z
 
   pub over-damaged : {n : ℕ} {after : State} {said : List ℕ} → ((x : Session) (k : ℕ) → r ≡ t.Went x k → ⊥) → n ≤ length out → Turns n s after said out t.Damaged (state st line (sessionOf s)) out₁
   over-damaged {n} {after} {said} not-went k = by-test (ready (s .load)) refl
@@ -364,7 +364,7 @@ module _ (s : State) {out out₁ : List ℕ} {r : Turn} {st : Store} {line : Lis
       by-test : (b : Bool) → ready (s .load) ≡ b → Turns n s after said out t.Damaged (state st line (sessionOf s)) out₁
       by-test true q = absurd (not-went _ _ (answered q))
       by-test false q =
-          let p = le-leb 66 (length out) room in
+          let p = le-leb lineRoom (length out) room in
           let x = turn .state in
           let y = turn .output in
           let same = ap (λ (w : Session). state st line w) (sym (ap (wentSession (sessionOf s)) (answered q))) ∙ rw (p, q) at x in
@@ -379,34 +379,34 @@ module _ (s : State) {out out₁ : List ℕ} {r : Turn} {st : Store} {line : Lis
         by-test true q = q
         by-test false q = let y = sym told ∙ answered q in let z : _≡_ {A = ℕ} 0 1 = cc in absurd (omega arith)
 
-    pub at-most : n ≤ 66
+    pub at-most : n ≤ lineRoom
     at-most = let y = ap wentCount told in omega (arith, small, y)
 
     begins : asking (load st line (x .loader)) ≡ textAfter (s .load)
     begins =
         let z = turn .state in
-        let y = rw (le-leb 66 (length out) room, undamaged) at z in
+        let y = rw (le-leb lineRoom (length out) room, undamaged) at z in
         ap (λ (w : Session). asking (load st line (w .loader))) (sym (ap (wentSession (sessionOf s)) told))
         ∙ ap (λ (w : State). asking (w .load)) y
 
-    reported : Put 66 out 0 (textSays (s .load)) out₁ n
+    reported : Put lineRoom out 0 (textSays (s .load)) out₁ n
     reported =
         let z = turn .output in
         let counts : n ≡ length (textSays (s .load)) = ap wentCount (sym told ∙ answered undamaged) in
-        record { bytes = rw (le-leb 66 (length out) room, undamaged) at z; ends = omega (arith, counts); short = omega (arith, counts, at-most) }
+        record { bytes = rw (le-leb lineRoom (length out) room, undamaged) at z; ends = omega (arith, counts); short = omega (arith, counts, at-most) }
 
     pub left-size : length out₁ ≡ length out
     left-size = put-length reported (omega (arith, reported .short, room))
 
     pub over-went :
         (input : List ℕ) {line₂ out₂ : List ℕ} {last : Loader} {m : ℕ} →
-        66 * suc (length input) ≤ length out →
+        lineRoom * suc (length input) ≤ length out →
         asking (load st line₂ last) ≡ takeInput (asking (load st line (x .loader))) input →
-        Put (66 * length input) out₁ n (sayInput (asking (load st line (x .loader))) input) out₂ m →
-        Turns (66 * suc (length input)) s (takeInput (textAfter (s .load)) input) (textSays (s .load) ++ sayInput (textAfter (s .load)) input) out (t.Went (record { loading = false; loader = last }) m) (state st line₂ (record { loading = false; loader = last })) out₂
+        Put (lineRoom * length input) out₁ n (sayInput (asking (load st line (x .loader))) input) out₂ m →
+        Turns (lineRoom * suc (length input)) s (takeInput (textAfter (s .load)) input) (textSays (s .load) ++ sayInput (textAfter (s .load)) input) out (t.Went (record { loading = false; loader = last }) m) (state st line₂ (record { loading = false; loader = last })) out₂
     over-went input space a w =
         went space undamaged (a ∙ ap (λ (y : State). takeInput y input) begins)
-        (put-said (66 * suc (length input)) (put-next (66 * suc (length input)) reported w (omega (arith, room)) (omega arith)) (ap (λ (y : State). textSays (s .load) ++ sayInput y input) begins) (omega arith))
+        (put-said (lineRoom * suc (length input)) (put-next (lineRoom * suc (length input)) reported w (omega (arith, room)) (omega arith)) (ap (λ (y : State). textSays (s .load) ++ sayInput y input) begins) (omega arith))
 
 -- ---- a piece of rule text, by what the loader answers and leaves
 
@@ -447,10 +447,10 @@ is-asking s p = ap (λ (b : Bool). phased b (s .load)) (sym p)
     phased b l = record { loading = b; load = l }
 
 module _ (s : State) (p : s .loading ≡ true) (input : List ℕ) (end : ℕ) (e : end ≡ textEnd (eqb (s .load .loader .kept) 0) (atMark (s .load .line) (s .load .loader)) input) {r : Fed} (answer : r ≡ pieceAnswer (s .load) (take end input)) {st : Store} {line : List ℕ} (after : load st line (fedLoader (s .load .loader) r) ≡ pieceAfter (s .load) (take end input)) where
-  pub feed-damaged : {n : ℕ} (out : List ℕ) → r ≡ f.Refused n → 66 * length input ≤ length out → Turns (66 * length input) s (takeInput s input) (sayInput s input) out t.Damaged (state st line (sessionOf s)) out
+  pub feed-damaged : {n : ℕ} (out : List ℕ) → r ≡ f.Refused n → lineRoom * length input ≤ length out → Turns (lineRoom * length input) s (takeInput s input) (sayInput s input) out t.Damaged (state st line (sessionOf s)) out
   feed-damaged out told room =
       let q = piece-refused (s .load) (take end input) (sym told ∙ answer) in
-      subst (λ (x : State). Turns (66 * length input) s (takeInput s input) (sayInput s input) out t.Damaged x out)
+      subst (λ (x : State). Turns (lineRoom * length input) s (takeInput s input) (sayInput s input) out t.Damaged x out)
       (sym (same-slices s (ap (λ (x : Loader). load st line x) (sym (ap (fedLoader (s .load .loader)) told)) ∙ after ∙ piece-stays (s .load) (take end input) q)))
       (damaged out room q)
 
@@ -470,31 +470,31 @@ module _ (s : State) (p : s .loading ≡ true) (input : List ℕ) (end : ℕ) (e
     -- all of it is rule text
     pub feed-all :
         (out : List ℕ) →
-        66 * length input ≤ length out →
+        lineRoom * length input ≤ length out →
         end ≡ length input →
-        Turns (66 * length input) s (takeInput s input) (sayInput s input) out (t.Went (record { loading = true; loader = next }) 0) (state st line (record { loading = true; loader = next })) out
+        Turns (lineRoom * length input) s (takeInput s input) (sayInput s input) out (t.Went (record { loading = true; loader = next }) 0) (state st line (record { loading = true; loader = next })) out
     feed-all out room q =
         let a = split .all q in
         went room fine
         (ap reading (led ∙ ap (stepPiece (s .load)) (take-all end input (omega (arith, q)))) ∙ sym (a .0) ∙ ap (λ (x : State). takeInput x input) (is-reading s p))
-        (put-said (66 * length input) (put-none 0 out 0) (sym (a .1) ∙ ap (λ (x : State). sayInput x input) (is-reading s p)) (omega arith))
+        (put-said (lineRoom * length input) (put-none 0 out 0) (sym (a .1) ∙ ap (λ (x : State). sayInput x input) (is-reading s p)) (omega arith))
 
     -- the line `?` ends it
     pub feed-rest :
         {out out′ rest line₂ : List ℕ} {st₂ : Store} {r₂ : Turn} →
         rest ≡ drop (end + 1) input →
-        66 * length input ≤ length out →
+        lineRoom * length input ≤ length out →
         (end ≡ length input → ⊥) →
-        Turns (66 * suc (length rest)) (reading (load st line next)) (takeInput (textAfter (load st line next)) rest) (textSays (load st line next) ++ sayInput (textAfter (load st line next)) rest) out r₂ (state st₂ line₂ (wentSession (record { loading = true; loader = next }) r₂)) out′ →
-        Turns (66 * length input) s (takeInput s input) (sayInput s input) out r₂ (state st₂ line₂ (wentSession (sessionOf s) r₂)) out′
+        Turns (lineRoom * suc (length rest)) (reading (load st line next)) (takeInput (textAfter (load st line next)) rest) (textSays (load st line next) ++ sayInput (textAfter (load st line next)) rest) out r₂ (state st₂ line₂ (wentSession (record { loading = true; loader = next }) r₂)) out′ →
+        Turns (lineRoom * length input) s (takeInput s input) (sayInput s input) out r₂ (state st₂ line₂ (wentSession (sessionOf s) r₂)) out′
     feed-rest {out = out} {out′ = out′} {rest = rest} {line₂ = line₂} {st₂ = st₂} {r₂ = r₂} is room some turn =
         let less : end < length input = omega (arith, some, split .inside) in
-        let small : 66 * suc (length rest) ≤ 66 * length input = omega (arith, ap length is, length-drop (end + 1) input, less) in
+        let small : lineRoom * suc (length rest) ≤ lineRoom * length input = omega (arith, ap length is, length-drop (end + 1) input, less) in
         let q = split .some less in
         let behind : rest ≡ drop (suc end) input = is ∙ ap (λ (k : ℕ). drop k input) (add-one end) in
         let answer = turn .answer in
-        let told = rw (le-leb (66 * suc (length rest)) (length out) (omega (arith, small, room)), read-ready) at answer in
-        subst (λ (x : Session). Turns (66 * length input) s (takeInput s input) (sayInput s input) out r₂ (state st₂ line₂ x) out′)
+        let told = rw (le-leb (lineRoom * suc (length rest)) (length out) (omega (arith, small, room)), read-ready) at answer in
+        subst (λ (x : Session). Turns (lineRoom * length input) s (takeInput s input) (sayInput s input) out r₂ (state st₂ line₂ x) out′)
         (ap (wentSession (record { loading = true; loader = next })) told ∙ sym (ap (wentSession (sessionOf s)) told))
         (hands-on turn small room read-ready fine
         (ap (λ (x : Load). takeInput (textAfter x) rest) led
@@ -511,39 +511,39 @@ module _ (s : State) (p : s .loading ≡ true) (input : List ℕ) (end : ℕ) (e
 module _ (s : State) (p : s .loading ≡ false) where
   pub feed-asked :
       (input : List ℕ) {out out′ line : List ℕ} {next : Loader} {n : ℕ} →
-      66 * length input ≤ length out →
+      lineRoom * length input ≤ length out →
       ready (s .load) ≡ true →
       asking (load (s .load .store) line next) ≡ takeInput (asking (s .load)) input →
-      Put (66 * length input) out 0 (sayInput (asking (s .load)) input) out′ n →
-      Turns (66 * length input) s (takeInput s input) (sayInput s input) out (t.Went (record { loading = false; loader = next }) n) (state (s .load .store) line (record { loading = false; loader = next })) out′
+      Put (lineRoom * length input) out 0 (sayInput (asking (s .load)) input) out′ n →
+      Turns (lineRoom * length input) s (takeInput s input) (sayInput s input) out (t.Went (record { loading = false; loader = next }) n) (state (s .load .store) line (record { loading = false; loader = next })) out′
   feed-asked input room fine a w =
       went room fine (a ∙ ap (λ (x : State). takeInput x input) (is-asking s p))
-      (put-said (66 * length input) w (ap (λ (x : State). sayInput x input) (is-asking s p)) (omega arith))
+      (put-said (lineRoom * length input) w (ap (λ (x : State). sayInput x input) (is-asking s p)) (omega arith))
 
-  pub finish-none : (out : List ℕ) → 66 ≤ length out → ready (s .load) ≡ true → s .load .loader .kept ≡ 0 → Turns 66 s (takeLast s) (sayLast s) out (t.Went (sessionOf s) 0) s out
+  pub finish-none : (out : List ℕ) → lineRoom ≤ length out → ready (s .load) ≡ true → s .load .loader .kept ≡ 0 → Turns lineRoom s (takeLast s) (sayLast s) out (t.Went (sessionOf s) 0) s out
   finish-none out room fine k =
       went room fine
       (sym (is-asking s p) ∙ ap (λ (n : ℕ). asking (load (s .load .store) (s .load .line) (withKept (s .load .loader) n))) k ∙ sym (ap (λ (b : Bool). lastBy b (s .load)) p))
-      (put-said 66 (put-none 0 out 0) (sym (ap (λ (b : Bool). sayLastBy b (s .load)) p ∙ silent)) (omega arith))
+      (put-said lineRoom (put-none 0 out 0) (sym (ap (λ (b : Bool). sayLastBy b (s .load)) p ∙ silent)) (omega arith))
     where
       silent : sayLastBy false (s .load) ≡ []
       silent = rw (le-ltb 0 (s .load .loader .kept) (omega (arith, k)))
 
   pub finish-asked :
       {out out′ : List ℕ} {next : Loader} {n : ℕ} →
-      66 ≤ length out →
+      lineRoom ≤ length out →
       ready (s .load) ≡ true →
       (s .load .loader .kept ≡ 0 → ⊥) →
       next ≡ withKept (s .load .loader) 0 →
-      Put 66 out 0 (answerText (s .load)) out′ n →
-      Turns 66 s (takeLast s) (sayLast s) out (t.Went (record { loading = false; loader = next }) n) (state (s .load .store) (s .load .line) (record { loading = false; loader = next })) out′
+      Put lineRoom out 0 (answerText (s .load)) out′ n →
+      Turns lineRoom s (takeLast s) (sayLast s) out (t.Went (record { loading = false; loader = next }) n) (state (s .load .store) (s .load .line) (record { loading = false; loader = next })) out′
   finish-asked room fine k q w =
       went room fine
       (ap (λ (l : Loader). asking (load (s .load .store) (s .load .line) l)) q ∙ sym (ap (λ (b : Bool). lastBy b (s .load)) p))
-      (put-said 66 w (sym (ap (λ (b : Bool). sayLastBy b (s .load)) p ∙ says)) (omega arith))
+      (put-said lineRoom w (sym (ap (λ (b : Bool). sayLastBy b (s .load)) p ∙ says)) (omega arith))
     where
       says : sayLastBy false (s .load) ≡ answerText (s .load)
       says = rw (lt-ltb 0 (s .load .loader .kept) (omega (arith, k)))
 
-pub finish-text : {s s′ : State} {out out′ : List ℕ} {r : Turn} → s .loading ≡ true → Turns 66 s (textAfter (s .load)) (textSays (s .load)) out r s′ out′ → Turns 66 s (takeLast s) (sayLast s) out r s′ out′
-finish-text {s} {s′} {out} {out′} {r} p turn = subst (λ (b : Bool). Turns 66 s (lastBy b (s .load)) (sayLastBy b (s .load)) out r s′ out′) (sym p) turn
+pub finish-text : {s s′ : State} {out out′ : List ℕ} {r : Turn} → s .loading ≡ true → Turns lineRoom s (textAfter (s .load)) (textSays (s .load)) out r s′ out′ → Turns lineRoom s (takeLast s) (sayLast s) out r s′ out′
+finish-text {s} {s′} {out} {out′} {r} p turn = subst (λ (b : Bool). Turns lineRoom s (lastBy b (s .load)) (sayLastBy b (s .load)) out r s′ out′) (sym p) turn

@@ -51,9 +51,9 @@ answerTo ask line = cond (ltb lineLimit (length line)) (Refused tooLong) (asked 
 
 -- ---- what is written
 
--- the report: lines, accepted, skipped, refused, first refused line, its reason
+-- the report: lines, accepted, skipped, refused, first refused line, its reason, and last the accepted lines that held b (02, Six)
 unfoldable pub reportLine : Totals → List ℕ
-reportLine c = numbersLine (c .lines ∷ c .accepted ∷ c .skipped ∷ c .refused ∷ c .first ∷ c .reason ∷ [])
+reportLine c = numbersLine (c .lines ∷ c .accepted ∷ c .skipped ∷ c .refused ∷ c .first ∷ c .reason ∷ c .bringup ∷ [])
 
 -- a line for each question
 abbrev pub answerLines : Table → List (List ℕ) → List ℕ

@@ -23,6 +23,9 @@ ghost use Rattle.replies.specs.Replies.{lineRoom};
 // A line that is exactly this byte ends the rule text.
 const MARK: u8 = b'?';
 
+// The most bytes of a line that is written: so many for each byte of input are room enough.
+pub const LINE_ROOM: usize = replies::LINE_ROOM;
+
 // The session between two calls: whether rule text is still read, and the loader, whose kept line is the line under way.
 pub struct Session {
     pub loading: bool,
@@ -283,7 +286,7 @@ pub fn feed(
 ) -> Turn
     ensures { λ r. ⌜ steps.Feeds (steps.enters labels entries words line s) (now (input .entry)) out r (steps.leaves labels entries words line s r) ⌝ }
 {
-    if out.len() / replies::LINE_ROOM < input.len() {
+    if out.len() / LINE_ROOM < input.len() {
         return Turn::NoRoom;
     }
     if s.loading {
@@ -310,7 +313,7 @@ pub fn finish(
 ) -> Turn
     ensures { λ r. ⌜ steps.Finishes (steps.enters labels entries words line s) out r (steps.leaves labels entries words line s r) ⌝ }
 {
-    if out.len() < replies::LINE_ROOM {
+    if out.len() < LINE_ROOM {
         return Turn::NoRoom;
     }
     let l = s.loader;

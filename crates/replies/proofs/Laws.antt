@@ -14,7 +14,8 @@ use Rattle.search.proofs.Laws.{length-written}
 use Rattle.answers.specs.Answers.{shown}
 use Rattle.answers.specs.declared.Shown.{Shown}
 use Rattle.access.specs.declared.Answer.{Answer}
-use Rattle.replies.specs.Replies.{digits, decimal, wordOf, endingOf, answerLine}
+use Rattle.alphabet.specs.Alphabet.{newline}
+use Rattle.replies.specs.Replies.{digits, decimal, wordOf, answerLine}
 use Rattle.replies.specs.Within.{Put}
 
 -- ---- bytes put one behind the other
@@ -167,16 +168,9 @@ ten-digits =
 
 -- ---- a report and an answer, as they are put together
 
-pub six-fields : (a b c d e f : List ℕ) → ((((a ++ b) ++ c) ++ d) ++ e) ++ f ≡ a ++ (b ++ (c ++ (d ++ (e ++ f))))
-six-fields a b c d e f = simp append-assoc
+pub seven-fields : (a b c d e f g : List ℕ) → (((((a ++ b) ++ c) ++ d) ++ e) ++ f) ++ g ≡ a ++ (b ++ (c ++ (d ++ (e ++ (f ++ g)))))
+seven-fields a b c d e f g = simp append-assoc
 
-pub answer-said :
-    (a : Answer) (sh : Shown) (b : Bool) →
-    sh ≡ shown a →
-    sh .bringup ≡ b →
-    (wordOf a ++ decimal (sh .number)) ++ endingOf b ≡ answerLine a
+pub answer-said : (a : Answer) (sh : Shown) → sh ≡ shown a → wordOf a ++ (decimal (sh .number) ++ (newline ∷ [])) ≡ answerLine a
 unfolding answerLine
-answer-said a sh b p q =
-    append-assoc (wordOf a) (decimal (sh .number)) (endingOf b)
-    ∙ ap (λ (t : Bool). wordOf a ++ (decimal (sh .number) ++ endingOf t)) (sym q)
-    ∙ ap (λ (x : Shown). wordOf a ++ (decimal (x .number) ++ endingOf (x .bringup))) p
+answer-said a sh p = ap (λ (x : Shown). wordOf a ++ (decimal (x .number) ++ (newline ∷ []))) p

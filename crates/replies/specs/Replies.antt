@@ -1,8 +1,8 @@
--- 01, What the program reads and writes: the lines that are written, as bytes. Assumes nothing.
+-- 01, What the program reads and writes, and 02, Six: the lines that are written, as bytes. Assumes nothing.
 use Prim.Native.Nat.{ℕ, zero, suc, _+_, _-_, _*_, _/_, _%_, _<_, _≤_}
 use mathlib.Core.Path.{_≡_}
 use mathlib.Core.Logic.{_↔_, _≢_}
-use mathlib.Core.Bool.{Bool, true, false, cond}
+use mathlib.Core.Bool.{cond}
 use mathlib.Core.List.{List, [], _∷_, _++_, foldl}
 use lib.ListN.{length, getD}
 use lib.Dec.{ltb}
@@ -39,26 +39,21 @@ numbersLine [] = newline ∷ []
 numbersLine (n ∷ []) = decimal n ++ (newline ∷ [])
 numbersLine (n ∷ m ∷ ms) = (decimal n ++ (space ∷ [])) ++ numbersLine (m ∷ ms)
 
--- the most bytes of a line that is written: six numbers of at most ten digits, each with a blank or the newline
+-- the most bytes of a line that is written: seven numbers of at most ten digits, each with a blank or the newline
 abbrev pub lineRoom : ℕ
-lineRoom = 66
+lineRoom = 77
 
--- a report, as it is written: lines, accepted, skipped, refused, first refused line, its reason
+-- a report, as it is written: lines, accepted, skipped, refused, first refused line, its reason, and last the accepted lines that held b
 abbrev pub reportText : Report → List ℕ
-reportText r = numbersLine (r .lines ∷ r .accepted ∷ r .skipped ∷ r .refused ∷ r .first ∷ r .reason ∷ [])
+reportText r = numbersLine (r .lines ∷ r .accepted ∷ r .skipped ∷ r .refused ∷ r .first ∷ r .reason ∷ r .bringup ∷ [])
 
 -- `granted `, `denied `, `override `, `refused `
 abbrev pub wordOf : Answer → List ℕ
-wordOf (Granted n b) = ascii "granted "
+wordOf (Granted n) = ascii "granted "
 wordOf (Denied by) = ascii "denied "
 wordOf (Override by) = ascii "override "
 wordOf (Refused n) = ascii "refused "
 
--- the line's end: ` b` where the rule has b, and a newline
-abbrev pub endingOf : Bool → List ℕ
-endingOf true = ascii " b\n"
-endingOf false = ascii "\n"
-
--- `granted 6`, `granted 6 b`, `denied 7`, `override 7` or `refused 3`, with the number that applies
+-- `granted 6`, `denied 7`, `override 7` or `refused 3`, with the number that applies
 unfoldable pub answerLine : Answer → List ℕ
-answerLine a = wordOf a ++ (decimal (shown a .number) ++ endingOf (shown a .bringup))
+answerLine a = wordOf a ++ (decimal (shown a .number) ++ (newline ∷ []))

@@ -8,7 +8,7 @@ ghost use Rattle.replies.specs.Replies.{lineRoom, decimal, DecimalReadsB
 ghost use Rattle.replies.specs.Within.{Put};
 
 // The most bytes of a line that is written.
-pub const LINE_ROOM: usize = 66;
+pub const LINE_ROOM: usize = 77;
 
 // Writes a number in decimal digits from index `at`, and answers the index behind it. Who calls it has made sure that there is room.
 fn write_number(out: &mut [u8], at: usize, n: u32) -> usize
@@ -49,7 +49,8 @@ pub fn write_report(out: &mut [u8], at: usize, report: Report) -> usize
     let c = write_field(out, b, report.skipped, alphabet::SPACE);
     let d = write_field(out, c, report.refused, alphabet::SPACE);
     let e = write_field(out, d, report.first, alphabet::SPACE);
-    write_field(out, e, report.reason as u32, alphabet::NEWLINE)
+    let f = write_field(out, e, report.reason as u32, alphabet::SPACE);
+    write_field(out, f, report.bringup, alphabet::NEWLINE)
 }
 
 // Writes an answer's word and a space.
@@ -58,7 +59,7 @@ fn write_word(out: &mut [u8], at: usize, answer: Answer) -> usize
     ensures { λ r. ⌜ Put 9 (now (out .entry)) at (wordOf answer) (now (out .exit)) r ⌝ }
 {
     match answer {
-        Answer::Granted(_, _) => {
+        Answer::Granted(_) => {
             search::copy_at(out, at, b"granted ");
             at + 8
         }
@@ -84,11 +85,5 @@ pub fn write_answer(out: &mut [u8], at: usize, answer: Answer) -> usize
 {
     let shown = answers::show(answer);
     let word = write_word(out, at, answer);
-    let end = write_number(out, word, shown.number as u32);
-    if shown.bringup {
-        search::copy_at(out, end, b" b\n");
-        return end + 3;
-    }
-    out[end] = alphabet::NEWLINE;
-    end + 1
+    write_field(out, word, shown.number as u32, alphabet::NEWLINE)
 }

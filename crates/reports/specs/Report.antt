@@ -1,4 +1,4 @@
--- 01, Rule text, the report: the loader's numbers. A fresh loader has an empty kept line and a report of zeros; a line that was judged is
+-- 01, Rule text, the report, and 02, Six: the loader's numbers. A fresh loader has an empty kept line and a report of zeros; a line that was judged is
 -- counted; each number stops at its limit. Assumes nothing.
 use Prim.Native.Nat.{ℕ, _+_}
 use mathlib.Core.Bool.{cond}
@@ -10,7 +10,7 @@ use Rattle.reports.specs.declared.Report.{Report}
 
 -- a report of zeros, and a fresh loader
 abbrev pub emptyReport : Report
-emptyReport = record { lines = 0; accepted = 0; skipped = 0; refused = 0; first = 0; reason = 0; place = 0 }
+emptyReport = record { lines = 0; accepted = 0; skipped = 0; refused = 0; first = 0; reason = 0; place = 0; bringup = 0 }
 
 abbrev pub freshLoader : Loader
 freshLoader = record { kept = 0; report = emptyReport }
@@ -23,7 +23,8 @@ countLimit = 4294967295
 abbrev pub more : ℕ → ℕ
 more n = cond (ltb n countLimit) (n + 1) n
 
--- a line more. Of the first refused one the number, the reason and the place are kept (02, Three: its place, which is 0 where the reason is not 3)
+-- a line more. Of the first refused one the number, the reason and the place are kept (02, Three: its place, which is 0 where the reason is not 3). An
+-- accepted line that held b is also one more of `bringup` (02, Six)
 abbrev pub withLine : Report → Outcome → Report
 withLine r v.Skipped =
     record {
@@ -34,8 +35,9 @@ withLine r v.Skipped =
       first = r .first;
       reason = r .reason;
       place = r .place;
+      bringup = r .bringup;
     }
-withLine r v.Accepted =
+withLine r (v.Accepted held) =
     record {
       lines = more (r .lines);
       accepted = more (r .accepted);
@@ -44,6 +46,7 @@ withLine r v.Accepted =
       first = r .first;
       reason = r .reason;
       place = r .place;
+      bringup = cond held (more (r .bringup)) (r .bringup);
     }
 withLine r (v.Refused why) =
     record {
@@ -54,6 +57,7 @@ withLine r (v.Refused why) =
       first = cond (eqb (r .refused) 0) (more (r .lines)) (r .first);
       reason = cond (eqb (r .refused) 0) (why .number) (r .reason);
       place = cond (eqb (r .refused) 0) (why .place) (r .place);
+      bringup = r .bringup;
     }
 
 -- the loader with that, and the next line begins empty

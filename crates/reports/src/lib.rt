@@ -1,10 +1,11 @@
-// The loader's numbers (01, Rule text: the report): a fresh loader, a line counted, and the report. Each number stops at its limit.
+// The loader's numbers (01, Rule text: the report; 02, Six): a fresh loader, a line counted, and the report. Each number stops at its limit.
 use writes::Outcome;
 ghost use mathlib.Core.Path.{_≡_};
 ghost use Rattle.reports.specs.Report.{freshLoader, more, withLine, count, withKept};
 
 // The report: how many lines, accepted, skipped and refused, and the number (from 1), the reason and the place of the first refused line, 0 where
-// none. The place is that of the first bad byte where the reason is 3, and 0 for any other reason (02, Three).
+// none. The place is that of the first bad byte where the reason is 3, and 0 for any other reason (02, Three). The last is how many accepted lines held
+// the retired letter b (02, Six).
 #[repr(C)]
 pub struct Report {
     pub lines: u32,
@@ -14,6 +15,7 @@ pub struct Report {
     pub first: u32,
     pub reason: u8,
     pub place: usize,
+    pub bringup: u32,
 }
 
 // The loader between two calls: how many bytes of the line under way are kept (601: it has more than 600), and the report so far.
@@ -32,6 +34,7 @@ pub const ZEROS: Report = Report {
     first: 0,
     reason: 0,
     place: 0,
+    bringup: 0,
 };
 
 // A fresh loader: an empty kept line and a report of zeros.
@@ -62,11 +65,22 @@ fn with_line(report: Report, outcome: Outcome) -> Report
             skipped: one_more(report.skipped),
             ..report
         },
-        Outcome::Accepted => Report {
-            lines,
-            accepted: one_more(report.accepted),
-            ..report
-        },
+        Outcome::Accepted(held) => {
+            let accepted = one_more(report.accepted);
+            if held {
+                return Report {
+                    lines,
+                    accepted,
+                    bringup: one_more(report.bringup),
+                    ..report
+                };
+            }
+            Report {
+                lines,
+                accepted,
+                ..report
+            }
+        }
         Outcome::Refused(refusal) => {
             let refused = one_more(report.refused);
             if report.refused == 0 {
@@ -111,6 +125,7 @@ pub fn keep(l: Loader, kept: usize) -> Loader
             first: l.report.first,
             reason: l.report.reason,
             place: l.report.place,
+            bringup: l.report.bringup,
         },
     }
 }

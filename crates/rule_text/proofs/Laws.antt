@@ -1,6 +1,6 @@
 -- The text of a rule: written to the front of an output, and read again. Assumes nothing.
 use mathlib.Core.Path.{_≡_, refl, sym, ap, _∙_}
-use mathlib.Core.Bool.{Bool, true, not}
+use mathlib.Core.Bool.{Bool, true, false, not}
 use mathlib.Core.List.{List, [], _∷_, _++_, append-assoc}
 use Prim.Native.Nat.{ℕ, _+_, _<_, _≤_}
 use native.Mathlib.Omega.{arith}
@@ -11,9 +11,10 @@ use Rattle.search.specs.Bytes.{written}
 use Rattle.search.proofs.Laws.{and-both, all-append, all-by}
 use Rattle.alphabet.specs.Alphabet.{space, newline, isNewline, isBlank, wellFormed, lineLimit, onto, parts, hasByte, fields}
 use Rattle.alphabet.proofs.Laws.{label-unblank, label-no-newline, formed-is}
-use Rattle.modes.specs.Modes.{modesText}
-use Rattle.modes.proofs.Laws.{text-read, text-some, text-long, text-byte}
-use Rattle.lines.specs.Lines.{rule, ruleBy, ruleOf}
+use Rattle.modes.specs.Modes.{modesText, knownModes}
+use Rattle.modes.proofs.Laws.{known-stored, text-read, text-some, text-long, text-byte}
+use Rattle.modes.proofs.Laws as modes
+use Rattle.lines.specs.Lines.{rule, ruleBy, ruleOf, bringUpIn}
 use Rattle.lines.proofs.Laws.{Taken}
 use Rattle.output.specs.Output.{putAnswer, putOut}
 use Rattle.output.specs.declared.Output.the-variants as output
@@ -106,7 +107,7 @@ label-word l e =
 pub label-plain : (l : List ℕ) → wellFormed l ≡ true → all noNewline l ≡ true
 label-plain l e = all-by noNewline 0 l (λ k h. ap not (label-no-newline (getD l k 0) (formed-is l e .2 k h)))
 
-pub modes-word : (m : ℕ) → m < 64 → Word (modesText m)
+pub modes-word : (m : ℕ) → knownModes m ≡ true → Word (modesText m)
 unfolding isBlank
 modes-word m h = record { has-a-byte = text-some m h; unblank = all-by noBlank 0 (modesText m) (λ k i. unblank (getD (modesText m) k 0) (text-byte m k i .0)) }
   where
@@ -117,18 +118,18 @@ pub modes-plain : (m : ℕ) → all noNewline (modesText m) ≡ true
 modes-plain m = all-by noNewline 0 (modesText m) (λ k i. let h = text-byte m k i .0 in ap not (ne-eqb (getD (modesText m) k 0) newline (λ z. omega arith)))
 
 -- A RULE'S LINE, of two labels that a rule can have and of known modes
-module _ (s o : List ℕ) (m : ℕ) (taken : Taken s o) (known : m < 64) where
+module _ (s o : List ℕ) (m : ℕ) (taken : Taken s o) (known : knownModes m ≡ true) where
   abbrev line : List ℕ
   line = lineOf s o (modesText m)
 
-  -- it has no newline, and at most 518 bytes
+  -- it has no newline, and at most 517 bytes
   pub text-plain : all noNewline line ≡ true
   unfolding all
   text-plain =
       all-append noNewline s (space ∷ (o ++ (space ∷ modesText m))) (label-plain s (taken .subject))
       (all-append noNewline o (space ∷ modesText m) (label-plain o (taken .object)) (modes-plain m))
 
-  pub text-short : length line ≤ 518
+  pub text-short : length line ≤ 517
   text-short = simp length-append (omega (arith, formed-is s (taken .subject) .1, formed-is o (taken .object) .1, text-long m))
 
   -- and read again it says the rule
@@ -142,4 +143,11 @@ module _ (s o : List ℕ) (m : ℕ) (taken : Taken s o) (known : m < 64) where
         taken .object,
         text-read m known,
         taken .apart,
+        known-stored m known,
       )
+
+  -- and holds no b
+  pub text-no-b : bringUpIn line ≡ false
+  unfolding bringUpIn
+  text-no-b =
+      rw (line-fields s o (modesText m) (label-word s (taken .subject)) (label-word o (taken .object)) (modes-word m known)) (modes.text-no-b m known)

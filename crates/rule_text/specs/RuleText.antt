@@ -10,6 +10,6 @@ lineOf subject object modes = subject ++ (space ∷ (object ++ (space ∷ modes)
 unfoldable pub textOf : List ℕ → List ℕ → List ℕ → List ℕ
 textOf subject object modes = lineOf subject object modes ++ (newline ∷ [])
 
--- the most bytes of it: two labels of 255 bytes, two spaces, six letters and the newline
+-- the most bytes of it: two labels of 255 bytes, two spaces, five letters and the newline
 abbrev pub longestRule : ℕ
-longestRule = 519
+longestRule = 518

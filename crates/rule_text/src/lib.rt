@@ -10,7 +10,7 @@ ghost use Rattle.rule_text.specs.RuleText.{textOf};
 // Writes a rule's text to the front of `out`. The whole length is tested before the first byte is written. Who calls it
 // has made sure that the two labels and the modes are no longer than such can be, so that the length can be counted.
 pub fn put_text(out: &mut [u8], subject: &[u8], object: &[u8], modes: &[u8]) -> Output
-    requires { ⌜ (length (now subject) ≤ labelLongest) × (length (now object) ≤ labelLongest) × (length (now modes) ≤ 6) ⌝ }
+    requires { ⌜ (length (now subject) ≤ labelLongest) × (length (now object) ≤ labelLongest) × (length (now modes) ≤ 5) ⌝ }
     ensures { λ r. ⌜ r ≡ putAnswer (textOf (now (subject .entry)) (now (object .entry)) (now (modes .entry))) (now (out .entry)) ⌝ }
     ensures { λ _. ⌜ now (out .exit) ≡ putOut (textOf (now (subject .entry)) (now (object .entry)) (now (modes .entry))) (now (out .entry)) ⌝ }
 {

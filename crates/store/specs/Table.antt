@@ -7,6 +7,7 @@ use mathlib.Core.Logic.{_↔_}
 use mathlib.Core.Path.{_≡_}
 use lib.ListN.{length, getD}
 use lib.Dec.{eqb, ltb, leb}
+use Rattle.modes.specs.Modes.{knownModes}
 use Rattle.numbers.specs.Categories.{noCategories, knownSet}
 use Rattle.search.specs.Search.{first, all, placeOf}
 use Rattle.search.specs.Bytes.{ascii, sameBytes}
@@ -135,11 +136,11 @@ pub record FirstCounts (t : Table) : Type 0 where
       (n k : ℕ) →
       (mappingIn t n ≡ At k) ↔ ((k < length (t .mappings)) × (mappingNumbered t k .label ≡ n) × ((j : ℕ) → j < k → mappingNumbered t j .label ≡ n → ⊥))
 
--- ---- refusal 0, of what is stored: each number names a stored label (of which there are n), no unknown mode bit (64 and above), no
--- unknown category bit
+-- ---- refusal 0, of what is stored: each number names a stored label (of which there are n), no unknown mode bit (02, Six: 1, which stored b, is
+-- one), no unknown category bit
 
 unfoldable pub soundRule : ℕ → Rule → Bool
-soundRule n r = (ltb (r .subject) n && ltb (r .object) n) && ltb (r .modes) 64
+soundRule n r = (ltb (r .subject) n && ltb (r .object) n) && knownModes (r .modes)
 
 unfoldable pub soundMapping : ℕ → Mapping → Bool
 soundMapping n m = ltb (m .label) n && knownSet (m .set)

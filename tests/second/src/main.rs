@@ -22,6 +22,7 @@ fn main() -> ExitCode {
                 ["places"] => Kind::Places,
                 ["categories"] => Kind::Categories,
                 ["options"] => Kind::Options,
+                ["bringup"] => Kind::Bringup,
                 _ => return usage(),
             };
             match (seed.parse(), count.parse()) {
@@ -42,7 +43,7 @@ fn main() -> ExitCode {
 
 fn usage() -> ExitCode {
     eprintln!(
-        "usage: second program | second script | second random SEED COUNT [records | searches | places | categories | options]"
+        "usage: second program | second script | second random SEED COUNT [records | searches | places | categories | options | bringup]"
     );
     ExitCode::FAILURE
 }

@@ -3,8 +3,8 @@
 //! Words in quotes are the paper's. The order of this file is the paper's:
 //! labels, modes, rule text, single writes, look-ups, questions, listing; then
 //! request One of 02, old fixed records, and request Five, the packet option. The
-//! places of request Three and the categories of request Four stand with the
-//! labels, fields and calls that they belong to.
+//! places of request Three, the categories of request Four and what request Six
+//! left of b stand with the labels, fields and calls that they belong to.
 //! A table here is never damaged; see `raw` for lent memory and refusal 0.
 
 use std::collections::BTreeSet;
@@ -65,7 +65,8 @@ pub enum Refusal {
     /// "a length other than 53, a label place that is all spaces, has another
     /// byte after a space or doesn't end in a space".
     BadRecord,
-    /// "a label over 23 bytes or a b".
+    /// "a label over 23 bytes"; "or a b" went with Six: "Line-to-record conversion
+    /// drops b".
     NotInARecord,
     /// "any other layout" of an option.
     BadOption,
@@ -189,25 +190,21 @@ pub const W: u8 = 16;
 pub const X: u8 = 8;
 pub const A: u8 = 4;
 pub const T: u8 = 2;
-pub const B: u8 = 1;
 
 /// "One table of letters and their bits serves reading and writing alike";
-/// "the fixed order r, w, x, a, t, b".
-pub const LETTERS: [(u8, u8); 6] = [
-    (b'r', R),
-    (b'w', W),
-    (b'x', X),
-    (b'a', A),
-    (b't', T),
-    (b'b', B),
-];
+/// "the fixed order r, w, x, a, t". "Stored modes, listings and answers have no b".
+pub const LETTERS: [(u8, u8); 5] = [(b'r', R), (b'w', W), (b'x', X), (b'a', A), (b't', T)];
 
-/// Letters of a rule line's access field: "the letters r w x a t b".
-pub const RULE_LETTERS: u8 = R | W | X | A | T | B;
-/// Letters of a change: "r w x a t and the dash"; "b is refused".
-pub const CHANGE_LETTERS: u8 = R | W | X | A | T;
+/// Every letter of a mode: no other bit is known.
+pub const MODE_LETTERS: u8 = R | W | X | A | T;
 /// Letters of a request: "r w x a".
 pub const REQUEST_LETTERS: u8 = R | W | X | A;
+
+/// What stands for no letter in the access field of a line: "A dash is a
+/// placeholder", and "b or B in a line's access field counts as a placeholder".
+pub const LINE_PLACEHOLDERS: &[u8] = b"-bB";
+/// And in the two of a change, which "still refuses" b "with 4".
+pub const CHANGE_PLACEHOLDERS: &[u8] = b"-";
 
 /// The bit of a letter, "either case".
 fn bit_of_letter(byte: u8) -> Option<u8> {
@@ -220,22 +217,21 @@ fn bit_of_letter(byte: u8) -> Option<u8> {
     None
 }
 
-/// An access field: letters, "either case, repeats allowed. A dash is a
-/// placeholder". `allowed` are the letters that may stand in this field.
-/// None where the field "has a byte not allowed there".
-pub fn read_access(field: &[u8], allowed: u8) -> Option<u8> {
+/// An access field: letters, "either case, repeats allowed", and the placeholders
+/// of such a field. None where the field "has a byte not allowed there".
+pub fn read_access(field: &[u8], placeholders: &[u8]) -> Option<u8> {
     let mut modes = 0;
     for &byte in field {
-        if byte == b'-' {
-            continue;
+        if !placeholders.contains(&byte) {
+            modes |= bit_of_letter(byte)?;
         }
-        let bit = bit_of_letter(byte)?;
-        if bit & allowed == 0 {
-            return None;
-        }
-        modes |= bit;
     }
     Some(modes)
+}
+
+/// Whether a line's access field held the letter that goes: "b or B".
+fn holds_b(field: &[u8]) -> bool {
+    field.iter().any(|byte| byte.eq_ignore_ascii_case(&b'b'))
 }
 
 /// "The request is a non-empty set of r w x a, in the letters of a mode without
@@ -523,11 +519,16 @@ impl Table {
 pub enum Line<'a> {
     Skipped,
     Refused(Refusal),
-    Accepted {
-        subject: &'a [u8],
-        object: &'a [u8],
-        modes: u8,
-    },
+    Accepted(Rule<'a>),
+}
+
+/// What a line says, and whether its access field "held" a b, which says nothing.
+#[derive(Clone, Copy, PartialEq, Eq, Debug)]
+pub struct Rule<'a> {
+    pub subject: &'a [u8],
+    pub object: &'a [u8],
+    pub modes: u8,
+    pub held_b: bool,
 }
 
 /// "A line of 0 to 600 blanks and no other byte is skipped."
@@ -542,26 +543,22 @@ impl Table {
             return Line::Skipped;
         }
         match self.judge_rule(line) {
-            Ok((subject, object, modes)) => Line::Accepted {
-                subject,
-                object,
-                modes,
-            },
+            Ok(rule) => Line::Accepted(rule),
             Err(refusal) => Line::Refused(refusal),
         }
     }
 
     /// "the first in this order is given: rule 1 2 3 4 5 6 7".
-    fn judge_rule<'a>(&self, line: &'a [u8]) -> Result<(&'a [u8], &'a [u8], u8), Refusal> {
-        let (subject, object, modes) = read_rule(line)?;
-        self.check_pair(subject, object)?;
-        Ok((subject, object, modes))
+    fn judge_rule<'a>(&self, line: &'a [u8]) -> Result<Rule<'a>, Refusal> {
+        let rule = read_rule(line)?;
+        self.check_pair(rule.subject, rule.object)?;
+        Ok(rule)
     }
 }
 
 /// A rule: "subject, object, access". The refusals 1 2 3 4, which no table is
 /// asked for.
-fn read_rule(line: &[u8]) -> Result<(&[u8], &[u8], u8), Refusal> {
+fn read_rule(line: &[u8]) -> Result<Rule<'_>, Refusal> {
     if line.len() > LINE_LIMIT {
         return Err(Refusal::TooLong);
     }
@@ -572,10 +569,15 @@ fn read_rule(line: &[u8]) -> Result<(&[u8], &[u8], u8), Refusal> {
     let (subject, object, access) = (fields[0], fields[1], fields[2]);
     subject.check_label()?;
     object.check_label()?;
-    let Some(modes) = read_access(access.bytes, RULE_LETTERS) else {
+    let Some(modes) = read_access(access.bytes, LINE_PLACEHOLDERS) else {
         return Err(Refusal::BadAccess);
     };
-    Ok((subject.bytes, object.bytes, modes))
+    Ok(Rule {
+        subject: subject.bytes,
+        object: object.bytes,
+        modes,
+        held_b: holds_b(access.bytes),
+    })
 }
 
 /// The plain reader's loader: "a kept line of any length and the report's true
@@ -591,12 +593,13 @@ pub struct Loader {
     pub first_line: u64,
     pub first_reason: u64,
     pub first_place: u64,
+    pub bringup: u64,
 }
 
 /// "The report: lines, accepted, skipped, refused, and the number (from 1) and
 /// reason of the first refused line." "The report ... keeps" the place too "for
 /// the first refused line, 0 if that isn't a 3". A place is no count and has no
-/// limit of its own.
+/// limit of its own. Last, by Six, "a count of accepted lines that held" a b.
 #[derive(Clone, Copy, PartialEq, Eq, Debug)]
 pub struct Report {
     pub lines: u32,
@@ -606,6 +609,7 @@ pub struct Report {
     pub first_line: u32,
     pub first_reason: u32,
     pub first_place: u64,
+    pub bringup: u32,
 }
 
 /// "Each number is the true one or 4,294,967,295, whichever is smaller."
@@ -625,6 +629,7 @@ impl Loader {
             first_line: 0,
             first_reason: 0,
             first_place: 0,
+            bringup: 0,
         }
     }
 
@@ -638,6 +643,7 @@ impl Loader {
             first_line: limited(self.first_line),
             first_reason: limited(self.first_reason),
             first_place: self.first_place,
+            bringup: limited(self.bringup),
         }
     }
 
@@ -655,14 +661,12 @@ impl Loader {
                 }
                 self.refused += 1;
             }
-            Line::Accepted {
-                subject,
-                object,
-                modes,
-            } => {
+            Line::Accepted(rule) => {
                 // "An accepted line sets its pair's modes wholly."
-                table.set_pair(subject, object, modes);
+                table.set_pair(rule.subject, rule.object, rule.modes);
                 self.accepted += 1;
+                // Once a line, however often the letter stands in it.
+                self.bringup += u64::from(rule.held_b);
             }
         }
         self.line.clear();
@@ -709,10 +713,10 @@ impl Table {
         }
         fields[0].check_label()?;
         fields[1].check_label()?;
-        let Some(allow) = read_access(fields[2].bytes, CHANGE_LETTERS) else {
+        let Some(allow) = read_access(fields[2].bytes, CHANGE_PLACEHOLDERS) else {
             return Err(Refusal::BadAccess);
         };
-        let Some(deny) = read_access(fields[3].bytes, CHANGE_LETTERS) else {
+        let Some(deny) = read_access(fields[3].bytes, CHANGE_PLACEHOLDERS) else {
             return Err(Refusal::BadAccess);
         };
         let (subject, object) = (fields[0].bytes, fields[1].bytes);
@@ -936,20 +940,15 @@ pub fn search_run(run: &[Record], level: u64, set: &Words) -> Result<Option<u64>
 // Questions
 // ---------------------------------------------------------------------------
 
-/// "The answer is one of: granted, with the rule number and, under rule 6,
-/// whether the rule has b; denied, with 1 or 7; granted by override, with the
-/// rule that would have denied; refused, with its number."
+/// "The answer is one of: granted, with the rule number ...; denied, with 1 or 7;
+/// granted by override, with the rule that would have denied; refused, with its
+/// number." "answers have no b": "P10 then reads granted 6".
 #[derive(Clone, Copy, PartialEq, Eq, Debug)]
 pub enum Answer {
-    Granted { rule: u8, has_b: bool },
+    Granted { rule: u8 },
     Denied { rule: u8 },
     Override { rule: u8 },
     Refused(Refusal),
-}
-
-/// Granted by another rule than 6: there is no b to tell of.
-fn granted(rule: u8) -> Answer {
-    Answer::Granted { rule, has_b: false }
 }
 
 impl Table {
@@ -963,28 +962,25 @@ impl Table {
         }
         // 2. "Subject is ^ and the request has only r and x: granted."
         if subject == b"^" && only_r_and_x {
-            return granted(2);
+            return Answer::Granted { rule: 2 };
         }
         // 3. "Object is _ and the request has only r and x: granted."
         if object == b"_" && only_r_and_x {
-            return granted(3);
+            return Answer::Granted { rule: 3 };
         }
         // 4. "Object is *: granted."
         if object == b"*" {
-            return granted(4);
+            return Answer::Granted { rule: 4 };
         }
         // 5. "Subject equals object: granted."
         if subject == object {
-            return granted(5);
+            return Answer::Granted { rule: 5 };
         }
         // 6. "The pair has a rule whose modes hold every requested letter: granted."
         if let Some(place) = self.place_of_pair(subject, object) {
             let modes = self.rules[place].2;
             if modes & request == request {
-                return Answer::Granted {
-                    rule: 6,
-                    has_b: modes & B != 0,
-                };
+                return Answer::Granted { rule: 6 };
             }
         }
         // 7. "Denied."
@@ -1099,11 +1095,6 @@ pub const FIXED_PLACE: usize = 24;
 /// "A label is 1 to 23 bytes at the left, filled with spaces."
 pub const FIXED_LABEL_LIMIT: usize = 23;
 
-/// The letters of the five access bytes, each at its own place: "r, w, x, a, t".
-fn fixed_letters() -> &'static [(u8, u8)] {
-    &LETTERS[..5]
-}
-
 /// The label at the left of a place. None where the place "is all spaces, has
 /// another byte after a space or doesn't end in a space". Only a space fills:
 /// a tab is a byte like others.
@@ -1118,11 +1109,12 @@ fn label_of_place(place: &[u8]) -> Option<&[u8]> {
     Some(label)
 }
 
-/// The five access bytes: each is "the letter of its place", "either case, or a
-/// dash". None where one is neither.
+/// The five access bytes, "r, w, x, a, t in their own places": each is "the letter
+/// of its place", "either case, or a dash". None where one is neither. A record is
+/// no line: b is a placeholder in none.
 fn read_fixed_access(bytes: &[u8]) -> Option<u8> {
     let mut modes = 0;
-    for (&byte, &(letter, bit)) in bytes.iter().zip(fixed_letters()) {
+    for (&byte, (letter, bit)) in bytes.iter().zip(LETTERS) {
         if byte.to_ascii_lowercase() == letter {
             modes |= bit;
         } else if byte != b'-' {
@@ -1162,30 +1154,30 @@ pub fn record_to_line(record: &[u8], output: &mut [u8]) -> Result<usize, Refusal
 
 /// A rule line turned into a record. The line is "read with or without one
 /// closing newline; another is a bad byte": any other newline is a byte of the
-/// field that it is in. Nothing is skipped here. Refusals 1 2 3 4 5 15 12; the
-/// place is 0 here too.
+/// field that it is in. Nothing is skipped here. "Line-to-record conversion drops
+/// b." Refusals 1 2 3 4 5 15 12; the place is 0 here too.
 pub fn line_to_record(line: &[u8], output: &mut [u8]) -> Result<usize, Refusal> {
     let line = match line.split_last() {
         Some((b'\n', before)) => before,
         _ => line,
     };
-    let (subject, object, modes) = read_rule(line).map_err(|refusal| match refusal {
+    let rule = read_rule(line).map_err(|refusal| match refusal {
         Refusal::BadLabel { .. } => Refusal::BadLabel { place: 0 },
         other => other,
     })?;
-    if subject == object {
+    if rule.subject == rule.object {
         return Err(Refusal::SameLabels);
     }
-    if subject.len() > FIXED_LABEL_LIMIT || object.len() > FIXED_LABEL_LIMIT || modes & B != 0 {
+    if rule.subject.len() > FIXED_LABEL_LIMIT || rule.object.len() > FIXED_LABEL_LIMIT {
         return Err(Refusal::NotInARecord);
     }
     let mut record = Vec::new();
-    for label in [subject, object] {
+    for label in [rule.subject, rule.object] {
         record.extend_from_slice(label);
         record.resize(record.len() + FIXED_PLACE - label.len(), b' ');
     }
-    for &(letter, bit) in fixed_letters() {
-        record.push(if modes & bit != 0 { letter } else { b'-' });
+    for (letter, bit) in LETTERS {
+        record.push(if rule.modes & bit != 0 { letter } else { b'-' });
     }
     write_to_front(&record, output)
 }

@@ -70,25 +70,26 @@ pub fn question_line(table: &Table, line: &[u8]) -> Answer {
 }
 
 /// "lines, accepted, skipped, refused, first refused line, its reason; 0 0
-/// where none". 02, Three: "the program prints as before", so no place.
+/// where none". 02, Three: "the program prints as before", so no place. 02, Six:
+/// "the program prints" the count of lines that held a b "last on the report line".
 pub fn report_text(report: &Report) -> String {
     format!(
-        "{} {} {} {} {} {}",
+        "{} {} {} {} {} {} {}",
         report.lines,
         report.accepted,
         report.skipped,
         report.refused,
         report.first_line,
-        report.first_reason
+        report.first_reason,
+        report.bringup
     )
 }
 
-/// "`granted 6`, `granted 6 b`, `denied 7`, `override 7` or `refused 3`, with
-/// the number that applies"; no place here either.
+/// "`granted 6` ..., `denied 7`, `override 7` or `refused 3`, with the number that
+/// applies"; no place here either, and since Six no b.
 pub fn answer_text(answer: &Answer) -> String {
     match answer {
-        Answer::Granted { rule, has_b: false } => format!("granted {rule}"),
-        Answer::Granted { rule, has_b: true } => format!("granted {rule} b"),
+        Answer::Granted { rule } => format!("granted {rule}"),
         Answer::Denied { rule } => format!("denied {rule}"),
         Answer::Override { rule } => format!("override {rule}"),
         Answer::Refused(refusal) => format!("refused {}", refusal.number()),

@@ -69,8 +69,9 @@ impl Xorshift {
 /// Which calls a script has: all of them; the two that turn old records into
 /// lines and back; questions, and some writes, about labels that are hard to
 /// tell apart; the calls that tell the place of a bad byte; mappings, look-ups and
-/// runs of sets that are hard to tell apart; or the packet option's writer and
-/// reader, with mappings and look-ups beside them.
+/// runs of sets that are hard to tell apart; the packet option's writer and reader,
+/// with mappings and look-ups beside them; or lines with the retired letter b, with
+/// changes, requests and conversions that have it and states that stored it.
 #[derive(Clone, Copy, PartialEq, Eq)]
 pub enum Kind {
     Every,
@@ -79,6 +80,7 @@ pub enum Kind {
     Places,
     Categories,
     Options,
+    Bringup,
 }
 
 /// Lengths just under and over 600 bytes, and for a mapping over 1,000 too.
@@ -113,6 +115,7 @@ pub fn write_script(seed: u64, count: u64, kind: Kind, output: &mut dyn Write) -
             Kind::Places => generator.places_episode(),
             Kind::Categories => generator.categories_episode(),
             Kind::Options => generator.options_episode(),
+            Kind::Bringup => generator.bringup_episode(),
         }
     }
     match generator.error {
@@ -243,19 +246,7 @@ impl Generator<'_> {
             }
             _ => {
                 self.base_state();
-                let undo = match self.random.chance(75) {
-                    true => self.damage(),
-                    false => {
-                        self.resize_part();
-                        vec!["fresh".to_string(), "freshloader".to_string()]
-                    }
-                };
-                for _ in 0..12 {
-                    self.place_call();
-                }
-                for call in undo {
-                    self.emit(&call);
-                }
+                self.damage_and_mend(Self::damage, Self::place_call, 8);
             }
         }
         let count = 20 + self.random.below(40);
@@ -319,28 +310,8 @@ impl Generator<'_> {
             self.fill_rules_to(256);
         }
         self.calls(4);
-        if self.random.chance(25) {
-            self.resize_part();
-            self.every_call();
-            self.calls(6);
-            self.emit("freshen");
-            self.emit("dump");
-            return;
-        }
-        let times = 1 + self.random.below(3);
-        for _ in 0..times {
-            let undo = self.damage();
-            self.emit("dump");
-            self.every_call();
-            self.calls(5);
-            if self.random.chance(60) {
-                for call in undo {
-                    self.emit(&call);
-                }
-                self.emit("dump");
-                self.calls(6);
-            }
-        }
+        self.damage_and_mend(Self::damage, Self::every_call, 1);
+        self.calls(6);
     }
 
     fn odd_episode(&mut self) {
@@ -382,7 +353,7 @@ impl Generator<'_> {
             let is_level = (raw::LEVELS..raw::OVERRIDES).contains(&at);
             entries.push(match (is_modes, is_level) {
                 (true, _) if any_modes => self.random.byte(),
-                (true, _) => self.random.byte() & 63,
+                (true, _) => self.random.byte() & plain::MODE_LETTERS,
                 (_, true) => self.random.pick(&[0, 7, 9, 250, 255]),
                 _ if any_number => self.random.byte(),
                 _ => self.random.below(labels.max(1)) as u8,
@@ -562,8 +533,43 @@ impl Generator<'_> {
     // Damage: refusal 0
     // -----------------------------------------------------------------------
 
-    /// A part gets another size.
-    fn resize_part(&mut self) {
+    /// A few times something is damaged, calls are made there, and mostly it is
+    /// mended before the next damage comes. A part that got another size always is,
+    /// by fresh memory.
+    fn damage_and_mend(
+        &mut self,
+        damage: fn(&mut Self) -> Vec<String>,
+        call: fn(&mut Self),
+        count: u64,
+    ) {
+        for _ in 0..1 + self.random.below(4) {
+            let resized = self.random.chance(15);
+            let mend = match resized {
+                true => self.resize_part(),
+                false => damage(self),
+            };
+            self.emit("dump");
+            for _ in 0..count {
+                call(self);
+            }
+            if self.random.chance(20) {
+                self.every_call();
+            }
+            if resized {
+                self.emit("freshen");
+            }
+            if resized || self.random.chance(85) {
+                for call in mend {
+                    self.emit(&call);
+                }
+                self.emit("dump");
+                call(self);
+            }
+        }
+    }
+
+    /// A part gets another size; gives the calls that undo it.
+    fn resize_part(&mut self) -> Vec<String> {
         let (part, size) = match self.random.below(4) {
             0 => ("labels", self.random.pick(&[0, 256, 16383, 16385, 20000])),
             1 => ("entries", self.random.pick(&[0, 256, 839, 841])),
@@ -571,13 +577,14 @@ impl Generator<'_> {
             _ => ("line", self.random.pick(&[0, 1, 599, 601])),
         };
         self.emit(&format!("resize {part} {size}"));
+        vec!["fresh".to_string(), "freshloader".to_string()]
     }
 
     /// Damages something below the counts; gives the calls that undo it.
     fn damage(&mut self) -> Vec<String> {
         let counts: Vec<u64> = self.machine.state.words[..4].to_vec();
         let no_label = self.random.pick(&[counts[0].min(255), 64, 128, 255]);
-        match self.random.below(13) {
+        match self.random.below(14) {
             0 => {
                 let value = self.over_limit(64);
                 self.poke_word(raw::LABEL_COUNT, value)
@@ -601,15 +608,9 @@ impl Generator<'_> {
             }
             5 => self.poke_below(raw::SUBJECTS, counts[1], 256, no_label as u8),
             6 => self.poke_below(raw::OBJECTS, counts[1], 256, no_label as u8),
-            7 => {
-                let modes = self.random.pick(&[64, 128, 192, 255, 96, 65]);
-                self.poke_below(raw::MODES, counts[1], 256, modes)
-            }
+            7 | 12 => self.damage_modes(),
             8 => self.poke_below(raw::MAPPING_LABELS, counts[2], 32, no_label as u8),
-            9 => {
-                let place = self.random.below(counts[2].min(32) + 1).min(31) as usize;
-                self.damage_set(place)
-            }
+            9 => self.damage_set(),
             10 => self.poke_below(raw::OVERRIDES, counts[3], 8, no_label as u8),
             11 => {
                 let value = self.random.pick(&[
@@ -636,9 +637,47 @@ impl Generator<'_> {
         }
     }
 
+    /// A place of a table that has so many of its places in use: the first, the
+    /// last or any in use, the first behind them or any.
+    fn place_of(&mut self, count: u64, places: u64) -> usize {
+        let count = count.min(places);
+        let place = match self.random.below(8) {
+            0 => 0,
+            1 => count.saturating_sub(1),
+            2 => count.min(places - 1),
+            3 => self.random.below(places),
+            _ => self.random.below(count.max(1)),
+        };
+        place as usize
+    }
+
+    /// The modes of a rule change, mostly by bits that are no modes: that of b, 64
+    /// or 128, beside letters or alone.
+    fn damage_modes(&mut self) -> Vec<String> {
+        let count = self.machine.state.words[raw::RULE_COUNT];
+        let at = raw::MODES + self.place_of(count, plain::RULE_PLACES as u64);
+        let old = self.machine.state.entries[at];
+        let bit = self.random.pick(&[1, 64, 128]);
+        let any = self.random.byte();
+        let value = self.random.pick(&[
+            bit,
+            old | bit,
+            old | bit,
+            old | bit,
+            old | bit,
+            plain::MODE_LETTERS | bit,
+            plain::MODE_LETTERS,
+            255,
+            any,
+        ]);
+        self.poke_entry(at, value)
+    }
+
     /// One word of a mapping's set changes. Mostly it is the third, which gets bits
     /// that are no categories; those of the other two all are.
-    fn damage_set(&mut self, place: usize) -> Vec<String> {
+    fn damage_set(&mut self) -> Vec<String> {
+        let count = self.machine.state.words[raw::MAPPING_COUNT];
+        let place = self.place_of(count, plain::MAPPING_PLACES as u64);
         let row = self.random.pick(&[0, 1, 2, 2, 2, 2, 2, 2]);
         let index = raw::SETS[row] + place;
         let old = self.machine.state.words[index];
@@ -666,7 +705,10 @@ impl Generator<'_> {
     /// Pokes one byte of a row, at a place below its count or just at it.
     fn poke_below(&mut self, row: usize, count: u64, places: u64, value: u8) -> Vec<String> {
         let place = self.random.below(count.min(places) + 1).min(places - 1);
-        let at = row + place as usize;
+        self.poke_entry(row + place as usize, value)
+    }
+
+    fn poke_entry(&mut self, at: usize, value: u8) -> Vec<String> {
         let old = self.machine.state.entries[at];
         self.emit(&format!("poke entries {at} {}", write_hex(&[value])));
         vec![format!("poke entries {at} {}", write_hex(&[old]))]
@@ -776,7 +818,7 @@ impl Generator<'_> {
     }
 
     fn fill_unused(&mut self, table: &Table) {
-        let filler = self.random.pick(&[0xff, 0x41, 0x80]);
+        let filler = self.random.pick(&[0xff, 0x41, 0x80, 0x01]);
         let rows = [
             (raw::SUBJECTS, table.rules.len(), 256),
             (raw::OBJECTS, table.rules.len(), 256),
@@ -821,7 +863,7 @@ impl Generator<'_> {
                 self.emit(&format!("poke loader 0 {kept}"));
             }
             1 => {
-                for index in [raw::LINES, raw::ACCEPTED, raw::SKIPPED] {
+                for index in [raw::LINES, raw::ACCEPTED, raw::SKIPPED, raw::BRINGUP] {
                     let value = self.near_saturation();
                     self.emit(&format!("poke loader {index} {value}"));
                 }
@@ -923,14 +965,26 @@ impl Generator<'_> {
         }
     }
 
+    /// The two labels and the modes of a rule, where there is one.
+    fn ruled_pair(&mut self) -> Option<(Vec<u8>, Vec<u8>, u8)> {
+        let table = self.table()?;
+        if table.rules.is_empty() {
+            return None;
+        }
+        let at = self.random.below(table.rules.len() as u64) as usize;
+        let (subject, object, modes) = table.rules[at];
+        Some((
+            table.labels[subject].clone(),
+            table.labels[object].clone(),
+            modes,
+        ))
+    }
+
     /// A label that is the subject of a rule, where there is one.
     fn ruling_label(&mut self) -> Vec<u8> {
-        match self.table() {
-            Some(table) if !table.rules.is_empty() => {
-                let at = self.random.below(table.rules.len() as u64) as usize;
-                table.labels[table.rules[at].0].clone()
-            }
-            _ => self.label(),
+        match self.ruled_pair() {
+            Some((subject, ..)) => subject,
+            None => self.label(),
         }
     }
 
@@ -1522,12 +1576,9 @@ impl Generator<'_> {
     fn question_call(&mut self) {
         let mut subject = self.label();
         let mut object = self.label();
-        // Often a pair that has a rule.
-        if let Some(table) = self.table() {
-            if !table.rules.is_empty() && self.random.chance(50) {
-                let at = self.random.below(table.rules.len() as u64) as usize;
-                subject = table.labels[table.rules[at].0].clone();
-                object = table.labels[table.rules[at].1].clone();
+        if self.random.chance(50) {
+            if let Some((one, other, _)) = self.ruled_pair() {
+                (subject, object) = (one, other);
             }
         }
         if self.random.chance(3) {
@@ -1698,9 +1749,14 @@ impl Generator<'_> {
             (raw::MODES, 64),
         ];
         for (row, limit) in rows {
-            let bytes: Vec<u8> = (0..places)
+            let mut bytes: Vec<u8> = (0..places)
                 .map(|_| self.random.below(limit) as u8)
                 .collect();
+            if row == raw::MODES {
+                for modes in &mut bytes {
+                    *modes &= plain::MODE_LETTERS;
+                }
+            }
             if !bytes.is_empty() {
                 self.emit(&format!("poke entries {row} {}", write_hex(&bytes)));
             }
@@ -1731,6 +1787,7 @@ impl Generator<'_> {
         let mut object = match self.random.below(10) {
             0 => subject.clone(),
             1 | 2 => self.near_label(&subject),
+            _ if self.random.chance(2) => self.bad_label(),
             _ => self.family_label(),
         };
         let mut request = match self.random.below(30) {
@@ -1739,17 +1796,10 @@ impl Generator<'_> {
         };
         // Often a pair that has a rule, or one that is near it, and a letter that
         // the rule has.
-        if let Some(table) = self.table() {
-            if !table.rules.is_empty() && self.random.chance(60) {
-                let at = self.random.below(table.rules.len() as u64) as usize;
-                let modes = table.rules[at].2;
-                subject = table.labels[table.rules[at].0].clone();
-                object = table.labels[table.rules[at].1].clone();
-                let held: Vec<u8> = plain::LETTERS
-                    .iter()
-                    .filter(|(_, bit)| plain::REQUEST_LETTERS & modes & bit != 0)
-                    .map(|&(letter, _)| letter)
-                    .collect();
+        if self.random.chance(60) {
+            if let Some((one, other, modes)) = self.ruled_pair() {
+                (subject, object) = (one, other);
+                let held = requests_of(modes);
                 if !held.is_empty() && self.random.chance(80) {
                     request = self.letters(&held, 2);
                 }
@@ -2215,35 +2265,7 @@ impl Generator<'_> {
             }
             _ => {
                 self.lend_mappings();
-                if self.random.chance(15) {
-                    let size = self.random.pick(&[0, 4, 36, 68, 99, 101]);
-                    self.emit(&format!("resize words {size}"));
-                    for _ in 0..8 {
-                        self.category_call();
-                    }
-                    return;
-                }
-                for _ in 0..1 + self.random.below(4) {
-                    let count = self.machine.state.words[raw::MAPPING_COUNT].min(32);
-                    let place = match self.random.below(4) {
-                        0 => 0,
-                        1 => count.saturating_sub(1),
-                        2 => count.min(31),
-                        _ => self.random.below(count.max(1)),
-                    };
-                    let undo = self.damage_set(place as usize);
-                    for _ in 0..4 {
-                        self.category_call();
-                    }
-                    if self.random.chance(20) {
-                        self.every_call();
-                    }
-                    if self.random.chance(80) {
-                        for call in undo {
-                            self.emit(&call);
-                        }
-                    }
-                }
+                self.damage_and_mend(Self::damage_set, Self::category_call, 4);
             }
         }
         self.emit("dump");
@@ -2416,9 +2438,9 @@ impl Generator<'_> {
         record
     }
 
-    /// Letters that a record has a place for.
+    /// Letters that a record has a place for, and placeholders.
     fn fixed_access(&mut self) -> Vec<u8> {
-        self.letters(b"rwxatRWXAT-", 6)
+        self.letters(b"rwxatRWXAT-bB", 6)
     }
 
     /// A line that is accepted where the output has room.
@@ -2432,7 +2454,7 @@ impl Generator<'_> {
     fn fixed_line(&mut self) -> Vec<u8> {
         let mut line = match self.random.below(24) {
             0..=12 => self.good_fixed_line(),
-            13 | 14 => {
+            13..=15 => {
                 // Labels about as long as a place, with a beginning that is the same.
                 let longest = self.label_of_length(25);
                 let mut fields = Vec::new();
@@ -2443,13 +2465,6 @@ impl Generator<'_> {
                 fields[1][21] = self.random.pick(b"ab");
                 fields.push(self.fixed_access());
                 self.join(&fields)
-            }
-            15 => {
-                let (subject, object) = self.fixed_pair();
-                let mut access = self.fixed_access();
-                let at = self.random.below(access.len() as u64 + 1) as usize;
-                access.insert(at, self.random.pick(b"bB"));
-                self.join(&[subject, object, access])
             }
             16 | 17 => {
                 let line = self.good_fixed_line();
@@ -2487,7 +2502,7 @@ impl Generator<'_> {
             (Some(exact), 12) => self.random.below(exact as u64) as usize,
             (Some(exact), 13 | 14) => exact + self.random.below(40) as usize,
             (None, 1..=14) => self.random.pick(&[1, 7, 13, 52, 53, 53, 54, 60]),
-            _ => self.random.pick(&[255, 519, 600, 601]),
+            _ => self.random.pick(&[255, 517, 518, 519, 600, 601]),
         };
         (0..length).map(|_| self.random.byte()).collect()
     }
@@ -2531,15 +2546,270 @@ impl Generator<'_> {
     /// A line turned into its record; now and then that record back.
     fn line_call(&mut self) {
         let line = self.fixed_line();
+        self.turn_line(&line);
+    }
+
+    fn turn_line(&mut self, line: &[u8]) {
         let mut record = [0; plain::FIXED_RECORD];
-        let written = plain::line_to_record(&line, &mut record).ok();
+        let written = plain::line_to_record(line, &mut record).ok();
         let output = self.output(written);
-        self.emit_line(&line, &output);
+        self.emit_line(line, &output);
         if written.is_some() && self.random.chance(20) {
             let mut space = [0; 600];
             let length = plain::record_to_line(&record, &mut space).ok();
             let output = self.output(length);
             self.emit_record(&record, &output);
+        }
+    }
+
+    // -----------------------------------------------------------------------
+    // The retired letter
+    // -----------------------------------------------------------------------
+
+    /// Lines with b, and what stands beside it, in a table that is fresh, used, full,
+    /// lent or damaged.
+    fn bringup_episode(&mut self) {
+        self.emit("fresh");
+        self.emit("freshloader");
+        self.pending.clear();
+        self.make_pool();
+        for name in ["b", "B", "bB", "rb"] {
+            self.pool.push(name.as_bytes().to_vec());
+        }
+        self.new_percent = 5;
+        match self.random.below(12) {
+            0..=3 => {}
+            4 => self.base_state(),
+            5 => {
+                let target = self.random.pick(&[62, 63, 64]);
+                self.fill_labels_to(target);
+            }
+            6 => {
+                let target = self.random.pick(&[254, 255, 256, 256]);
+                self.fill_rules_to(target);
+            }
+            7 => {
+                self.lend_family();
+                if let Some(table) = self.table() {
+                    self.fill_unused(&table);
+                }
+            }
+            _ => {
+                match self.random.below(3) {
+                    0 => self.base_state(),
+                    1 => self.lend_family(),
+                    _ => {
+                        let target = self.random.pick(&[30, 255, 256]);
+                        self.fill_rules_to(target);
+                    }
+                }
+                self.damage_and_mend(Self::damage_modes, Self::bringup_call, 6);
+            }
+        }
+        self.emit("dump");
+        for _ in 0..30 + self.random.below(50) {
+            self.bringup_call();
+        }
+        self.emit("end");
+        self.emit("dump");
+    }
+
+    /// Good letters and dashes, then b or B anywhere among them, then now and then a
+    /// byte that is not allowed: often one that differs from b in one bit.
+    fn bringup_access(&mut self) -> Vec<u8> {
+        let mut field = match self.random.below(6) {
+            0 => Vec::new(),
+            1 => vec![b'-'; self.random.pick(&[1, 2, 5])],
+            _ => self.letters(b"rwxatRWXAT--", 6),
+        };
+        let with_b = self.random.pick(&[0, 1, 1, 1, 1, 2, 3]);
+        for _ in 0..with_b {
+            let at = self.random.below(field.len() as u64 + 1) as usize;
+            field.insert(at, self.random.pick(b"bB"));
+        }
+        if self.random.chance(10) {
+            let at = self.random.below(field.len() as u64 + 1) as usize;
+            let byte = self.random.pick(b"lq/\r\0\xffc`fj\"\xe2C@FJ\x02\xc2");
+            field.insert(at, byte);
+        }
+        if field.is_empty() {
+            field.push(self.random.pick(b"bB-"));
+        }
+        field
+    }
+
+    /// A line with such a field: mostly of two good labels, else with a fault of any
+    /// other kind.
+    fn bringup_line(&mut self) -> Vec<u8> {
+        let mut fields = vec![self.pool_label(), self.pool_label(), self.bringup_access()];
+        if fields[0] == fields[1] && self.random.chance(80) {
+            fields[1] = self.new_name();
+        }
+        match self.random.below(32) {
+            0..=3 => {
+                fields[0] = self.label();
+                fields[1] = self.label();
+            }
+            // A label that is not well formed.
+            4 | 5 => {
+                let at = self.random.below(2) as usize;
+                fields[at] = self.bad_label();
+            }
+            6 => fields[1] = fields[0].clone(),
+            // Two new labels; two stored ones, which mostly have no rule.
+            7 => {
+                fields[0] = self.new_name();
+                fields[1] = self.new_name();
+            }
+            8 | 9 => {
+                fields[0] = self.stored_label();
+                fields[1] = self.stored_label();
+            }
+            // Too few fields or too many.
+            10 => {
+                fields.remove(0);
+            }
+            11 => fields.push(self.bringup_access()),
+            // About 600 bytes, of blanks or of the letter itself.
+            12 => {
+                let line = self.join(&fields);
+                return self.pad(line, &LINE_LENGTHS);
+            }
+            13 => {
+                let mut line = fields.join(&b' ');
+                let target = self.random.pick(&LINE_LENGTHS);
+                while line.len() < target {
+                    line.push(self.random.pick(b"bbbB-r"));
+                }
+                return line;
+            }
+            14 => return self.rule_line(),
+            _ => {}
+        }
+        self.join(&fields)
+    }
+
+    fn bringup_text(&mut self) -> Vec<u8> {
+        let mut text = Vec::new();
+        for _ in 0..1 + self.random.below(6) {
+            text.extend(self.bringup_line());
+            text.push(b'\n');
+        }
+        if self.random.chance(30) {
+            text.pop();
+        }
+        text
+    }
+
+    /// The count of such lines near its limit, by itself or beside that of all
+    /// accepted ones.
+    fn poke_bringup(&mut self) {
+        let value = self.near_saturation();
+        self.emit(&format!("poke loader {} {value}", raw::BRINGUP));
+        if self.random.chance(30) {
+            let value = self.near_saturation();
+            self.emit(&format!("poke loader {} {value}", raw::ACCEPTED));
+        }
+    }
+
+    /// A change that has the letter in one of its two access fields, in both or in
+    /// none.
+    fn bringup_change(&mut self) {
+        let (subject, object) = match self.ruled_pair() {
+            Some((subject, object, _)) if self.random.chance(60) => (subject, object),
+            _ => (self.label(), self.label()),
+        };
+        let mut fields = vec![subject, object];
+        for _ in 0..2 {
+            let access = match self.random.below(3) {
+                0 => self.bringup_access(),
+                _ => self.letters(b"rwxatRWXAT-", 4),
+            };
+            fields.push(access);
+        }
+        let write = self.join(&fields);
+        self.emit(&format!("change {}", write_hex(&write)));
+    }
+
+    /// A question about a pair that has a rule, or any; now and then the request has
+    /// the letter.
+    fn bringup_question(&mut self) {
+        let (subject, object, modes) = match self.ruled_pair() {
+            Some(pair) if self.random.chance(80) => pair,
+            _ => (self.label(), self.label(), 0),
+        };
+        let held = requests_of(modes);
+        let mut request = match !held.is_empty() && self.random.chance(60) {
+            true => self.letters(&held, 3),
+            false => self.letters(b"rwxaRWXA", 2),
+        };
+        if self.random.chance(20) {
+            let at = self.random.below(request.len() as u64 + 1) as usize;
+            request.insert(at, self.random.pick(b"bB"));
+        }
+        if self.random.chance(4) {
+            request = vec![self.random.pick(b"bB-t")];
+        }
+        self.emit_question(&subject, &object, &request);
+    }
+
+    /// A record made of a line with the letter: of a pair that has a rule, of two
+    /// labels that a record has room for, or of any such line.
+    fn bringup_record(&mut self) {
+        let access = self.bringup_access();
+        let mut line = match self.random.below(8) {
+            0..=2 => match self.ruled_pair() {
+                Some((subject, object, _)) => self.join(&[subject, object, access]),
+                None => self.bringup_line(),
+            },
+            3 | 4 => self.bringup_line(),
+            _ => {
+                let (subject, object) = self.fixed_pair();
+                self.join(&[subject, object, access])
+            }
+        };
+        if self.random.chance(50) {
+            line.push(b'\n');
+        }
+        self.turn_line(&line);
+    }
+
+    /// A record that has the letter as an access byte, which is refused.
+    fn bringup_in_record(&mut self) {
+        let mut record = self.good_record();
+        let at = 2 * plain::FIXED_PLACE + self.random.below(5) as usize;
+        record[at] = self.random.pick(b"bB");
+        let output = self.output(None);
+        self.emit_record(&record, &output);
+    }
+
+    fn bringup_call(&mut self) {
+        match self.random.below(64) {
+            0..=23 => {
+                if self.pending.is_empty() {
+                    if self.random.chance(50) {
+                        self.emit("end");
+                    }
+                    if self.random.chance(15) {
+                        self.poke_bringup();
+                    }
+                    self.pending = self.bringup_text();
+                }
+                self.piece_call();
+            }
+            24..=27 => self.emit("end"),
+            28..=34 => self.bringup_change(),
+            35..=43 => self.bringup_question(),
+            44..=48 => self.list_call(),
+            49..=56 => self.bringup_record(),
+            57 => self.record_call(),
+            58 => self.bringup_in_record(),
+            59 => self.revoke_call(),
+            60 | 61 => self.any_call(),
+            _ => self.emit("dump"),
+        }
+        if self.random.chance(8) {
+            self.emit("dump");
         }
     }
 
@@ -2706,28 +2976,7 @@ impl Generator<'_> {
             }
             _ => {
                 self.lend_options();
-                if self.random.chance(15) {
-                    self.resize_part();
-                    for _ in 0..8 {
-                        self.option_call();
-                    }
-                    return;
-                }
-                for _ in 0..1 + self.random.below(4) {
-                    let undo = self.damage();
-                    for _ in 0..6 {
-                        self.option_call();
-                    }
-                    if self.random.chance(20) {
-                        self.every_call();
-                    }
-                    // Mostly this damage goes, before another comes.
-                    if self.random.chance(90) {
-                        for call in undo {
-                            self.emit(&call);
-                        }
-                    }
-                }
+                self.damage_and_mend(Self::damage, Self::option_call, 6);
             }
         }
         self.emit("dump");
@@ -2815,7 +3064,7 @@ impl Generator<'_> {
     /// An option with no, one or two things about it changed, or bytes that are
     /// none.
     fn option(&mut self) -> Vec<u8> {
-        if self.random.chance(4) {
+        if self.random.chance(6) {
             return self.random_bytes(60);
         }
         let mut option = self.good_option();
@@ -2999,6 +3248,15 @@ impl Generator<'_> {
             }
         }
     }
+}
+
+/// The letters of these modes that a request may have.
+fn requests_of(modes: u8) -> Vec<u8> {
+    plain::LETTERS
+        .iter()
+        .filter(|(_, bit)| plain::REQUEST_LETTERS & modes & bit != 0)
+        .map(|&(letter, _)| letter)
+        .collect()
 }
 
 /// Both lengths, where there is room for them, say how many bytes there are.

@@ -8,7 +8,7 @@
 //! | `entries`     | 840 bytes   | rule subjects 0..256, rule objects 256..512, rule modes 512..768, mapping labels 768..800, mapping levels 800..832, override labels 832..840 |
 //! | `words`       | 100 words   | counts of labels, rules, mappings, override labels 0..4, of the mappings' sets the first words 4..36, the second 36..68, the third 68..100 |
 //! | `line`        | 600 bytes   | the kept line |
-//! | `numbers`     | 8 numbers   | kept, lines, accepted, skipped, refused, first line, first reason, first place |
+//! | `numbers`     | 9 numbers   | kept, lines, accepted, skipped, refused, first line, first reason, first place, bringup |
 //!
 //! `kept` is the length of the kept line, or 601 for a line of over 600 bytes.
 //!
@@ -19,8 +19,8 @@
 
 use crate::plain::{
     self, has_unknown_bit, limited, search_run, set_of, words_of, Answer, Found, Loader, Mapping,
-    Record, Refusal, Report, Table, Words, LABEL_PLACES, LINE_LIMIT, MAPPING_PLACES,
-    OVERRIDE_PLACES, RULE_LETTERS, RULE_PLACES,
+    Record, Refusal, Report, Table, Words, LABEL_PLACES, LINE_LIMIT, MAPPING_PLACES, MODE_LETTERS,
+    OVERRIDE_PLACES, RULE_PLACES,
 };
 
 /// A label's place: one byte of length and up to 255 bytes of label.
@@ -51,6 +51,8 @@ pub const REFUSED: usize = 4;
 pub const FIRST_LINE: usize = 5;
 pub const FIRST_REASON: usize = 6;
 pub const FIRST_PLACE: usize = 7;
+/// How many accepted lines held a b.
+pub const BRINGUP: usize = 8;
 
 /// `kept` where the kept line has over 600 bytes.
 pub const OVER: u64 = 601;
@@ -67,9 +69,9 @@ pub struct RawState {
 #[derive(Clone, PartialEq, Eq, Debug)]
 pub struct RawLoader {
     pub line: Vec<u8>,
-    /// `kept` and the place may be any 64-bit number, the five counts any of 32
+    /// `kept` and the place may be any 64-bit number, the six counts any of 32
     /// bits, the reason any byte.
-    pub numbers: [u64; 8],
+    pub numbers: [u64; 9],
 }
 
 impl RawState {
@@ -90,7 +92,7 @@ impl RawLoader {
     pub fn fresh() -> RawLoader {
         RawLoader {
             line: vec![0; LINE_LIMIT],
-            numbers: [0; 8],
+            numbers: [0; 9],
         }
     }
 }
@@ -130,8 +132,8 @@ pub fn raw_is_damaged(state: &RawState) -> bool {
         {
             return true;
         }
-        // "an unknown mode ... bit"
-        if state.entries[MODES + k] & !RULE_LETTERS != 0 {
+        // "an unknown mode ... bit"; "a state with a b bit gets 0" as well.
+        if state.entries[MODES + k] & !MODE_LETTERS != 0 {
             return true;
         }
     }
@@ -235,6 +237,7 @@ pub fn loader_of(loader: &RawLoader) -> Result<Loader, Refusal> {
         first_line: loader.numbers[FIRST_LINE],
         first_reason: loader.numbers[FIRST_REASON],
         first_place: loader.numbers[FIRST_PLACE],
+        bringup: loader.numbers[BRINGUP],
     })
 }
 
@@ -270,7 +273,7 @@ pub fn write_table(table: &Table, state: &mut RawState) {
     state.words[OVERRIDE_COUNT] = table.override_list.len() as u64;
 }
 
-/// Writes the eight numbers. The kept line's bytes are `store_bytes`' affair.
+/// Writes the nine numbers. The kept line's bytes are `store_bytes`' affair.
 pub fn write_numbers(model: &Loader, loader: &mut RawLoader) {
     loader.numbers[KEPT] = model.line.len().min(OVER as usize) as u64;
     loader.numbers[LINES] = u64::from(limited(model.lines));
@@ -280,6 +283,7 @@ pub fn write_numbers(model: &Loader, loader: &mut RawLoader) {
     loader.numbers[FIRST_LINE] = u64::from(limited(model.first_line));
     loader.numbers[FIRST_REASON] = u64::from(limited(model.first_reason));
     loader.numbers[FIRST_PLACE] = model.first_place;
+    loader.numbers[BRINGUP] = u64::from(limited(model.bringup));
 }
 
 /// The kept line's bytes are stored at 0..kept as they come and are never

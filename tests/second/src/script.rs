@@ -13,7 +13,7 @@
 //! | `freshen` | `done` or `refused N` (a fresh table in the memory as it is) |
 //! | `freshloader` | `done` (new zero-filled memory, a fresh loader) |
 //! | `piece HEX` | `done` or `refused N` |
-//! | `end` | `report LINES ACCEPTED SKIPPED REFUSED FIRSTLINE REASON PLACE` or `refused N` |
+//! | `end` | `report LINES ACCEPTED SKIPPED REFUSED FIRSTLINE REASON PLACE BRINGUP` or `refused N` |
 //! | `change HEX` | `done`, `refused 3 PLACE` or `refused N` |
 //! | `revoke HEX` | `revoked COUNT`, `refused 3 PLACE` or `refused N` |
 //! | `override HEX` | `done`, `refused 3 PLACE` or `refused N` |
@@ -21,7 +21,7 @@
 //! | `bylabel HEX` | `mapping LEVEL SET COUNT`, `none`, `refused 3 PLACE` or `refused N` |
 //! | `bylevel LEVEL SET` | `label NUMBER`, `none` or `refused N` |
 //! | `run LEVEL SET n,l,SET n,l,SET ...` | `label NUMBER`, `none` or `refused N` |
-//! | `question SUBJECT OBJECT REQUEST 0` or `1` | `granted R`, `granted 6 b`, `denied R`, `override R`, `refused 3 PLACE` or `refused N` |
+//! | `question SUBJECT OBJECT REQUEST 0` or `1` | `granted R`, `denied R`, `override R`, `refused 3 PLACE` or `refused N` |
 //! | `list K HEX` | `length N HEX` or `refused N HEX`: the whole buffer afterwards |
 //! | `label K` | `done HEX` or `refused N -` |
 //! | `recordtoline HEX OUT` | `length N HEX` or `refused N HEX`: the whole output afterwards |
@@ -32,9 +32,9 @@
 //! | `poke entries OFFSET HEX` | `done` |
 //! | `poke words INDEX VALUE` | `done`: one word |
 //! | `poke line OFFSET HEX` | `done` |
-//! | `poke loader INDEX VALUE` | `done`: one of the eight numbers |
+//! | `poke loader INDEX VALUE` | `done`: one of the nine numbers |
 //! | `resize labels N`, `entries`, `words`, `line` | `done`: cut at the end, or zeros added |
-//! | `dump` | `dump labels H entries H words H line H counts L R M O loader K L A S R F N P` |
+//! | `dump` | `dump labels H entries H words H line H counts L R M O loader K L A S R F N P B` |
 //!
 //! SET is the three words of a set with `:` between.
 //!
@@ -47,8 +47,8 @@
 //! is written `-`. Before the first call there are a fresh table and a fresh
 //! loader.
 
-use crate::plain::{words_of, Answer, Record, Refusal, Words};
-use crate::program::{answer_text, report_text};
+use crate::plain::{words_of, Answer, Record, Refusal, Report, Words};
+use crate::program::answer_text;
 use crate::raw::{self, RawLoader, RawState};
 
 /// The longest part that `resize` makes.
@@ -98,9 +98,7 @@ impl Machine {
                 Some(done_text(answer))
             }
             ["end"] => Some(match raw::end(&mut self.state, &mut self.loader) {
-                Ok(report) => {
-                    format!("report {} {}", report_text(&report), report.first_place)
-                }
+                Ok(report) => whole_report_text(&report),
                 Err(refusal) => refused_text(refusal),
             }),
             ["change", bytes] => {
@@ -256,7 +254,7 @@ impl Machine {
         Some("done".to_string())
     }
 
-    /// The hash of each part, the four counts and the loader's eight numbers.
+    /// The hash of each part, the four counts and the loader's nine numbers.
     fn dump(&self) -> String {
         let mut word_bytes = Vec::new();
         for word in &self.state.words {
@@ -293,6 +291,21 @@ fn poke_bytes(part: &mut [u8], at: usize, bytes: &[u8]) -> Option<()> {
     let end = at.checked_add(bytes.len())?;
     part.get_mut(at..end)?.copy_from_slice(bytes);
     Some(())
+}
+
+/// All eight numbers of a report; the program prints no place.
+fn whole_report_text(report: &Report) -> String {
+    format!(
+        "report {} {} {} {} {} {} {} {}",
+        report.lines,
+        report.accepted,
+        report.skipped,
+        report.refused,
+        report.first_line,
+        report.first_reason,
+        report.first_place,
+        report.bringup
+    )
 }
 
 /// The number, and beside 3 the place.

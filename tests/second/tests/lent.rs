@@ -11,7 +11,7 @@ use second::raw::{self, *};
 fn some_state() -> RawState {
     let mut state = RawState::fresh();
     let mut loader = RawLoader::fresh();
-    raw::piece(&mut state, &mut loader, b"A B r\nB C wb\nA C x\n").unwrap();
+    raw::piece(&mut state, &mut loader, b"A B r\nB C wt\nA C x\n").unwrap();
     raw::mapping(&mut state, b"A 9 1 63").unwrap();
     raw::mapping(&mut state, b"D 9 2").unwrap();
     raw::override_write(&mut state, b"B D").unwrap();
@@ -24,7 +24,7 @@ fn assert_every_call_gets_0(state: &RawState) {
     assert!(raw_is_damaged(state));
     let mut copy = state.clone();
     let mut loader = RawLoader::fresh();
-    loader.numbers = [3, 9, 4, 3, 2, 1, 5, 77];
+    loader.numbers = [3, 9, 4, 3, 2, 1, 5, 77, 6];
     loader.line[..3].copy_from_slice(b"A B");
     let loader_before = loader.clone();
     let long = vec![b'/'; 700];
@@ -149,18 +149,29 @@ fn a_number_that_names_no_stored_label() {
 #[test]
 fn an_unknown_mode_bit() {
     for k in 0..3 {
-        for bit in [64, 128] {
+        // The lowest of them stored b once.
+        for bit in [1, 64, 128] {
             let mut state = some_state();
             state.entries[MODES + k] |= bit;
             assert_every_call_gets_0(&state);
+            state.entries[MODES + k] = bit;
+            assert_every_call_gets_0(&state);
         }
         let mut state = some_state();
-        state.entries[MODES + k] = 63;
+        state.entries[MODES + k] = 62;
         assert!(!raw_is_damaged(&state));
     }
-    let mut state = some_state();
-    state.entries[MODES + 3] = 255;
-    assert!(!raw_is_damaged(&state));
+    // Just the sets of r w x a t are known.
+    for modes in 0..=255 {
+        let mut state = some_state();
+        state.entries[MODES + 1] = modes;
+        let is_known = modes < 64 && modes % 2 == 0;
+        assert_eq!(raw_is_damaged(&state), !is_known, "{modes}");
+        // Behind the count nothing matters.
+        let mut state = some_state();
+        state.entries[MODES + 3] = modes;
+        assert!(!raw_is_damaged(&state));
+    }
 }
 
 #[test]
@@ -213,7 +224,7 @@ fn a_damaged_loader() {
     }
     // Numbers that do not add up are not damage.
     let mut loader = RawLoader::fresh();
-    loader.numbers = [601, 1, 2, 3, 4, 5, 99, u64::MAX];
+    loader.numbers = [601, 1, 2, 3, 4, 5, 99, u64::MAX, 6];
     assert!(!raw_loader_is_damaged(&loader));
 }
 
@@ -293,7 +304,7 @@ fn a_label_stored_twice_means_its_first_number() {
         common::denied(7)
     );
     assert_eq!(raw::revoke(&mut state, b"A"), Ok(1));
-    assert_eq!(&state.entries[MODES..MODES + 3], [R, W | B, 0]);
+    assert_eq!(&state.entries[MODES..MODES + 3], [R, W | T, 0]);
     // Listing and label by number still show it.
     assert_eq!(raw::label(&state, 8), b"A");
     let mut buffer = [0; 6];
@@ -314,11 +325,11 @@ fn a_pair_stored_twice() {
     assert_eq!(ask(&state, b"x"), common::denied(7));
     let mut loader = RawLoader::fresh();
     raw::piece(&mut state, &mut loader, b"A B w\n").unwrap();
-    assert_eq!(&state.entries[MODES..MODES + 3], [W, W | B, X]);
+    assert_eq!(&state.entries[MODES..MODES + 3], [W, W | T, X]);
     raw::change(&mut state, b"A B a -").unwrap();
-    assert_eq!(&state.entries[MODES..MODES + 3], [W | A, W | B, X]);
+    assert_eq!(&state.entries[MODES..MODES + 3], [W | A, W | T, X]);
     assert_eq!(raw::revoke(&mut state, b"A"), Ok(2));
-    assert_eq!(&state.entries[MODES..MODES + 3], [0, W | B, 0]);
+    assert_eq!(&state.entries[MODES..MODES + 3], [0, W | T, 0]);
 }
 
 #[test]
@@ -435,16 +446,16 @@ fn the_kept_line_is_stored_as_it_comes() {
     loader.line.fill(0xee);
     raw::piece(&mut state, &mut loader, b"A B r\nAir").unwrap();
     assert_eq!(&loader.line[..6], b"Air r\xee");
-    assert_eq!(loader.numbers, [3, 1, 1, 0, 0, 0, 0, 0]);
+    assert_eq!(loader.numbers, [3, 1, 1, 0, 0, 0, 0, 0, 0]);
     raw::piece(&mut state, &mut loader, b"\n").unwrap();
     assert_eq!(&loader.line[..6], b"Air r\xee");
-    assert_eq!(loader.numbers, [0, 2, 1, 0, 1, 2, 2, 0]);
+    assert_eq!(loader.numbers, [0, 2, 1, 0, 1, 2, 2, 0, 0]);
     // The end call clears the numbers, not the bytes.
     raw::piece(&mut state, &mut loader, b"X").unwrap();
     let report = raw::end(&mut state, &mut loader).unwrap();
     assert_eq!((report.lines, report.refused, report.first_line), (3, 2, 2));
     assert_eq!(&loader.line[..6], b"Xir r\xee");
-    assert_eq!(loader.numbers, [0; 8]);
+    assert_eq!(loader.numbers, [0; 9]);
 }
 
 #[test]
@@ -464,7 +475,7 @@ fn an_over_long_line_keeps_its_first_600_bytes() {
     assert_eq!(loader.line, full);
     raw::piece(&mut state, &mut loader, b"\nA B r\n").unwrap();
     assert_eq!(&loader.line[..6], b"A B r ");
-    assert_eq!(loader.numbers, [0, 2, 1, 0, 1, 1, 1, 0]);
+    assert_eq!(loader.numbers, [0, 2, 1, 0, 1, 1, 1, 0, 0]);
 }
 
 #[test]
@@ -491,9 +502,9 @@ fn the_lent_numbers_stop_at_their_limit() {
     let mut state = RawState::fresh();
     let mut loader = RawLoader::fresh();
     let most = u64::from(u32::MAX);
-    loader.numbers = [0, most, most - 1, most, 0, 0, 0, 0];
-    raw::piece(&mut state, &mut loader, b"A B r\nA B w\n\nA A r\n").unwrap();
-    assert_eq!(loader.numbers, [0, most, most, most, 1, most, 5, 0]);
+    loader.numbers = [0, most, most - 1, most, 0, 0, 0, 0, most - 1];
+    raw::piece(&mut state, &mut loader, b"A B rb\nA B wB\n\nA A r\n").unwrap();
+    assert_eq!(loader.numbers, [0, most, most, most, 1, most, 5, 0, most]);
 }
 
 #[test]
@@ -514,8 +525,9 @@ fn the_raw_calls_and_the_model_agree() {
         &b"A B r\nC"[..],
         b" D w\n\nA A",
         b" r\n",
+        b"C D b\nC D q",
         b"",
-        b"X Y rwxatb",
+        b"b\nX Y rwxatb",
     ] {
         raw::piece(&mut state, &mut loader, piece).unwrap();
         model.piece(&mut table, piece);

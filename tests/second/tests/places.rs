@@ -363,7 +363,7 @@ fn a_lent_place_stays_until_a_first_line_is_refused() {
             assert_eq!(loader.numbers[raw::FIRST_PLACE], kept);
             let report = raw::end(&mut state, &mut loader).unwrap();
             assert_eq!(report.first_place, kept);
-            assert_eq!(loader.numbers, [0; 8]);
+            assert_eq!(loader.numbers, [0; 9]);
         }
     }
     // A first refusal that is no 3 has place 0, whatever lay there.
@@ -398,8 +398,8 @@ fn old_records_tell_none() {
 }
 
 #[test]
-fn the_program_prints_as_before() {
+fn the_program_prints_no_place() {
     let input = b"A B/ r\n?\nA B/ r\n-A B r\nA B r\n";
     let output = second::program::run(input);
-    assert_eq!(output, b"1 0 0 1 1 3\nrefused 3\nrefused 3\ndenied 7\n");
+    assert_eq!(output, b"1 0 0 1 1 3 0\nrefused 3\nrefused 3\ndenied 7\n");
 }

@@ -295,9 +295,6 @@ fn what_no_record_holds() {
         assert_eq!(refused_line(format!("{label} B x").as_bytes()), 15);
         assert_eq!(refused_line(format!("B {label} x").as_bytes()), 15);
     }
-    for access in ["b", "B", "-b", "b-", "rwxatb", "RB", "bb"] {
-        assert_eq!(refused_line(format!("A B {access}").as_bytes()), 15);
-    }
     // A label is never cut: these two agree in their first 23 bytes.
     let one = format!("{}1", &long[..23]);
     let two = format!("{}2", &long[..23]);
@@ -321,13 +318,16 @@ fn line_neighbours() {
     assert_eq!(refused_line(b"A B/ q"), 3);
     // 4 before 5, and before 15
     assert_eq!(refused_line(b"A A q"), 4);
-    assert_eq!(refused_line(b"A B bq"), 4);
-    // 5 before 15
-    assert_eq!(refused_line(b"A A b"), 5);
+    assert_eq!(refused_line(b"A A bq"), 4);
     let label = "L".repeat(24);
+    assert_eq!(refused_line(format!("{label} B q").as_bytes()), 4);
+    assert_eq!(refused_line(format!("{label} B bq").as_bytes()), 4);
+    // 5 before 15
     assert_eq!(refused_line(format!("{label} {label} r").as_bytes()), 5);
+    assert_eq!(refused_line(format!("{label} {label} b").as_bytes()), 5);
     // 15 before 12: `refused_line` lends no byte too.
-    assert_eq!(refused_line(b"A B b"), 15);
+    assert_eq!(refused_line(format!("{label} B r").as_bytes()), 15);
+    assert_eq!(refused_line(format!("{label} B b").as_bytes()), 15);
 }
 
 // --- the output ------------------------------------------------------------------

@@ -1,6 +1,8 @@
 //! The script's forms, and the scripts that the generator writes.
 
-use second::plain::{Loader, Refusal, Table};
+use std::collections::{BTreeMap, BTreeSet};
+
+use second::plain::{fields, Line, Loader, Refusal, Table};
 use second::random::{write_script, Kind, Xorshift};
 use second::raw;
 use second::script::{fnv1a, read_hex, write_hex, Machine};
@@ -19,7 +21,7 @@ fn hex(text: &str) -> String {
 
 #[test]
 fn every_form() {
-    let piece = format!("piece {}", hex("Alarm Air rxb\nA A r\nX"));
+    let piece = format!("piece {}", hex("Alarm Air rxb\nA A rb\nX"));
     let change = format!("change {}", hex("Alarm Air w -"));
     let revoke = format!("revoke {}", hex("Alarm"));
     let overrides = format!("override {}", hex("Alarm"));
@@ -28,7 +30,7 @@ fn every_form() {
     let unmapped = format!("bylabel {}", hex("Alarm"));
     let question =
         |s: &str, o: &str, r: &str, c: u8| format!("question {} {} {} {c}", hex(s), hex(o), hex(r));
-    let listed = format!("length 15 {}ff", hex("Alarm Air rwxb\n"));
+    let listed = format!("length 14 {}ff", hex("Alarm Air rwx\n"));
     let air = format!("done {}", hex("Air"));
     let record = hex(&format!("{:24}{:24}{}", "Alarm", "Air", "Rw--t"));
     let record_back = hex(&format!("{:24}{:24}{}", "Alarm", "Air", "rw--t"));
@@ -43,17 +45,17 @@ fn every_form() {
         ("fresh", "done"),
         ("freshloader", "done"),
         (&piece, "done"),
-        ("end", "report 3 1 0 2 2 5 0"),
-        ("end", "report 0 0 0 0 0 0 0"),
+        ("end", "report 3 1 0 2 2 5 0 1"),
+        ("end", "report 0 0 0 0 0 0 0 0"),
         (&change, "done"),
         // One byte too short for the listing.
         (
-            "list 0 0102030405060708090a0b0c0d0e",
-            "refused 12 0102030405060708090a0b0c0d0e",
+            "list 0 0102030405060708090a0b0c0d",
+            "refused 12 0102030405060708090a0b0c0d",
         ),
-        ("list 0 000000000000000000000000000000ff", &listed),
+        ("list 0 0000000000000000000000000000ff", &listed),
         ("list 1 -", "refused 13 -"),
-        (&question("Alarm", "Air", "r", 0), "granted 6 b"),
+        (&question("Alarm", "Air", "r", 0), "granted 6"),
         (&question("Alarm", "Air", "a", 0), "denied 7"),
         (&question("Alarm", "Air", "a", 1), "override 7"),
         (&question("Alarm", "Air", "", 1), "refused 8"),
@@ -76,7 +78,7 @@ fn every_form() {
         // ` A/ B r` twice, without a newline at the end
         ("piece 20412f204220720a", "done"),
         ("piece 20412f20422072", "done"),
-        ("end", "report 2 0 0 2 1 3 2"),
+        ("end", "report 2 0 0 2 1 3 2 0"),
         ("bylevel 9 9223372036854775810:0:0", "label 6"),
         ("bylevel 9 0:0:9223372036854775810", "refused 9"),
         ("bylevel 9 0:9223372036854775810:0", "none"),
@@ -152,8 +154,9 @@ fn every_form() {
         ("end", "refused 0"),
         ("poke loader 0 0", "done"),
         ("poke loader 7 18446744073709551615", "done"),
-        ("end", "report 0 0 0 0 0 0 18446744073709551615"),
-        ("end", "report 0 0 0 0 0 0 0"),
+        ("poke loader 8 4294967295", "done"),
+        ("end", "report 0 0 0 0 0 0 18446744073709551615 4294967295"),
+        ("end", "report 0 0 0 0 0 0 0 0"),
         (
             "run 9 2:0:0 18446744073709551615,9,2:0:0 256,9,2:0:0 1,265,2:0:0",
             "label 256",
@@ -204,7 +207,8 @@ fn lines_that_are_no_calls() {
         "poke words 100 0",
         "poke line 600 00",
         "poke line 599 0000",
-        "poke loader 8 0",
+        "poke loader 9 0",
+        "poke loader 8 4294967296",
         "poke loader 7 18446744073709551616",
         "poke loader 0 18446744073709551616",
         "poke loader 1 4294967296",
@@ -246,7 +250,7 @@ fn a_dump() {
     let zeros = format!("{:016x}", fnv1a(&[0; 600]));
     let dump = machine.execute("dump").unwrap();
     assert!(dump.contains(&format!(
-        " line {zeros} counts 5 0 0 0 loader 0 0 0 0 0 0 0 0"
+        " line {zeros} counts 5 0 0 0 loader 0 0 0 0 0 0 0 0 0"
     )));
     machine.execute("resize words 2");
     let dump = machine.execute("dump").unwrap();
@@ -360,8 +364,8 @@ fn random_scripts_reach_every_refusal_of_every_call() {
         ("writeoption", &[0, 3, 19, 12]),
         ("readoption", &[0, 16, 17, 18, 3, 21]),
     ];
-    let mut seen = std::collections::BTreeSet::new();
-    let mut reasons = std::collections::BTreeSet::new();
+    let mut seen = BTreeSet::new();
+    let mut reasons = BTreeSet::new();
     for seed in 0..10 {
         let mut machine = Machine::new();
         for call in random_script(seed, 3000) {
@@ -437,7 +441,7 @@ fn random_records_and_lines_are_often_accepted() {
 /// and pairs are stored twice.
 #[test]
 fn random_searches_get_every_answer() {
-    let mut answers = std::collections::BTreeMap::new();
+    let mut answers = BTreeMap::new();
     let (mut questions, mut labels_twice, mut pairs_twice) = (0, 0, 0);
     for seed in 0..4 {
         let mut machine = Machine::new();
@@ -448,9 +452,8 @@ fn random_searches_get_every_answer() {
                 continue;
             }
             let table = raw::table_of(&machine.state).unwrap();
-            let labels: std::collections::BTreeSet<_> = table.labels.iter().collect();
-            let pairs: std::collections::BTreeSet<_> =
-                table.rules.iter().map(|rule| (rule.0, rule.1)).collect();
+            let labels: BTreeSet<_> = table.labels.iter().collect();
+            let pairs: BTreeSet<_> = table.rules.iter().map(|rule| (rule.0, rule.1)).collect();
             questions += 1;
             labels_twice += u32::from(labels.len() < table.labels.len());
             pairs_twice += u32::from(pairs.len() < table.rules.len());
@@ -470,7 +473,6 @@ fn random_searches_get_every_answer() {
         "granted 4",
         "granted 5",
         "granted 6",
-        "granted 6 b",
         "override 1",
         "override 7",
         "refused 3",
@@ -489,9 +491,9 @@ fn random_places_are_of_every_kind() {
     let kinds = [
         "change", "revoke", "override", "mapping", "bylabel", "question",
     ];
-    let mut calls = std::collections::BTreeMap::new();
-    let mut places = std::collections::BTreeSet::new();
-    let mut first = std::collections::BTreeMap::new();
+    let mut calls = BTreeMap::new();
+    let mut places = BTreeSet::new();
+    let mut first = BTreeMap::new();
     for seed in 0..6 {
         let mut machine = Machine::new();
         for call in script_of(Kind::Places, seed, 10000) {
@@ -551,10 +553,10 @@ fn random_places_are_of_every_kind() {
 #[test]
 fn random_categories_are_of_every_kind() {
     for (kind, seeds) in [(Kind::Categories, 0..2), (Kind::Every, 0..4)] {
-        let mut answers = std::collections::BTreeMap::new();
-        let mut seen = std::collections::BTreeSet::new();
+        let mut answers = BTreeMap::new();
+        let mut seen = BTreeSet::new();
         let mut words_in_use = [false; 3];
-        let mut counts = std::collections::BTreeSet::new();
+        let mut counts = BTreeSet::new();
         for seed in seeds {
             let mut machine = Machine::new();
             for call in script_of(kind, seed, 10000) {
@@ -668,8 +670,8 @@ fn random_categories_are_of_every_kind() {
 /// these two.
 #[test]
 fn random_options_are_of_every_kind() {
-    let mut answers = std::collections::BTreeMap::new();
-    let mut seen = std::collections::BTreeSet::new();
+    let mut answers = BTreeMap::new();
+    let mut seen = BTreeSet::new();
     let (mut all, mut options, mut read_back) = (0, 0, 0);
     for seed in 0..4 {
         let mut machine = Machine::new();
@@ -809,6 +811,227 @@ fn random_options_are_of_every_kind() {
     }
 }
 
+/// What is seen of the retired letter in a script: how often each thing came.
+fn bringup_seen(kind: Kind, seeds: std::ops::Range<u64>) -> BTreeMap<String, u32> {
+    let mut seen = BTreeMap::new();
+    let mut see = |what: String| *seen.entry(what).or_insert(0) += 1;
+    let has_b = |bytes: &[u8]| bytes.contains(&b'b') || bytes.contains(&b'B');
+    // The access field, or the last of what there is.
+    let last_field = |line: &[u8]| fields(line).last().map(|field| field.bytes.to_vec());
+    for seed in seeds {
+        let mut machine = Machine::new();
+        for call in script_of(kind, seed, 10000) {
+            let table = raw::table_of(&machine.state);
+            let loader = raw::loader_of(&machine.loader);
+            let damage: Vec<u8> = match &table {
+                Err(_) if machine.state.words.len() == raw::WORDS_SIZE => {
+                    let rules = machine.state.words[raw::RULE_COUNT].min(256) as usize;
+                    let modes = machine.state.entries.get(raw::MODES..raw::MODES + rules);
+                    modes.unwrap_or_default().to_vec()
+                }
+                _ => Vec::new(),
+            };
+            let answer = machine.execute(&call).unwrap();
+            assert_ne!(answer, "bad line", "{call}");
+            let words: Vec<&str> = call.split(' ').collect();
+            let said: Vec<&str> = answer.split(' ').collect();
+            let refused = |number: &str| said.starts_with(&["refused", number]);
+            let bytes = |word: &str| read_hex(word).unwrap();
+            match words[0] {
+                "piece" => {
+                    if let (Ok(mut table), Ok(mut loader)) = (table, loader) {
+                        let piece = bytes(words[1]);
+                        if !loader.line.is_empty() && piece.contains(&b'\n') {
+                            see("line in pieces".to_string());
+                        }
+                        for byte in piece {
+                            let access = last_field(&loader.line).unwrap_or_default();
+                            if byte == b'\n' && has_b(&access) {
+                                match table.judge_line(&loader.line) {
+                                    Line::Accepted(rule) => {
+                                        assert!(rule.held_b);
+                                        let at = access.iter().position(|b| b"bB".contains(b));
+                                        let at = at.unwrap().min(6);
+                                        see(format!("accepted {at} of {}", access.len()));
+                                        see(format!("accepted modes {}", rule.modes));
+                                        see("accepted".to_string());
+                                    }
+                                    Line::Refused(refusal) => {
+                                        see(format!("refused {}", refusal.number()));
+                                    }
+                                    Line::Skipped => {}
+                                }
+                            }
+                            loader.piece(&mut table, &[byte]);
+                        }
+                    }
+                }
+                "end" if said[0] == "report" => {
+                    see(format!("count {}", said[8].parse::<u64>().unwrap().min(5)));
+                    if said[8] == "4294967295" {
+                        see("limit".to_string());
+                    }
+                }
+                "change" => {
+                    let write = bytes(words[1]);
+                    if let [_, _, allow, deny] = fields(&write)[..] {
+                        let which = (has_b(allow.bytes), has_b(deny.bytes));
+                        if refused("4") {
+                            see(format!("change {which:?}"));
+                        } else {
+                            assert!(which == (false, false) || said[0] == "refused", "{call}");
+                        }
+                    }
+                }
+                "question" if refused("8") && has_b(&bytes(words[3])) => see("request".to_string()),
+                "question" if said[0] != "refused" => see(answer.clone()),
+                "linetorecord" => {
+                    let access = last_field(&bytes(words[1])).unwrap_or_default();
+                    let number = if said[0] == "refused" { said[1] } else { "" };
+                    if has_b(&access) {
+                        see(format!("linetorecord {} {number}", said[0]));
+                    }
+                }
+                "recordtoline" if refused("4") && has_b(&bytes(words[1])[48..]) => {
+                    see("recordtoline".to_string());
+                }
+                "list" if said[0] == "length" => {
+                    let listed = bytes(said[2])[..said[1].parse().unwrap()].to_vec();
+                    assert!(!has_b(listed.rsplit(|byte| *byte == b' ').next().unwrap()));
+                    see("listed".to_string());
+                }
+                "poke" if words[1] == "loader" && words[2] == "8" => {
+                    see(format!("poke {}", words[3]));
+                }
+                _ => {}
+            }
+            // A single bit of the modes that is none, which alone makes it 0; or one
+            // behind the count, which doesn't.
+            for bit in [1, 64, 128] {
+                let others = damage.iter().any(|modes| modes & 193 & !bit != 0);
+                if refused("0") && !others && damage.iter().any(|modes| modes & bit != 0) {
+                    see(format!("bit {bit} {}", words[0]));
+                }
+                if let Ok(table) = raw::table_of(&machine.state) {
+                    let behind = &machine.state.entries[raw::MODES + table.rules.len()..];
+                    let behind = &behind[..256 - table.rules.len()];
+                    if said[0] == "granted" && behind.iter().any(|modes| modes & bit != 0) {
+                        see(format!("behind {bit}"));
+                    }
+                }
+            }
+        }
+    }
+    seen
+}
+
+/// Lines with the retired letter are accepted, with it at every place and with all
+/// modes beside it, and refused by every number; a change has it in either field and
+/// a request too; records are made of such lines, or not, by every number; each bit
+/// that is no mode makes every call answer 0 below the count of rules and nothing
+/// behind it; the count comes to its limit. The ordinary kind reaches the most of
+/// these.
+#[test]
+fn random_bringup_letters_are_of_every_kind() {
+    let every = [
+        "accepted",
+        "refused 1",
+        "refused 2",
+        "refused 3",
+        "refused 4",
+        "refused 5",
+        "refused 6",
+        "refused 7",
+        "line in pieces",
+        "count 0",
+        "count 1",
+        "count 2",
+        "limit",
+        "change (true, false)",
+        "change (false, true)",
+        "request",
+        "granted 6",
+        "denied 7",
+        "override 7",
+        "linetorecord length ",
+        "linetorecord refused 3",
+        "linetorecord refused 4",
+        "linetorecord refused 5",
+        "linetorecord refused 12",
+        "linetorecord refused 15",
+        "recordtoline",
+        "listed",
+        "poke 4294967294",
+        "poke 4294967295",
+        "bit 1 question",
+        "bit 64 question",
+        "bit 128 question",
+        "behind 1",
+        "behind 64",
+        "behind 128",
+    ];
+    for (kind, seeds, least) in [(Kind::Bringup, 0..4, 10), (Kind::Every, 0..6, 0)] {
+        let seen = bringup_seen(kind, seeds);
+        let count = |what: &str| seen.get(what).copied().unwrap_or(0);
+        for what in every {
+            assert!(count(what) > least, "{what} {}", count(what));
+        }
+        if kind == Kind::Every {
+            continue;
+        }
+        let often = [
+            ("accepted", 3000),
+            ("refused 4", 300),
+            ("change (true, false)", 200),
+            ("change (false, true)", 200),
+            ("change (true, true)", 100),
+            ("request", 300),
+            ("granted 6", 500),
+            ("linetorecord length ", 500),
+            ("linetorecord refused 15", 100),
+            ("linetorecord refused 1", 5),
+            ("linetorecord refused 2", 20),
+            ("listed", 300),
+            ("count 5", 50),
+            ("limit", 50),
+        ];
+        for (what, least) in often {
+            assert!(count(what) > least, "{what} {}", count(what));
+        }
+        for length in 1..=6 {
+            for at in 0..length {
+                let what = format!("accepted {at} of {length}");
+                assert!(count(&what) > 5, "{what}");
+            }
+        }
+        for modes in (0..64).step_by(2) {
+            let what = format!("accepted modes {modes}");
+            assert!(count(&what) > 5, "{what}");
+        }
+        let lent_the_tables = [
+            "piece",
+            "end",
+            "change",
+            "revoke",
+            "override",
+            "mapping",
+            "bylabel",
+            "bylevel",
+            "question",
+            "list",
+            "label",
+            "writeoption",
+            "readoption",
+        ];
+        for call in lent_the_tables {
+            for bit in [1, 64, 128] {
+                let what = format!("bit {bit} {call}");
+                assert!(count(&what) > 0, "{what}");
+            }
+        }
+    }
+}
+
 /// Demand 3: the same bytes and end calls, whatever the cuts and questions.
 #[test]
 fn random_cuts_do_not_matter() {
@@ -816,7 +1039,7 @@ fn random_cuts_do_not_matter() {
     for _ in 0..200 {
         let mut text = Vec::new();
         for _ in 0..random.below(30) {
-            let choices: [&[u8]; 11] = [
+            let choices: [&[u8]; 13] = [
                 b"A B r\n",
                 b"C D",
                 b"\n",
@@ -828,6 +1051,8 @@ fn random_cuts_do_not_matter() {
                 b" \tA B/ r\n",
                 b"E F q\n",
                 b"G H -wb\n",
+                b"G H bq\n",
+                b"G G B\n",
             ];
             text.extend_from_slice(random.pick(&choices));
             if random.chance(3) {

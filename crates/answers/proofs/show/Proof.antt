@@ -1,7 +1,6 @@
 -- `answers::show` meets its contract: a case for each case. Assumes nothing.
 use Prim.Native.Nat.{ℕ}
 use mathlib.Core.Path.{_≡_, sym, ap, _∙_}
-use mathlib.Core.Bool.{false}
 use Rattle.answers.specs.declared.Shown.{Shown}
 use Rattle.answers.specs.Answers.{shown}
 use borrow.Author.Needs.{needs}
@@ -9,7 +8,7 @@ use Rattle.answers.proofs.show.Statement.{statement}
 use Rattle.answers.proofs.show.Tie as tie
 
 -- by the rule's number
-shown-as : (kind : ℕ) (n m : ℕ) → n ≡ m → _≡_ {A = Shown} (record { kind = kind; number = n; bringup = false; place = 0 }) (record { kind = kind; number = m; bringup = false; place = 0 })
+shown-as : (kind : ℕ) (n m : ℕ) → n ≡ m → _≡_ {A = Shown} (record { kind = kind; number = n; place = 0 }) (record { kind = kind; number = m; place = 0 })
 shown-as kind n m e = rw e
 
 enum-known-answer : tie.Need-enum-known-answer

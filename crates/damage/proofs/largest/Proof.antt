@@ -3,6 +3,7 @@ use Prim.Native.Nat.{ℕ, _≤_, _<_, _-_}
 use borrow.Author.Count.{below-more}
 use borrow.Author.Needs.{needs}
 use native.Mathlib.Omega.{arith}
+use Rattle.modes.proofs.Laws.{known-of-or}
 use Rattle.damage.specs.Within.{Bounded}
 use Rattle.damage.proofs.largest.Statement.{statement}
 use Rattle.damage.proofs.largest.Tie as tie
@@ -31,14 +32,11 @@ larger-requires c κs = search needs
 larger-requires-2 : tie.Need-larger-requires-2 Inv-loop μ-loop
 larger-requires-2 c κs = search needs
 
-add-larger-2 : tie.Need-add-larger-2 Inv-loop μ-loop
-add-larger-2 c = omega arith
+add-modes : tie.Need-add-modes Inv-loop μ-loop
+add-modes c = omega arith
 
-shared-slice-read-larger-3 : tie.Need-shared-slice-read-larger-3 Inv-loop μ-loop
-shared-slice-read-larger-3 c = omega arith
-
-larger-requires-3 : tie.Need-larger-requires-3 Inv-loop μ-loop
-larger-requires-3 c κs = search needs
+shared-slice-read-modes : tie.Need-shared-slice-read-modes Inv-loop μ-loop
+shared-slice-read-modes c = omega arith
 
 add-i : tie.Need-add-i Inv-loop μ-loop
 add-i c = omega arith
@@ -48,11 +46,11 @@ loop-less c = omega arith
 
 loop-again : tie.Need-loop-again Inv-loop μ-loop
 loop-again c =
-    let l = c .before .before .before .before .before .before .before in (
+    let l = c .before .before .before .before .before .before in (
       omega arith,
       below-more _ _
-          (λ k h. let w = l .loop .inv .1 k h in record { subject = omega arith; object = omega arith; modes-of = omega arith })
-          (record { subject = omega arith; object = omega arith; modes-of = omega arith }),
+          (λ k h. let w = l .loop .inv .1 k h in record { subject = omega arith; object = omega arith; modes-of = λ e. w .modes-of (known-of-or _ _ e .0) })
+          (record { subject = omega arith; object = omega arith; modes-of = λ e. known-of-or (l .loop .modes) _ e .1 }),
     )
 
 returns : tie.Need-returns Inv-loop μ-loop
@@ -70,9 +68,8 @@ largest-spec =
     shared-slice-read-larger-2
     larger-requires
     larger-requires-2
-    add-larger-2
-    shared-slice-read-larger-3
-    larger-requires-3
+    add-modes
+    shared-slice-read-modes
     add-i
     loop-less
     loop-again

@@ -9,8 +9,8 @@ use Rattle.fixed_load.proofs.line_to_record.Statement.{statement}
 use Rattle.fixed_load.proofs.line_to_record.Tie as tie
 
 -- where the line is a rule, its labels stand in it
-inside : (c : tie.After-known-told2) → RuleInside (c .before .before .before .before .without-newline .result .now) (r.Rule (c .before .said2 .given .0 .0) (c .before .said2 .given .0 .1 .0))
-inside c = subst (RuleInside (c .before .before .before .before .without-newline .result .now)) (c .before .said2 .given .1) (c .before .before .before .rule-line .ensures .1 .1)
+inside : (c : tie.After-known-told2) → RuleInside (c .before .before .before .before .without-newline .result .now) (r.Rule (c .before .said2 .given .0 .0) (c .before .said2 .given .0 .1 .0) (c .before .said2 .given .0 .1 .1 .0))
+inside c = subst (RuleInside (c .before .before .before .before .without-newline .result .now)) (c .before .said2 .given .1) (c .before .before .before .rule-line .ensures .1 .1 .0)
 
 without-newline-requires : tie.Need-without-newline-requires
 without-newline-requires c κs = search needs
@@ -72,7 +72,7 @@ returns-3 c =
     let l = k .before .before .before in
     let n = l .before in
     let a = n .before .before .before .args in
-    let e = as-answered _ _ (a .out .now) (from-answer (a .line .now) (n .without-newline .result .now) (n .without-newline .ensures) (l .rule-line .result) (r.Rule (k .before .said2 .given .0 .0) (k .before .said2 .given .0 .1 .0)) (l .rule-line .ensures .1 .0) (k .before .said2 .given .1)) in
+    let e = as-answered _ _ (a .out .now) (from-answer (a .line .now) (n .without-newline .result .now) (n .without-newline .ensures) (l .rule-line .result) (r.Rule (k .before .said2 .given .0 .0) (k .before .said2 .given .0 .1 .0) (k .before .said2 .given .0 .1 .1 .0)) (l .rule-line .ensures .1 .0) (k .before .said2 .given .1)) in
     (p .put-record .ensures .0 ∙ e .0, p .put-record .ensures .1 ∙ e .1)
 
 pub line-to-record-spec : {M : Type 1} → statement M

@@ -3,7 +3,7 @@ use mathlib.Core.Path.{sym, ap, _∙_}
 use mathlib.Core.List.{List}
 use Prim.Native.Nat.{ℕ}
 use Rattle.output.specs.Output.{putAnswer, putOut, Text, textAnswer, textOut}
-use Rattle.fixed_load.proofs.Laws.{long-subject, long-object, has-b, it-fits, record-built}
+use Rattle.fixed_load.proofs.Laws.{long-subject, long-object, it-fits, record-built}
 use borrow.Author.Needs.{needs}
 use Rattle.fixed_load.proofs.put_record.Statement.{statement}
 use Rattle.fixed_load.proofs.put_record.Tie as tie
@@ -18,12 +18,6 @@ returns-2 : tie.Need-returns-2
 returns-2 c =
     let a = c .before .before .before .before .before .args in
     let e = sym (long-object (a .subject .now) (a .object .now) (a .modes) (c .before .if1 .left) (c .if2 .taken)) in
-    (ap (λ (x : Text). textAnswer x (a .out .now)) e, ap (λ (x : Text). textOut x (a .out .now)) e)
-
-returns-3 : tie.Need-returns-3
-returns-3 c =
-    let a = c .before .before .before .before .before .before .args in
-    let e = sym (has-b (a .subject .now) (a .object .now) (a .modes) (c .before .before .if1 .left) (c .before .if2 .left) (c .if3 .taken)) in
     (ap (λ (x : Text). textAnswer x (a .out .now)) e, ap (λ (x : Text). textOut x (a .out .now)) e)
 
 slice-aggregate-copy-at : tie.Need-slice-aggregate-copy-at
@@ -59,17 +53,17 @@ put-requires c κs = search needs
 same-length : tie.Need-same-length
 same-length c = search needs
 
-returns-4 : tie.Need-returns-4
-returns-4 c =
+returns-3 : tie.Need-returns-3
+returns-3 c =
     let r = c .before .before in
     let w = r .before .before .before .before .before in
     let y = w .before .before .before in
     let x = y .before .before .before in
     let n = x .before .before in
-    let a = n .before .before .before .before .before .before .args in
-    let h = n .before .before .if1 .left in
-    let i = n .before .if2 .left in
-    let e = it-fits (a .subject .now) (a .object .now) (a .modes) h i (n .if3 .left) in
+    let a = n .before .before .before .before .before .args in
+    let h = n .before .if1 .left in
+    let i = n .if2 .left in
+    let e = it-fits (a .subject .now) (a .object .now) (a .modes) h i in
     let f = record-built (a .subject .now) (a .object .now) (a .modes) (x .copy-at .last .0) (y .copy-at2 .last .0) (w .write-access .last .0) h i (x .copy-at .ensures) (y .copy-at2 .ensures) (w .write-access .ensures) in (
       r .put .ensures .0 ∙ ap (λ (t : List ℕ). putAnswer t (a .out .now)) f ∙ sym (ap (λ (t : Text). textAnswer t (a .out .now)) e),
       r .put .ensures .1 ∙ ap (λ (t : List ℕ). putOut t (a .out .now)) f ∙ sym (ap (λ (t : Text). textOut t (a .out .now)) e),
@@ -81,7 +75,6 @@ put-record-spec =
     (tie.spec
     returns
     returns-2
-    returns-3
     slice-aggregate-copy-at
     copy-at-requires
     slice-aggregate-copy-at-2
@@ -93,4 +86,4 @@ put-record-spec =
     part-put-end
     put-requires
     same-length
-    returns-4)
+    returns-3)

@@ -38,7 +38,7 @@ module _ (c : tie.Else2) where
   abbrev k : ℕ
   k = c .before .before .before .before .before .before .before .before .args .k
 
-  known : (getD e k 0 < getD (c .before .before .before .before .before .before .before .before .args .words .now) 0 0) × (getD e (256 + k) 0 < getD (c .before .before .before .before .before .before .before .before .args .words .now) 0 0) × (getD e (512 + k) 0 < 64)
+  known : (getD e k 0 < getD (c .before .before .before .before .before .before .before .before .args .words .now) 0 0) × (getD e (256 + k) 0 < getD (c .before .before .before .before .before .before .before .before .args .words .now) 0 0)
   known = rule-sound (lent (c .before .before .before .before .before .before .before .before)) (whole (c .before .before)) k (c .if2 .left)
 
   small : k < 256

@@ -8,10 +8,10 @@ use Rattle.modes.proofs.write_modes.Statement.{statement}
 use Rattle.modes.proofs.write_modes.Tie as tie
 
 abbrev Inv-loop : tie.InvT-loop
-Inv-loop out₀ at modes n₀ i₀ out n i = (i ≤ 6) × Wrote out₀ at modes out n i
+Inv-loop out₀ at modes n₀ i₀ out n i = (i ≤ 5) × Wrote out₀ at modes out n i
 
 abbrev μ-loop : tie.MeasureT-loop
-μ-loop out₀ at modes n₀ i₀ out n i = 6 - i
+μ-loop out₀ at modes n₀ i₀ out n i = 5 - i
 
 slice-write-out : tie.Need-slice-write-out Inv-loop μ-loop
 slice-write-out c = omega arith

@@ -2,7 +2,7 @@
 use mathlib.Core.Path.{sym, ap, _∙_}
 use native.Mathlib.Omega.{arith}
 use lib.Seq.{length-take-le}
-use Rattle.replies.specs.Replies.{answerLine}
+use Rattle.replies.specs.Replies.{lineRoom, answerLine}
 use Rattle.replies.proofs.Laws.{put-said}
 use Rattle.program.proofs.Laws.{answer-long, answer-short}
 use borrow.Author.Needs.{needs}
@@ -16,7 +16,7 @@ same-length : tie.Need-same-length
 same-length c = search needs
 
 returns : tie.Need-returns
-returns c = put-said 66 (c .before .before .write-answer .ensures) (ap answerLine (answer-long _ _ _ (c .before .before .before .before .if1 .taken))) (omega arith)
+returns c = put-said lineRoom (c .before .before .write-answer .ensures) (ap answerLine (answer-long _ _ _ (c .before .before .before .before .if1 .taken))) (omega arith)
 
 slice-aggregate-question-line : tie.Need-slice-aggregate-question-line
 slice-aggregate-question-line c = sym (length-take-le (c .before .before .before .before .before .before .before .args .kept) (c .before .before .before .before .before .before .before .args .line .now) (omega (arith, c .before .if1 .left, c .before .before .before .before .before .before .before .pre .0)))
@@ -31,7 +31,7 @@ same-length-2 : tie.Need-same-length-2
 same-length-2 c = search needs
 
 returns-2 : tie.Need-returns-2
-returns-2 c = put-said 66 (c .before .before .write-answer2 .ensures) (ap answerLine (c .before .before .before .before .question-line .ensures ∙ answer-short _ _ _ (c .before .before .before .before .before .before .if1 .left))) (omega arith)
+returns-2 c = put-said lineRoom (c .before .before .write-answer2 .ensures) (ap answerLine (c .before .before .before .before .question-line .ensures ∙ answer-short _ _ _ (c .before .before .before .before .before .before .if1 .left))) (omega arith)
 
 pub answer-line-spec : {M : Type 1} → statement M
 answer-line-spec =

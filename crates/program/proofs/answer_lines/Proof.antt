@@ -13,6 +13,7 @@ use Rattle.load.specs.Loader.{Load, load}
 use Rattle.text_lines.proofs.Laws.{end-behind, end-within, run-between}
 use Rattle.replies.specs.Within.{Put}
 use Rattle.replies.proofs.Laws.{put-none, put-said, put-next, put-left, put-length}
+use Rattle.replies.specs.Replies.{lineRoom}
 use Rattle.program.specs.Steps.{State, asking, emptied, answerText, takeInput, sayInput}
 use Rattle.program.proofs.Laws.{lines-over, line-over}
 use Rattle.program.proofs.answer_lines.Statement.{statement}
@@ -21,7 +22,7 @@ use Rattle.program.proofs.answer_lines.Tie as tie
 -- what was said so far, and what is still to be said
 record Said (begun here : State) (input : List ℕ) (i : ℕ) (out₀ : List ℕ) (from : ℕ) (out : List ℕ) (at : ℕ) : Type 0 where
   pub so-far : List ℕ
-  pub put : Put (66 * i) out₀ from so-far out at
+  pub put : Put (lineRoom * i) out₀ from so-far out at
   pub says : sayInput begun input ≡ so-far ++ sayInput here (drop i input)
 
 abbrev Inv-loop : tie.InvT-loop
@@ -44,7 +45,7 @@ module _ (c : tie.At-loop Inv-loop μ-loop) where
   abbrev here : Load
   here = load tables (c .loop .line) (c .loop .next)
 
-  room : c .before .before .before .before .before .before .before .args .from + 66 * length input ≤ length (c .before .before .before .before .before .before .before .args .out .now)
+  room : c .before .before .before .before .before .before .before .args .from + lineRoom * length input ≤ length (c .before .before .before .before .before .before .before .args .out .now)
   room = c .before .before .before .before .before .before .before .pre .1
 
 module _ (c : tie.After-line-end Inv-loop μ-loop) where
@@ -81,10 +82,10 @@ same-length-2 c = put-length (c .before .before .before .before .before .before 
 returns : tie.Need-returns Inv-loop μ-loop
 returns c = let over = lines-over (here (c .before .before .before .before .before .before .before)) (input (c .before .before .before .before .before .before .before)) (c .before .before .before .before .before .before .before .loop .i) (c .before .before .before .before .before .before .line-end .result) (c .before .before .before .before .before .before .before .loop .inv .0) (c .before .before .before .before .before .before .line-end .ensures) (c .before .before .before .take-run .ensures (tables (c .before .before .before .before .before .before .before))) (c .if1 .taken) in
     let said = c .before .before .before .before .before .before .before .loop .inv .3 in
-    (sym (c .before .before .before .before .before .before .before .loop .inv .2 ∙ over .0), put-said (66 * length (input (c .before .before .before .before .before .before .before))) (said .put) (sym (said .says ∙ ap (λ (l : List ℕ). said .so-far ++ l) (over .1) ∙ append-nil (said .so-far))) (omega (arith, c .before .before .before .before .before .before .before .loop .inv .0)))
+    (sym (c .before .before .before .before .before .before .before .loop .inv .2 ∙ over .0), put-said (lineRoom * length (input (c .before .before .before .before .before .before .before))) (said .put) (sym (said .says ∙ ap (λ (l : List ℕ). said .so-far ++ l) (over .1) ∙ append-nil (said .so-far))) (omega (arith, c .before .before .before .before .before .before .before .loop .inv .0)))
 
 answer-line-requires : tie.Need-answer-line-requires Inv-loop μ-loop
-answer-line-requires c κs = (c .before .before .before .before .before .take-run .kept .0 ∙ c .before .before .before .before .before .before .before .before .before .loop .inv .1, put-left (c .before .before .before .before .before .before .before .before .before .loop .inv .3 .put) 66 (omega (arith, room (c .before .before .before .before .before .before .before .before .before), c .before .before .if1 .left, ends-within (c .before .before .before .before .before .before .before .before), ends-behind (c .before .before .before .before .before .before .before .before))))
+answer-line-requires c κs = (c .before .before .before .before .before .take-run .kept .0 ∙ c .before .before .before .before .before .before .before .before .before .loop .inv .1, put-left (c .before .before .before .before .before .before .before .before .before .loop .inv .3 .put) lineRoom (omega (arith, room (c .before .before .before .before .before .before .before .before .before), c .before .before .if1 .left, ends-within (c .before .before .before .before .before .before .before .before), ends-behind (c .before .before .before .before .before .before .before .before))))
 
 keep-requires : tie.Need-keep-requires Inv-loop μ-loop
 keep-requires c κs = search needs
@@ -106,7 +107,7 @@ loop-again c = let less : c .before .before .before .before .before .before .bef
       c .before .before .before .before .before .before .before .before .before .before .before .before .before .loop .inv .2 ∙ over .0 ∙ ap (λ (x : Load). takeInput (asking x) (drop (c .before .before .before .before .before .before .before .before .before .before .before .before .line-end .result + 1) (input (c .before .before .before .before .before .before .before .before .before .before .before .before .before)))) (sym next),
       record {
         so-far = said .so-far ++ answerText there;
-        put = put-next (66 * (c .before .before .before .before .before .before .before .before .before .before .before .before .line-end .result + 1)) (said .put) (c .before .before .before .answer-line .ensures) (omega (arith, room (c .before .before .before .before .before .before .before .before .before .before .before .before .before), c .before .before .before .before .before .before .before .before .before .before .before .before .before .loop .inv .0)) (omega (arith, ends-behind (c .before .before .before .before .before .before .before .before .before .before .before .before)));
+        put = put-next (lineRoom * (c .before .before .before .before .before .before .before .before .before .before .before .before .line-end .result + 1)) (said .put) (c .before .before .before .answer-line .ensures) (omega (arith, room (c .before .before .before .before .before .before .before .before .before .before .before .before .before), c .before .before .before .before .before .before .before .before .before .before .before .before .before .loop .inv .0)) (omega (arith, ends-behind (c .before .before .before .before .before .before .before .before .before .before .before .before)));
         says = said .says ∙ ap (λ (l : List ℕ). said .so-far ++ l) (over .1 ∙ ap (λ (x : Load). answerText there ++ sayInput (asking x) (drop (c .before .before .before .before .before .before .before .before .before .before .before .before .line-end .result + 1) (input (c .before .before .before .before .before .before .before .before .before .before .before .before .before)))) (sym next)) ∙ sym (append-assoc (said .so-far) (answerText there) _);
       },
     )

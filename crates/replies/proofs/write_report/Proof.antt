@@ -1,8 +1,8 @@
--- `replies::write_report` meets its contract: six numbers one behind the other. Assumes nothing.
+-- `replies::write_report` meets its contract: seven numbers one behind the other. Assumes nothing.
 use mathlib.Core.List.{[], _∷_, _++_}
 use native.Mathlib.Omega.{arith}
-use Rattle.replies.specs.Replies.{decimal}
-use Rattle.replies.proofs.Laws.{put-next, put-said, six-fields}
+use Rattle.replies.specs.Replies.{lineRoom, decimal}
+use Rattle.replies.proofs.Laws.{put-next, put-said, seven-fields}
 use borrow.Author.Needs.{needs}
 use Rattle.replies.proofs.write_report.Statement.{statement}
 use Rattle.replies.proofs.write_report.Tie as tie
@@ -28,20 +28,24 @@ cast-write-field c = search needs
 write-field-requires-6 : tie.Need-write-field-requires-6
 write-field-requires-6 c κs = search needs
 
+write-field-requires-7 : tie.Need-write-field-requires-7
+write-field-requires-7 c κs = search needs
+
 same-length : tie.Need-same-length
 same-length c = search needs
 
 returns : tie.Need-returns
 returns c =
-    let p1 = c .before .before .before .before .before .before .before .before .before .before .before .before .before .before .before .before .before .before .before .before .before .before .before .write-field .ensures in
-    let p2 = c .before .before .before .before .before .before .before .before .before .before .before .before .before .before .before .before .before .before .before .write-field2 .ensures in
-    let p3 = c .before .before .before .before .before .before .before .before .before .before .before .before .before .before .before .write-field3 .ensures in
-    let p4 = c .before .before .before .before .before .before .before .before .before .before .before .write-field4 .ensures in
-    let p5 = c .before .before .before .before .before .before .before .write-field5 .ensures in
-    let p6 = c .before .before .write-field6 .ensures in
-    let r = c .before .before .before .before .before .before .before .before .before .before .before .before .before .before .before .before .before .before .before .before .before .before .before .before .before .before .args .report in
-    let h = c .before .before .before .before .before .before .before .before .before .before .before .before .before .before .before .before .before .before .before .before .before .before .before .before .before .before .pre in
-    put-said 66 (put-next 66 (put-next 55 (put-next 44 (put-next 33 (put-next 22 p1 p2 (omega (arith, h)) (omega arith)) p3 (omega (arith, h)) (omega arith)) p4 (omega (arith, h)) (omega arith)) p5 (omega (arith, h)) (omega arith)) p6 (omega (arith, h)) (omega arith)) (six-fields (decimal (r .lines) ++ (32 ∷ [])) (decimal (r .accepted) ++ (32 ∷ [])) (decimal (r .skipped) ++ (32 ∷ [])) (decimal (r .refused) ++ (32 ∷ [])) (decimal (r .first) ++ (32 ∷ [])) (decimal (r .reason) ++ (10 ∷ []))) (omega arith)
+    let p1 = c .before .before .before .before .before .before .before .before .before .before .before .before .before .before .before .before .before .before .before .before .before .before .before .before .before .before .before .write-field .ensures in
+    let p2 = c .before .before .before .before .before .before .before .before .before .before .before .before .before .before .before .before .before .before .before .before .before .before .before .write-field2 .ensures in
+    let p3 = c .before .before .before .before .before .before .before .before .before .before .before .before .before .before .before .before .before .before .before .write-field3 .ensures in
+    let p4 = c .before .before .before .before .before .before .before .before .before .before .before .before .before .before .before .write-field4 .ensures in
+    let p5 = c .before .before .before .before .before .before .before .before .before .before .before .write-field5 .ensures in
+    let p6 = c .before .before .before .before .before .before .write-field6 .ensures in
+    let p7 = c .before .before .write-field7 .ensures in
+    let r = c .before .before .before .before .before .before .before .before .before .before .before .before .before .before .before .before .before .before .before .before .before .before .before .before .before .before .before .before .before .before .args .report in
+    let h = c .before .before .before .before .before .before .before .before .before .before .before .before .before .before .before .before .before .before .before .before .before .before .before .before .before .before .before .before .before .before .pre in
+    put-said lineRoom (put-next 77 (put-next 66 (put-next 55 (put-next 44 (put-next 33 (put-next 22 p1 p2 (omega (arith, h)) (omega arith)) p3 (omega (arith, h)) (omega arith)) p4 (omega (arith, h)) (omega arith)) p5 (omega (arith, h)) (omega arith)) p6 (omega (arith, h)) (omega arith)) p7 (omega (arith, h)) (omega arith)) (seven-fields (decimal (r .lines) ++ (32 ∷ [])) (decimal (r .accepted) ++ (32 ∷ [])) (decimal (r .skipped) ++ (32 ∷ [])) (decimal (r .refused) ++ (32 ∷ [])) (decimal (r .first) ++ (32 ∷ [])) (decimal (r .reason) ++ (32 ∷ [])) (decimal (r .bringup) ++ (10 ∷ []))) (omega arith)
 
 pub write-report-spec : {M : Type 1} → statement M
 write-report-spec =
@@ -54,5 +58,6 @@ write-report-spec =
     write-field-requires-5
     cast-write-field
     write-field-requires-6
+    write-field-requires-7
     same-length
     returns)

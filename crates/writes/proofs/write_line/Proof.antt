@@ -5,7 +5,7 @@ use Prim.Native.Nat.{ℕ}
 use Rattle.store.specs.Table.{Table}
 use Rattle.store.specs.Layout.{store, tableOf}
 use Rattle.rules.specs.Within.{placing}
-use Rattle.lines.specs.Lines.{rule, ruleOf}
+use Rattle.lines.specs.Lines.{rule, ruleOf, bringUpIn}
 use Rattle.lines.specs.Within.{at, ruleSaid, RuleInside}
 use Rattle.lines.specs.declared.RuleLine.{RuleLine}
 use Rattle.lines.specs.declared.RuleLine.the-variants as r
@@ -15,7 +15,7 @@ use Rattle.writes.specs.Within.{settingAt}
 use Rattle.writes.specs.declared.Setting.the-variants as x
 use borrow.Author.Needs.{needs}
 use native.Mathlib.Omega.{arith}
-use Rattle.writes.proofs.Laws.{said-rule, inside-rule, formed-short, sound-as, done-accepted, done-refused, table-sound, rule-at}
+use Rattle.writes.proofs.Laws.{said-rule, inside-rule, held-rule, formed-short, sound-as, done-accepted, done-refused, table-sound, rule-at}
 use Rattle.writes.proofs.write_line.Statement.{statement}
 use Rattle.writes.proofs.write_line.Tie as tie
 
@@ -39,8 +39,11 @@ module _ (c : tie.After-known-told2) where
   says : ruleOf (S .args .line .now) ≡ rule subject object modes
   says = said-rule (S .args .line .now) (c .before .before .before .rule-line .ensures .1 .0) (c .before .said2 .given .1)
 
-  inside : RuleInside (S .args .line .now) (r.Rule (c .before .said2 .given .0 .0) (c .before .said2 .given .0 .1 .0))
-  inside = inside-rule (S .args .line .now) (c .before .before .before .rule-line .ensures .1 .1) (c .before .said2 .given .1)
+  inside : RuleInside (S .args .line .now) (r.Rule (c .before .said2 .given .0 .0) (c .before .said2 .given .0 .1 .0) (c .before .said2 .given .0 .1 .1 .0))
+  inside = inside-rule (S .args .line .now) (c .before .before .before .rule-line .ensures .1 .1 .0) (c .before .said2 .given .1)
+
+  holds : c .before .said2 .given .0 .1 .1 .0 ≡ bringUpIn (S .args .line .now)
+  holds = held-rule (c .before .before .before .rule-line .ensures .1 .1 .1) (c .before .said2 .given .1)
 
   formed : Taken subject object
   formed = sound-as (rule-sound (S .args .line .now)) says .0
@@ -131,7 +134,7 @@ returns-3 c =
     let k = c .before .before .before .before .before .before .before .before .before .before .before .before .before .before in
     let e = by-place k in
     let q = sym (c .before .before .before .before .before .before .before .before .set-modes .ensures .0) ∙ c .enum-told2 .given .1 in
-    (rw e (done-accepted (T k) (subject k) (object k) (x.Rule (modes k)) (placing (T k) (subject k) (object k)) q), rw e (c .before .before .before .before .before .before .before .before .set-modes .ensures .1))
+    (rw e (done-accepted (T k) (subject k) (object k) (x.Rule (modes k)) (placing (T k) (subject k) (object k)) (holds k) q), rw e (c .before .before .before .before .before .before .before .before .set-modes .ensures .1))
 
 same-length-4 : tie.Need-same-length-4
 same-length-4 c = search needs
@@ -148,7 +151,7 @@ returns-4 c =
     let k = c .before .before .before .before .before .before .before .before .before .before .before .before .before .before .before in
     let e = by-place k in
     let q = sym (c .before .before .before .before .before .before .before .before .before .set-modes .ensures .0) ∙ c .before .done .given .1 in
-    (rw e (done-refused (T k) (subject k) (object k) (x.Rule (modes k)) (placing (T k) (subject k) (object k)) q), rw e (c .before .before .before .before .before .before .before .before .before .set-modes .ensures .1))
+    (rw e (done-refused (T k) (subject k) (object k) (x.Rule (modes k)) (placing (T k) (subject k) (object k)) _ q), rw e (c .before .before .before .before .before .before .before .before .before .set-modes .ensures .1))
 
 pub write-line-spec : {M : Type 1} → statement M
 write-line-spec =

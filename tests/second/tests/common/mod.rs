@@ -38,14 +38,7 @@ pub fn ask(table: &Table, subject: &str, object: &str, request: &str) -> Answer 
 }
 
 pub fn granted(rule: u8) -> Answer {
-    Answer::Granted { rule, has_b: false }
-}
-
-pub fn granted_b() -> Answer {
-    Answer::Granted {
-        rule: 6,
-        has_b: true,
-    }
+    Answer::Granted { rule }
 }
 
 pub fn denied(rule: u8) -> Answer {
