@@ -8,27 +8,28 @@ use lib.Dec.{eqb, ltb}
 use lib.Bits.{bitAnd}
 use borrow.Author.Tests.{eqb-true}
 use lib.ListN.{length, getD, set, length-map}
-use Rattle.search.specs.Search.{first, all, put}
+use Rattle.search.specs.Search.{all, put}
 use Rattle.search.specs.Bytes.{sameBytes}
 use Rattle.search.specs.declared.Found.{Found}
 use Rattle.search.specs.declared.Found.the-variants.{At, Nothing}
-use Rattle.search.proofs.Laws.{first-map, map-snoc}
+use Rattle.search.proofs.Laws.{map-snoc}
 use Rattle.refusals.specs.Refusals.{tooLong, badLabelAt, sameLabels, labelsFull, rulesFull}
-use Rattle.alphabet.specs.Alphabet.{isBlank, labelByte, wellFormed, fields, badByteIn}
+use Rattle.alphabet.specs.Alphabet.{dash, isBlank, labelByte, wellFormed, fields, badByteIn}
 use Rattle.modes.specs.Modes.{bitOf, allowedByte, modesOf, readModes, lineLetters, requestLetters, knownModes, storedModes}
 use Rattle.modes.specs.declared.Access.{Access}
 use Rattle.modes.specs.declared.Access.the-variants.{Modes, Bad}
 use Rattle.modes.proofs.Bits.{and-swap, and-or}
-use Rattle.modes.proofs.Laws.{joined, modes-known, known-stored}
+use Rattle.modes.proofs.Laws.{joined, read-known, known-stored}
 use Rattle.lines.specs.Lines.{refused, rule, ruleWith, ruleBy, ruleFields, ruleOf, bringUpIn}
 use Rattle.store.specs.declared.Rule.{Rule}
-use Rattle.store.specs.Table.{Table, labelIn, isPair, noPlace}
+use Rattle.store.specs.Table.{Table, labelIn, noPlace}
 use Rattle.store.specs.Pairs.{PairModes, has-modes, no-rule, ruleBetween, modesFound, modesBetween}
 use Rattle.store.specs.Judged.{Judged, is-skipped, is-refused, is-accepted, tableAfter}
 use Rattle.rules.specs.Rules.{pairLabels, pairRule, withPair, pairJudged}
 use Rattle.writes.specs.Writes.{judged, outcomeOf}
 use Rattle.access.specs.SevenRules.{holds, modesPass}
 use Rattle.access.specs.Access.{effective, decide, byRequest, answer}
+use Rattle.effects.proofs.Revoked.{same-place}
 use Rattle.effects.specs.OldFiles.{ruleWith01, ruleFields01, ruleOf01, ruleWithoutB, withoutB, tablesBy, outcomesBy, dashForB, AsBefore}
 
 abbrev none : Rule
@@ -58,12 +59,8 @@ modesWithoutB (has-modes m) = has-modes (storedModes m)
 modesWithoutB no-rule = no-rule
 
 module _ (t : Table) where
-  pair-place : (i j : ℕ) → first (isPair i j) (map ruleWithoutB (t .rules)) ≡ first (isPair i j) (t .rules)
-  unfolding isPair
-  pair-place i j = first-map (isPair i j) ruleWithoutB (t .rules)
-
   same-rule : (s o : Found) → ruleBetween (withoutB t) s o ≡ ruleBetween t s o
-  same-rule (At i) (At j) = pair-place i j
+  same-rule (At i) (At j) = same-place ruleWithoutB (λ r. refl) (λ r. refl) (t .rules) i j
   same-rule (At i) Nothing = refl
   same-rule Nothing o = refl
 
@@ -188,28 +185,27 @@ request-known = refl
 
 answer-same : (t : Table) (s o request : List ℕ) (capable : Bool) → answer (withoutB t) s o request capable ≡ answer t s o request capable
 unfolding answer
-answer-same t s o request capable = rw (request-same t s o capable (readModes requestLetters false request) (modes-known requestLetters false request-known request))
+answer-same t s o request capable = rw (request-same t s o capable (readModes requestLetters false request) (read-known requestLetters false request-known request))
 
 -- ---- b is a placeholder
 
--- a byte and what stands for it are allowed alike, and leave the same
+-- what is the same of a dash, of b and of B is the same of a byte and of what stands for it
+dash-same : {A : Type 0} (g : ℕ → A) → g dash ≡ g 98 → g dash ≡ g 66 → (b : ℕ) → g (dashForB b) ≡ g b
+dash-same g small capital b = by-test (eqb b 98) (eqb b 66) (eqb-true b 98) (eqb-true b 66)
+  where
+    by-test : (s t : Bool) → (s ≡ true → b ≡ 98) → (t ≡ true → b ≡ 66) → g (cond (s || (t || false)) dash b) ≡ g b
+    by-test true t is-s is-t = rw (is-s refl) small
+    by-test false true is-s is-t = rw (is-t refl) capital
+    by-test false false is-s is-t = refl
+
+-- so they are allowed alike, and leave the same
 dash-allowed : (b : ℕ) → allowedByte lineLetters true (dashForB b) ≡ allowedByte lineLetters true b
 unfolding allowedByte bitOf
-dash-allowed b = by-test (eqb b 98) (eqb b 66) (eqb-true b 98) (eqb-true b 66)
-  where
-    by-test : (s t : Bool) → (s ≡ true → b ≡ 98) → (t ≡ true → b ≡ 66) → allowedByte lineLetters true (cond (s || (t || false)) 45 b) ≡ allowedByte lineLetters true b
-    by-test true t is-s is-t = rw (is-s refl)
-    by-test false true is-s is-t = rw (is-t refl)
-    by-test false false is-s is-t = refl
+dash-allowed b = dash-same (allowedByte lineLetters true) refl refl b
 
 dash-stored : (b : ℕ) → storedModes (bitOf (dashForB b)) ≡ storedModes (bitOf b)
 unfolding bitOf
-dash-stored b = by-test (eqb b 98) (eqb b 66) (eqb-true b 98) (eqb-true b 66)
-  where
-    by-test : (s t : Bool) → (s ≡ true → b ≡ 98) → (t ≡ true → b ≡ 66) → storedModes (bitOf (cond (s || (t || false)) 45 b)) ≡ storedModes (bitOf b)
-    by-test true t is-s is-t = rw (is-s refl)
-    by-test false true is-s is-t = rw (is-t refl)
-    by-test false false is-s is-t = refl
+dash-stored b = dash-same (λ (x : ℕ). storedModes (bitOf x)) refl refl b
 
 field-allowed : (a : List ℕ) → all (allowedByte lineLetters true) (map dashForB a) ≡ all (allowedByte lineLetters true) a
 unfolding all

@@ -39,6 +39,14 @@ number q = cc
 nowhere : {i : ℕ} → Nothing ≡ At i → ⊥
 nowhere q = let z : _≡_ {A = ℕ} 0 1 = cc in omega arith
 
+-- a search for a pair finds the same place among rules whose labels are the same, whatever their modes
+pub same-place :
+    (f : Rule → Rule) → ((r : Rule) → f r .subject ≡ r .subject) → ((r : Rule) → f r .object ≡ r .object) →
+    (rules : List Rule) (i j : ℕ) → first (isPair i j) (map f rules) ≡ first (isPair i j) rules
+unfolding isPair
+same-place f subject object rules i j =
+    first-map (isPair i j) f rules ∙ first-same (λ (r : Rule). isPair i j (f r)) (isPair i j) rules (λ r. rw (subject r, object r))
+
 -- a rule, with no modes where a test passes
 abbrev emptied : Bool → Rule → Rule
 emptied b r = cond b (record { subject = r .subject; object = r .object; modes = 0 }) r
@@ -58,12 +66,8 @@ module _ (n : ℕ) where
       by-test true = refl
       by-test false = refl
 
-  -- a search for a pair finds the same place
   pair-place : (rules : List Rule) (i j : ℕ) → first (isPair i j) (map (revokedRule n) rules) ≡ first (isPair i j) rules
-  unfolding isPair
-  pair-place rules i j =
-      first-map (isPair i j) (revokedRule n) rules
-      ∙ first-same (λ (r : Rule). isPair i j (revokedRule n r)) (isPair i j) rules (λ r. rw (same-subject r, same-object r))
+  pair-place rules i j = same-place (revokedRule n) same-subject same-object rules i j
 
   -- the rule found there has the subject
   pair-subject : (rules : List Rule) (i j k : ℕ) → first (isPair i j) rules ≡ At k → (k < length rules) × (getD rules k none .subject ≡ i)

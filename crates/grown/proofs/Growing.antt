@@ -18,13 +18,13 @@ use Rattle.refusals.specs.Refusals.{tooLong, badLabelAt}
 use Rattle.alphabet.specs.Alphabet.{wellFormed, fields, badByte}
 use Rattle.numbers.specs.Categories.{isMappingLevel, noCategories, knownSet, InWords}
 use Rattle.numbers.specs.declared.CategorySet.{CategorySet}
-use Rattle.modes.specs.Modes.{knownModes}
 use Rattle.store.specs.declared.Rule.{Rule}
 use Rattle.store.specs.declared.Mapping.{Mapping}
 use Rattle.store.proofs.Pairs.{enter-front, enter-length, enter-number, enter-once, enter-all}
 use Rattle.store.specs.Table.{Table, labelIn, enter, names, mappingIn, isPair, soundRule, soundMapping, noPlace, numberIn}
 use Rattle.store.proofs.Laws.{sound-more}
 use Rattle.rules.proofs.Laws.{place-count}
+use Rattle.revoke.proofs.Laws.{revoked-sound}
 use Rattle.lines.specs.Lines.{ruleOf, changeOf}
 use Rattle.lines.proofs.Laws.{rule-sound, change-sound}
 use Rattle.revoke.specs.Revoke.{hasSubject, revokedRule, withoutModes, revokeWrite}
@@ -63,14 +63,6 @@ module _ (n : ℕ) where
   unfolding isPair
   revoked-pair r q = rw (same-subject r, same-object r, same-subject q, same-object q)
 
-  revoked-sound : (k : ℕ) (r : Rule) → soundRule k r ≡ true → soundRule k (revokedRule n r) ≡ true
-  unfolding soundRule knownModes
-  revoked-sound k r e = by-test (hasSubject n r)
-    where
-      by-test : (b : Bool) → soundRule k (cond b (record { subject = r .subject; object = r .object; modes = 0 }) r) ≡ true
-      by-test true = rw (and-both (ltb (r .subject) k && ltb (r .object) k) (knownModes (r .modes)) e .0)
-      by-test false = e
-
   cleared-sane : (t : Table) → Sane t → Sane (withoutModes t (At n))
   cleared-sane t h =
       let a = sound-parts t (length (t .labels)) (h .sound) in
@@ -81,7 +73,7 @@ module _ (n : ℕ) where
         pair-once = distinct-map samePair (record { subject = 0; object = 0; modes = 0 }) (revokedRule n) revoked-pair (t .rules) (h .pair-once);
         sound =
             sound-whole (withoutModes t (At n)) (length (t .labels))
-            (all-map (soundRule (length (t .labels))) (soundRule (length (t .labels))) (revokedRule n) (revoked-sound (length (t .labels))) (t .rules) (a .0))
+            (all-map (soundRule (length (t .labels))) (soundRule (length (t .labels))) (revokedRule n) (revoked-sound (length (t .labels)) n) (t .rules) (a .0))
             (a .1)
             (a .2);
         mapping-once = h .mapping-once;

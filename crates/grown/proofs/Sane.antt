@@ -26,7 +26,7 @@ use Rattle.rules.specs.declared.Place.the-variants as p
 use Rattle.rules.specs.Rules.{pairLabels}
 use Rattle.rules.specs.Within.{subjectNumber, objectNumber, labelsAfter, ruleOfPair, placing, withPairAt, modesOfRule}
 use Rattle.rules.proofs.Pairs as pairs
-use Rattle.rules.proofs.Laws.{Room, placed, place-count}
+use Rattle.rules.proofs.Laws.{Room, placed, place-count, sound-rule}
 use Rattle.lines.specs.Lines.{Said, skipped, refused, rule, change}
 use Rattle.lines.proofs.Laws.{Taken, Sound}
 use Rattle.writes.specs.Writes.{changed, judged}
@@ -86,10 +86,6 @@ pub sound-whole :
     soundTable n t ≡ true
 unfolding soundTable
 sound-whole t n a b c = rw (a, b, c)
-
-sound-rule : (n : ℕ) (r : Rule) → r .subject < n → r .object < n → knownModes (r .modes) ≡ true → soundRule n r ≡ true
-unfolding soundRule
-sound-rule n r a b c = rw (lt-ltb _ _ a, lt-ltb _ _ b, c)
 
 module _ (t : Table) (s o : List ℕ) where
   -- the numbers that the two labels have or get, and the place of their rule

@@ -15,7 +15,7 @@ use Rattle.alphabet.proofs.Laws.{FieldFrom, in-a-row}
 use Rattle.modes.specs.Modes.{allowedByte, modesOf, readModes, lineLetters, changeLetters, knownModes, storedModes, hasBringUp}
 use Rattle.modes.specs.declared.Access.{Access}
 use Rattle.modes.specs.declared.Access.the-variants.{Modes, Bad}
-use Rattle.modes.proofs.Laws.{modes-known, stored-known}
+use Rattle.modes.proofs.Laws.{read-known, stored-known}
 use Rattle.lines.specs.Lines.{Said, skipped, refused, rule, change, ruleWith, ruleBy, ruleFields, ruleOf, bringUpAmong, bringUpIn, changeWith, changeBy, changeFields, changeOf}
 use Rattle.lines.specs.Within.{at, span, pair, ruleSaid, changeSaid, SpanInside, RuleInside, RuleHeld, ChangeInside, labelsAt, apartAt, Kind, firstAt, secondAt, lineAt, ruleAtAccess, ruleAtFourth, ruleAtThird, ruleKind, ruleLineAt, changeAtAccess, changeAtFifth, changeAtFourth, changeAtThird, changeKind, changeLineAt}
 use Rattle.lines.specs.declared.Pair.{Pair}
@@ -69,6 +69,10 @@ line-right k Right refuses line said none one more = by-test (ltb lineLimit (len
 abbrev pub RightRule : List ℕ → RuleLine → Said → Type 0
 RightRule line x said = (ruleSaid line x ≡ said) × RuleInside line x
 
+-- an answer tells whether its line held b, whatever is said
+abbrev Holding : Bool → RuleLine → Said → Type 0
+Holding b x said = RuleHeld x b
+
 module _ (line : List ℕ) where
   rule-refuses : (r : Refusal) → RightRule line (ruled.Refused r) (refused r)
   rule-refuses r = (refl, tt)
@@ -99,26 +103,12 @@ module _ (line : List ℕ) where
   rule-right = line-right ruleKind (RightRule line) rule-refuses line (ruleFields (badByteIn line)) (refl, tt) (λ s. rule-refuses wrongFields) rule-two-labels
 
   -- and a rule's line held b where the definition says so
-  apart-held : (p : Pair) (x : RuleLine) (b : Bool) → RuleHeld x b → RuleHeld (apartAt ruled.Refused line p x) b
-  apart-held p x b h = by-test (sameBytes (at line (p .subject)) (at line (p .object)))
-    where
-      by-test : (t : Bool) → RuleHeld (cond t (ruled.Refused sameLabels) x) b
-      by-test true = tt
-      by-test false = h
-
-  labels-held : (p : Pair) (x : RuleLine) (b : Bool) → RuleHeld x b → RuleHeld (labelsAt ruled.Refused line p x) b
-  labels-held p x b h = by-test (wellFormed (at line (p .subject)) && wellFormed (at line (p .object)))
-    where
-      by-test : (t : Bool) → RuleHeld (cond t x (ruled.Refused (badLabelAt (badByteIn line)))) b
-      by-test true = h
-      by-test false = tt
-
   access-held : (p : Pair) (a : List ℕ) → RuleHeld (ruleAtAccess line p (readModes lineLetters true a)) (hasBringUp (modesOf a))
   unfolding readModes
   access-held p a = by-test (all (allowedByte lineLetters true) a)
     where
       by-test : (t : Bool) → RuleHeld (ruleAtAccess line p (cond t (Modes (modesOf a)) Bad)) (hasBringUp (modesOf a))
-      by-test true = apart-held p (ruled.Rule p (storedModes (modesOf a)) (hasBringUp (modesOf a))) (hasBringUp (modesOf a)) refl
+      by-test true = apart-right ruled.Refused (Holding (hasBringUp (modesOf a))) (λ r. tt) line p (ruled.Rule p (storedModes (modesOf a)) (hasBringUp (modesOf a))) skipped refl
       by-test false = tt
 
   pub rule-held : RuleHeld (ruleLineAt line) (bringUpIn line)
@@ -132,7 +122,7 @@ module _ (line : List ℕ) where
           (λ a b s. in-a-row RuleHeld line b (secondAt ruleKind line a b) (λ l. bringUpAmong (part line a b ∷ l)) tt
           (λ c d o. in-a-row RuleHeld line d (ruleAtThird line (pair a b c d)) (λ l. bringUpAmong (part line a b ∷ part line c d ∷ l)) tt
           (λ e f x. in-a-row RuleHeld line f (ruleAtFourth line (pair a b c d) (span e f)) (λ l. bringUpAmong (part line a b ∷ part line c d ∷ part line e f ∷ l))
-          (labels-held (pair a b c d) (ruleAtAccess line (pair a b c d) (readModes lineLetters true (part line e f))) (hasBringUp (modesOf (part line e f))) (access-held (pair a b c d) (part line e f)))
+          (labels-right ruled.Refused (Holding (hasBringUp (modesOf (part line e f)))) (λ r. tt) line (pair a b c d) (ruleAtAccess line (pair a b c d) (readModes lineLetters true (part line e f))) skipped (access-held (pair a b c d) (part line e f)))
           (λ g h y. tt))))
 
   -- the answer meets its contract
@@ -166,8 +156,8 @@ module _ (line : List ℕ) where
       (λ e f x. in-a-row (RightChange line) line f (changeAtFourth line p (span e f)) (λ l. changeFields (badByteIn line) (part line a b ∷ part line c d ∷ part line e f ∷ l)) (change-refuses wrongFields)
       (λ g h y. in-a-row (RightChange line) line h (changeAtFifth line p (span e f) (span g h)) (λ l. changeFields (badByteIn line) (part line a b ∷ part line c d ∷ part line e f ∷ part line g h ∷ l))
       (labels-right changed.Refused (RightChange line) change-refuses line p _ _
-      (by-access (readModes changeLetters true (part line e f)) (modes-known changeLetters true change-known (part line e f))
-      (readModes changeLetters true (part line g h)) (modes-known changeLetters true change-known (part line g h))))
+      (by-access (readModes changeLetters true (part line e f)) (read-known changeLetters true change-known (part line e f))
+      (readModes changeLetters true (part line g h)) (read-known changeLetters true change-known (part line g h))))
       (λ i j z. change-refuses wrongFields)))
     where
       p : Pair
@@ -258,7 +248,7 @@ change-fields-sound place (s ∷ o ∷ []) = tt
 change-fields-sound place (s ∷ o ∷ a ∷ []) = tt
 change-fields-sound place (s ∷ o ∷ a ∷ d ∷ []) =
     formed-or s o (changeWith s o (readModes changeLetters true a) (readModes changeLetters true d)) (badLabelAt place)
-    (by-access (readModes changeLetters true a) (modes-known changeLetters true change-known a) (readModes changeLetters true d) (modes-known changeLetters true change-known d))
+    (by-access (readModes changeLetters true a) (read-known changeLetters true change-known a) (readModes changeLetters true d) (read-known changeLetters true change-known d))
   where
     by-access :
         (x : Access) →

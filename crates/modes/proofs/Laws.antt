@@ -380,9 +380,9 @@ module _ (allowed : ℕ) (dashes : Bool) (few : knownModes allowed ≡ true) whe
       let g = and-both (allowedByte allowed dashes b) (all (allowedByte allowed dashes) bs) e in
       joined-known bs (joined m b) (g .1) (known-or m (bitOf b) h (byte-known b (g .0)))
 
-  pub modes-known : (field : List ℕ) (m : ℕ) → readModes allowed dashes field ≡ Modes m → knownModes m ≡ true
+  pub read-known : (field : List ℕ) (m : ℕ) → readModes allowed dashes field ≡ Modes m → knownModes m ≡ true
   unfolding readModes modesOf knownModes
-  modes-known field m e = by-test (all (allowedByte allowed dashes) field) refl e
+  read-known field m e = by-test (all (allowedByte allowed dashes) field) refl e
     where
       by-test : (t : Bool) → all (allowedByte allowed dashes) field ≡ t → cond t (Modes (foldl joined 0 field)) Bad ≡ Modes m → knownModes m ≡ true
       by-test true h q =
