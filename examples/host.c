@@ -1,6 +1,6 @@
 /* A host of the library in C: it loads an old rule file in pieces, asks, changes, revokes, maps and lists, says where a bad label goes wrong and how many
- * lines still have the retired letter b, turns a file of old records into rules and back, and labels packets that another side reads.
- * (examples/packet.c sends one.)
+ * lines still have the retired letter b, turns a file of old records into rules and back, labels packets that another side reads, and labels the files that
+ * the recorder and the alarm make in one folder. (examples/packet.c sends a packet.)
  *
  *   gcc -O2 -Iinclude examples/host.c target/staticlib/libhost.a -o host && ./host examples/store_north.rules examples/old_logger.records
  *
@@ -69,7 +69,7 @@ static bool done(const char *call, bq_written w)
     return !w.refused;
 }
 
-/* What a line of rule text, or one of the calls of old records and of the packet option, is refused for, in words. */
+/* What a line of rule text, or one of the calls of old records, of the packet option and of new objects, is refused for, in words. */
 static const char *in_words(uint8_t number)
 {
     switch (number) {
@@ -426,6 +426,49 @@ static bool packets(void)
     return true;
 }
 
+/* A file or a folder that a creator wants to make in a folder. A host that makes files gives it the label that is named here, and, where it says so, the mark
+ * that a transmuting folder has. */
+static void create(const char *creator, const char *folder, bool transmutes, bool is_folder)
+{
+    bq_labelled object = bq_new_object(TABLES, TEXT(creator), TEXT(folder), transmutes, is_folder);
+    printf("%s makes a %s in %s%s: ", creator, is_folder ? "folder" : "file", folder, transmutes ? " (transmutes)" : "");
+    switch (object.kind) {
+    case BQ_CREATOR_LABEL:
+        printf("label %s\n", creator);
+        break;
+    case BQ_FOLDER_LABEL:
+        printf("label %s%s\n", folder, object.transmutes ? " (transmutes)" : "");
+        break;
+    case BQ_CREATION_DENIED:
+        printf("denied\n");
+        break;
+    default:
+        printf("refused %d: %s\n", object.number, in_words(object.number));
+    }
+}
+
+/* The recorder and the alarm make record files in one folder, Records, which transmutes. A file of the alarm's is one that the recorder can read only
+ * where it gets the folder's label; and that wants t in the alarm's rule. */
+static bool shared_folder(void)
+{
+    if (!done("fresh table", bq_fresh_table(TABLES)))
+        return false;
+    done("change 'Recorder Records rwxt -'", bq_change(TABLES, TEXT("Recorder Records rwxt -")));
+    done("change 'Alarm Records rwx -'", bq_change(TABLES, TEXT("Alarm Records rwx -")));
+    create("Recorder", "Records", true, false);
+    create("Alarm", "Records", true, false); /* no t: the file has the alarm's own label, */
+    ask("Recorder", "Alarm", "r", false);    /* and the recorder can't read it */
+    done("change 'Alarm Records t -'", bq_change(TABLES, TEXT("Alarm Records t -")));
+    create("Alarm", "Records", true, false);
+    ask("Recorder", "Records", "r", false);
+    create("Alarm", "Records", true, true);    /* a folder in it transmutes too, */
+    create("Alarm", "Records", false, true);   /* but not in a folder that does not */
+    create("Records", "Records", true, true);  /* one label: rule 5 grants, and no rule with t */
+    create("Desk", "Records", true, false);    /* may not write there; override is not considered */
+    create("Alarm/2", "Records", true, false); /* BQ_BAD_LABEL: no place is told here */
+    return true;
+}
+
 int main(int argc, char **argv)
 {
     if (argc != 3) {
@@ -486,5 +529,5 @@ int main(int argc, char **argv)
     show_record("Alarm Archive ra");
     show_record("Alarm Archive rab"); /* the same record */
     show_record("ClimateProbe_StoreNorth_01_Temp Air_StoreNorth_01 w"); /* BQ_NOT_IN_A_RECORD */
-    return packets() ? 0 : 1;
+    return packets() && shared_folder() ? 0 : 1;
 }

@@ -1,5 +1,6 @@
 //! A host of the library in Rust: it loads an old rule file in pieces, asks, changes, revokes, maps and lists, says where a bad label goes wrong and how
-//! many lines still have the retired letter b, turns a file of old records into rules and back, and labels packets that another side reads.
+//! many lines still have the retired letter b, turns a file of old records into rules and back, labels packets that another side reads, and labels the files
+//! that the recorder and the alarm make in one folder.
 //!
 //!   rustc -O --edition 2021 -L target/staticlib examples/host.rs -o host && ./host examples/store_north.rules examples/old_logger.records
 //!
@@ -166,6 +167,13 @@ mod balqirven {
     }
 
     #[repr(C)]
+    struct Labelled {
+        kind: u8,
+        number: u8,
+        transmutes: bool,
+    }
+
+    #[repr(C)]
     struct Part {
         refused: bool,
         number: u8,
@@ -189,6 +197,9 @@ mod balqirven {
     const GRANTED: u8 = 0;
     const DENIED: u8 = 1;
     const OVERRIDE: u8 = 2;
+    const CREATOR_LABEL: u8 = 0;
+    const CREATION_DENIED: u8 = 1;
+    const FOLDER_LABEL: u8 = 2;
 
     type Bytes = *const u8;
 
@@ -207,6 +218,7 @@ mod balqirven {
         fn bq_by_level(l: Bytes, ln: usize, e: Bytes, en: usize, w: *const u64, wn: usize, level: u64, set: Set) -> Lowest;
         fn bq_lowest_in_run(records: *const Record, n: usize, level: u64, set: Set) -> Lowest;
         fn bq_question(l: Bytes, ln: usize, e: Bytes, en: usize, w: *const u64, wn: usize, subject: Bytes, subject_n: usize, object: Bytes, object_n: usize, request: Bytes, request_n: usize, capable: bool) -> Decision;
+        fn bq_new_object(l: Bytes, ln: usize, e: Bytes, en: usize, w: *const u64, wn: usize, creator: Bytes, creator_n: usize, folder: Bytes, folder_n: usize, transmutes: bool, is_folder: bool) -> Labelled;
         fn bq_list_rule(l: Bytes, ln: usize, e: Bytes, en: usize, w: *const u64, wn: usize, k: usize, out: *mut u8, out_n: usize) -> Length;
         fn bq_label(l: Bytes, ln: usize, e: Bytes, en: usize, w: *const u64, wn: usize, k: usize) -> Part;
         fn bq_record_to_line(record: Bytes, record_n: usize, out: *mut u8, out_n: usize) -> Length;
@@ -216,7 +228,8 @@ mod balqirven {
     }
 
     /// A refusal: its number; and beside BAD_LABEL the place of the first bad byte, from 0, in the line, the write or the lent label. Beside any
-    /// other number, and from the calls of old records and of the packet option, the place is 0 and says nothing. include/balqirven.h tells it all.
+    /// other number, and from the calls of old records, of the packet option and of new objects, the place is 0 and says nothing. include/balqirven.h tells
+    /// it all.
     #[derive(Clone, Copy, Debug, PartialEq, Eq)]
     pub struct Refused {
         pub number: u8,
@@ -260,6 +273,14 @@ mod balqirven {
         Denied { rule: u8 },
         Override { rule: u8 },
         Refused(Refused),
+    }
+
+    /// The label of a new object: the creator's; the folder's, and whether the new object transmutes; or denied, since the creator may not write to the folder.
+    #[derive(Clone, Copy, Debug, PartialEq, Eq)]
+    pub enum NewObject {
+        CreatorLabel,
+        FolderLabel { transmutes: bool },
+        Denied,
     }
 
     /// The mapping of a label.
@@ -364,6 +385,17 @@ mod balqirven {
             }
         }
 
+        /// The label of a new object that `creator` makes in a folder with the label `folder`, which transmutes or not.
+        pub fn new_object(&self, creator: &[u8], folder: &[u8], transmutes: bool, is_folder: bool) -> Result<NewObject, Refused> {
+            let object = call!(bq_new_object, read self, creator.as_ptr(), creator.len(), folder.as_ptr(), folder.len(), transmutes, is_folder);
+            match object.kind {
+                CREATOR_LABEL => Ok(NewObject::CreatorLabel),
+                FOLDER_LABEL => Ok(NewObject::FolderLabel { transmutes: object.transmutes }),
+                CREATION_DENIED => Ok(NewObject::Denied),
+                _ => Err(plain(object.number)),
+            }
+        }
+
         /// Rule k as a line, at the front of `out`; LONGEST_RULE bytes are enough for any.
         pub fn list_rule<'a>(&self, k: usize, out: &'a mut [u8]) -> Result<&'a [u8], Refused> {
             front(call!(bq_list_rule, read self, k, out.as_mut_ptr(), out.len()), out)
@@ -427,7 +459,7 @@ mod balqirven {
     }
 }
 
-use balqirven::{line_to_record, lowest_in_run, record_to_line, Answer, Load, Record, Refused, Set, Tables};
+use balqirven::{line_to_record, lowest_in_run, record_to_line, Answer, Load, NewObject, Record, Refused, Set, Tables};
 use balqirven::{FIXED_PLACE, FIXED_RECORD, HIGHEST_CATEGORY, LONGEST_FIXED_LINE, LONGEST_OPTION, LONGEST_RULE, OWN_LEVEL};
 use std::fs::File;
 use std::io::Read;
@@ -588,7 +620,7 @@ fn list(t: &Tables) {
     }
 }
 
-/// What a line of rule text, or one of the calls of old records and of the packet option, is refused for, in words.
+/// What a line of rule text, or one of the calls of old records, of the packet option and of new objects, is refused for, in words.
 fn in_words(number: u8) -> &'static str {
     match number {
         Refused::DAMAGED => "the lent state is damaged",
@@ -734,6 +766,39 @@ fn packets() -> Option<()> {
     Some(())
 }
 
+/// A file or a folder that a creator wants to make in a folder. A host that makes files gives it the label that is named here, and, where it says so, the
+/// mark that a transmuting folder has.
+fn create(t: &Tables, creator: &str, folder: &str, transmutes: bool, is_folder: bool) {
+    let mark = |transmutes| if transmutes { " (transmutes)" } else { "" };
+    let answer = match t.new_object(creator.as_bytes(), folder.as_bytes(), transmutes, is_folder) {
+        Ok(NewObject::CreatorLabel) => format!("label {creator}"),
+        Ok(NewObject::FolderLabel { transmutes }) => format!("label {folder}{}", mark(transmutes)),
+        Ok(NewObject::Denied) => "denied".to_string(),
+        Err(Refused { number, .. }) => format!("refused {number}: {}", in_words(number)),
+    };
+    println!("{creator} makes a {} in {folder}{}: {answer}", if is_folder { "folder" } else { "file" }, mark(transmutes));
+}
+
+/// The recorder and the alarm make record files in one folder, Records, which transmutes. A file of the alarm's is one that the recorder can read only where
+/// it gets the folder's label; and that wants t in the alarm's rule. None where there was no table.
+fn shared_folder() -> Option<()> {
+    let t = &mut *fresh()?;
+    done("change 'Recorder Records rwxt -'", t.change(b"Recorder Records rwxt -"));
+    done("change 'Alarm Records rwx -'", t.change(b"Alarm Records rwx -"));
+    create(t, "Recorder", "Records", true, false);
+    create(t, "Alarm", "Records", true, false); // no t: the file has the alarm's own label,
+    ask(t, "Recorder", "Alarm", "r", false); // and the recorder can't read it
+    done("change 'Alarm Records t -'", t.change(b"Alarm Records t -"));
+    create(t, "Alarm", "Records", true, false);
+    ask(t, "Recorder", "Records", "r", false);
+    create(t, "Alarm", "Records", true, true); // a folder in it transmutes too,
+    create(t, "Alarm", "Records", false, true); // but not in a folder that does not
+    create(t, "Records", "Records", true, true); // one label: rule 5 grants, and no rule with t
+    create(t, "Desk", "Records", true, false); // may not write there; override is not considered
+    create(t, "Alarm/2", "Records", true, false); // BAD_LABEL: no place is told here
+    Some(())
+}
+
 /// Leaves with a failing status where a file could not be read or what was to be done with it was not.
 fn or_exit(path: &str, answer: std::io::Result<Option<()>>) {
     match answer {
@@ -809,7 +874,7 @@ fn main() {
     show_record("Alarm Archive ra");
     show_record("Alarm Archive rab"); // the same record
     show_record("ClimateProbe_StoreNorth_01_Temp Air_StoreNorth_01 w"); // NOT_IN_A_RECORD
-    if packets().is_none() {
+    if packets().and_then(|()| shared_folder()).is_none() {
         std::process::exit(1);
     }
 }

@@ -21,8 +21,8 @@
  * label itself is lent, from the label's first byte; in a question it is in the subject or, where that is well formed, in the object, and which of the
  * two it is the answer does not say. At the place stands a byte that no label may have; or a dash that the label begins with; or, in a label that is
  * too long and has no earlier fault, its byte 255, the first too many. An empty label has place 0. So beside 3 the place 0 is the first byte, or
- * where it would be; beside every other number, and where nothing is refused, `place` is 0 and says nothing. bq_length and bq_peer have no place: the
- * two calls of old records and the two of the packet option tell none.
+ * where it would be; beside every other number, and where nothing is refused, `place` is 0 and says nothing. bq_length, bq_peer and bq_labelled have no
+ * place: the two calls of old records, the two of the packet option and the label of a new object tell none.
  *
  *    0  BQ_DAMAGED                the lent state has a part not of its full size, a count or length over its limit, a number that names
  *                                 no stored label, or an unknown mode or category bit. It comes before every other number. The mode bit
@@ -71,7 +71,7 @@ extern "C" {
  * looked at and compiled again. (Since version 4 a mapping write at level 250 gets 9. Since version 5 the bring-up letter b is retired: a line may still
  * have it and the report counts such lines, but no rule, listing or answer has it.) */
 #define BQ_VERSION_MAJOR 5
-#define BQ_VERSION_MINOR 0
+#define BQ_VERSION_MINOR 1
 
 /* The sizes of the lent parts, in elements: bytes, bytes, 64-bit words, bytes. (Version 2 had 36 words: such a state gets 0 now.) */
 #define BQ_LABELS 16384
@@ -233,6 +233,16 @@ typedef struct {
     size_t place;
 } bq_decision;
 
+/* Which label a new object gets: the creator's; or the folder's, and then whether the new object transmutes; or none, since the creator may not write to
+ * the folder; refused, with its number. Denied and refused are the same kinds as in a question's answer, 1 and 3; but beside denied no rule is named, and
+ * `number` is 0. `transmutes` is false beside every kind but the folder's label. */
+enum { BQ_CREATOR_LABEL = 0, BQ_CREATION_DENIED = 1, BQ_FOLDER_LABEL = 2, BQ_CREATION_REFUSED = 3 };
+typedef struct {
+    uint8_t kind;
+    uint8_t number;
+    bool transmutes;
+} bq_labelled;
+
 /* Where a label stands in the lent label store: `length` bytes from labels + start on. */
 typedef struct {
     bool refused;
@@ -324,6 +334,19 @@ bq_lowest bq_lowest_of(const uint64_t *run_labels, size_t run_labels_len, const 
 bq_decision bq_question(const uint8_t *labels, size_t labels_len, const uint8_t *entries, size_t entries_len, const uint64_t *words,
                         size_t words_len, const uint8_t *subject, size_t subject_len, const uint8_t *object, size_t object_len,
                         const uint8_t *request, size_t request_len, bool capable);
+
+/* ---- the label of a new object */
+
+/* Which label does a new object get that `creator` makes in a folder with the label `folder`? `transmutes`: the folder transmutes (SMACK64TRANSMUTE);
+ * `is_folder`: the new object is a folder itself. Denied exactly where a question of the creator for w alone to the folder, without the capability, is
+ * denied: the override list and the capability are not considered. The folder's label exactly where the folder transmutes and rule 6 grants that w by a rule
+ * that has t; then the new object transmutes where it is a folder. Otherwise the creator's label, and the new object does not transmute: so where creator
+ * and folder have one label (rule 5), and in a folder `*` (rule 4), whatever rules there are. The answer names one of the two lent labels, and the host
+ * has its bytes. Nothing changes, and neither label enters the table; which attributes a file gets is the host's affair.
+ * Refusals: 0 3. */
+bq_labelled bq_new_object(const uint8_t *labels, size_t labels_len, const uint8_t *entries, size_t entries_len, const uint64_t *words,
+                          size_t words_len, const uint8_t *creator, size_t creator_len, const uint8_t *folder, size_t folder_len,
+                          bool transmutes, bool is_folder);
 
 /* ---- listing */
 

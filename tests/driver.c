@@ -9,6 +9,7 @@
  * Beyond FORMAT.md the driver tests what a second implementation cannot show. Each of these words in an answer is a fault of the library:
  *   astray    a label's part does not lie where label k's place in the lent store is
  *   stray     a field of an answer is not 0 where the header says that it is
+ *   kind K    the kind of an answer is K, which is none that the header names
  *   place P   the same of the place: it is P beside an answer that is no refusal with 3
  *   long N    the label that is read of an option has N bytes, over the 255 that there is room for
  *   touched   a call wrote into text, labels or records that it was lent to read
@@ -297,6 +298,7 @@ static void read_only(text *t) {
 /* ---- answers */
 
 _Static_assert(sizeof(bq_peer) == 272, "an option's reader answers 272 bytes");
+_Static_assert(sizeof(bq_labelled) == 3, "the label of a new object is answered in 3 bytes");
 _Static_assert(sizeof(bq_report) == 40 && sizeof(bq_loader) == 48, "a report has 40 bytes, a loader 48");
 _Static_assert(BQ_LONGEST_RULE == 518, "the longest rule has 518 bytes: two labels, two spaces, five letters and a newline");
 
@@ -396,6 +398,19 @@ static void put_decision(bq_decision d) {
     }
     put_word_number(kinds[d.kind], d.number);
     put_place(d.kind == BQ_REFUSED, d.number, d.place);
+}
+
+/* Which label a new object gets. The number belongs to a refusal alone, and whether the object transmutes to the folder's label. */
+static void put_labelled(bq_labelled n) {
+    static const char *const kinds[] = {"creator", "denied", "folder", "refused"};
+    if (n.kind > BQ_CREATION_REFUSED) {
+        put_word_number("kind", n.kind);
+        return;
+    }
+    put(kinds[n.kind]);
+    if (n.kind == BQ_FOLDER_LABEL) put_word_number("", n.transmutes);
+    if (n.kind == BQ_CREATION_REFUSED) put_word_number("", n.number);
+    if ((n.kind != BQ_CREATION_REFUSED && n.number != 0) || (n.kind != BQ_FOLDER_LABEL && n.transmutes)) put(" stray");
 }
 
 /* The label that an option says. The bytes behind it are 0; on a refusal they all are, and the length. */
@@ -711,6 +726,18 @@ static bool call(const char *at, const char *end) {
                                                     : bq_line_to_record(t.bytes, t.length, out.bytes, out.length);
         put_length(turned, &out);
         read_only(&t);
+        return true;
+    }
+    if (given == 4 && is(name, "newobject")) {
+        if ((!is(c, "0") && !is(c, "1")) || (!is(d, "0") && !is(d, "1"))) return false;
+        if (!read_hex(a, &t)) return false;
+        if (!read_hex(b, &object)) {
+            give_back(&t);
+            return false;
+        }
+        put_labelled(bq_new_object(TABLES, t.bytes, t.length, object.bytes, object.length, is(c, "1"), is(d, "1")));
+        read_only(&t);
+        read_only(&object);
         return true;
     }
     if (given == 4 && is(name, "question")) {

@@ -5,7 +5,7 @@ the second implementation the outputs that go with them (NAME.out, NAME.answers)
   tests/make_corpus.py
 
 The order is that of 01, the scope paper; then come the old fixed records of 02, request One, how labels and pairs are found, request Two, the places of bad bytes, request Three, the
-categories up to 184, request Four, the packet option, request Five, and the letter b, which is retired, request Six. What the paper says of a call stands before the call as a comment line that tests/corpus_check holds the answers to:
+categories up to 184, request Four, the packet option, request Five, the letter b, which is retired, request Six, and the label of a new object, request Seven. What the paper says of a call stands before the call as a comment line that tests/corpus_check holds the answers to:
 
   # expect: ANSWER              the next call answers exactly this
   # expect: same NAME           the next call answers what the first call so marked in this script answered
@@ -14,7 +14,7 @@ categories up to 184, request Four, the packet option, request Five, and the let
 
 These lines are written here from the papers, not taken from a program. Where a call is expected to be refused with 3, the place beside it is worked out from its bytes by the short functions
 below, which say what 02, Three, says; the scripts places_* give most places by hand. The packet options that a loop makes, and what is read of them, are worked out by short functions at the head of
-that group, which say 02, Five, category by category; others stand as numbers. Where a single line is accepted, whether the report counts it as one that held b is told by its access field. What the program says to a small input is given here too, and tested as the corpus
+that group, which say 02, Five, category by category; others stand as numbers. The label of a new object is worked out, where a loop asks for it, by a short function at the head of that group, which was written from 02, Seven; otherwise it stands as words. Where a single line is accepted, whether the report counts it as one that held b is told by its access field. What the program says to a small input is given here too, and tested as the corpus
 is written. The scripts kernel_*.calls are made of recordings of a running kernel, from the folder named by KERNEL_VECTORS; without it those that are stored
 stay as they are.
 """
@@ -188,6 +188,10 @@ class Script:
     def read_option(self, option, expect):
         """`expect` is the label that is answered, or the number of a refusal, which has no place beside it."""
         self.call("readoption " + h(option), "peer " + h(expect) if isinstance(expect, bytes) else "refused %d" % expect)
+
+    def newobject(self, creator, folder, transmutes, is_folder, expect):
+        """`expect` is `creator`, `folder 0`, `folder 1` or `denied`, or the number of a refusal, which has no place beside it."""
+        self.call("newobject %s %s %d %d" % (w(creator), w(folder), transmutes, is_folder), "refused %d" % expect if isinstance(expect, int) else expect)
 
     def label(self, k, expect):
         self.call("label %d" % k, "done " + h(expect) if isinstance(expect, bytes) else "refused %d -" % expect)
@@ -803,7 +807,8 @@ def refusals():
 TABLE_CALLS = ["piece " + h(b"A B w\n"), "piece -", "end", "change " + h(b"A B w -"), "change " + h(b"A B" + b" " * 600), "revoke " + h(b"A"), "revoke -", "override " + h(b"A"),
                "override -", "mapping " + h(b"A 9"), "mapping " + h(b"A"), "bylabel " + h(b"A"), "bylabel -", "bylevel 9 0:0:0", "bylevel 256 0:0:1",
                "question " + " ".join([h(b"A"), h(b"B"), h(b"r"), "0"]), "question - - - 1", "question " + " ".join([h(b"*"), h(b"*"), h(b"r"), "1"]),
-               "writeoption " + h(b"A") + " " + "ee" * 20, "writeoption - -", "readoption 860c00000003010600fa2080", "readoption -"]
+               "writeoption " + h(b"A") + " " + "ee" * 20, "writeoption - -", "readoption 860c00000003010600fa2080", "readoption -",
+               "newobject " + " ".join([h(b"B"), h(b"C"), "1", "0"]), "newobject - - 0 0", "newobject " + " ".join([h(b"*"), h(b"*"), "1", "1"])]
 
 
 def under_damage(call):
@@ -7549,7 +7554,7 @@ def bringup_damage():
     s.dump("full", True)
     s.say("Every place behind the count has the bit, or every bit: each call answers as it does without, here in tables of 64 labels, 32 mappings and a list of eight.")
     sound = ["done", "done", "report 1 0 0 1 1 6 0 0", "refused 6", "refused 2", "revoked 0", "refused 3 0", "refused 6", "refused 2", "refused 6", "refused 2", "none", "refused 3 0", "none", "refused 9", "denied 7", "refused 3 0", "denied 1",
-             "length 12 860c00000003010600fa2080" + "ee" * 8, "refused 3 -", "peer 41", "refused 16", None, "refused 13 -", "done 4c3035", "refused 13 -"]
+             "length 12 860c00000003010600fa2080" + "ee" * 8, "refused 3 -", "peer 41", "refused 16", "denied", "refused 3", "denied", None, "refused 13 -", "done 4c3035", "refused 13 -"]
     for count in (0, 1, 2, 31, 32, 33, 64, 128, 254, 255):
         for bits in (b"\x01", b"\xff"):
             s.poke("words", 1, count)
@@ -7714,6 +7719,791 @@ def bringup():
     bringup_damage()
     bringup_old()
     bringup_programs()
+
+
+# ---------------------------------------------------------------------------------------------------------------------------------------------
+# The label of a new object: 02, request Seven
+# ---------------------------------------------------------------------------------------------------------------------------------------------
+
+ALL_MODES = [bytes(c for j, c in enumerate(b"rwxat") if k >> j & 1) for k in range(32)]
+FOUR = ((0, 0), (0, 1), (1, 0), (1, 1))  # whether the folder transmutes, and whether the new object is a folder
+
+
+def says_new(creator, folder, modes, transmutes, is_folder):
+    """Written from 02, Seven, and from rules 1 to 7 of 01 for the request w, of which rules 2 and 3 say nothing. `modes` are those of the pair's rule, of the first where it is stored twice;
+    None where it has none. Both labels are well formed."""
+    if creator == b"*":
+        return "denied"  # rule 1
+    if folder == b"*" or creator == folder:
+        return "creator"  # rule 4 or 5 granted it, not rule 6
+    if b"w" not in (modes or b""):
+        return "denied"  # rule 7
+    return "folder %d" % is_folder if transmutes and b"t" in modes else "creator"
+
+
+def says_write(creator, folder, modes):
+    """The same of the question for w: which of the seven rules decides."""
+    rule = 1 if creator == b"*" else 4 if folder == b"*" else 5 if creator == folder else 6 if b"w" in (modes or b"") else 7
+    return "%s %d" % ("denied" if rule in (1, 7) else "granted", rule)
+
+
+def made(s, creator, folder, modes=None, override=True):
+    """A file and a folder, in a folder that does not transmute and in one that does; then the question for w, without the capability and with it. `override`: the list is empty or holds the creator."""
+    for transmutes, is_folder in FOUR:
+        s.newobject(creator, folder, transmutes, is_folder, says_new(creator, folder, modes, transmutes, is_folder))
+    said_ = says_write(creator, folder, modes)
+    s.ask(creator, folder, b"w", said_)
+    s.ask(creator, folder, b"w", said_.replace("denied", "override") if override else said_, 1)
+
+
+def four(s, creator, folder, *answers):
+    """The same four, with what is answered given as words or numbers."""
+    for (transmutes, is_folder), answer in zip(FOUR, answers * 4 if len(answers) == 1 else answers, strict=True):
+        s.newobject(creator, folder, transmutes, is_folder, answer)
+
+
+TRANSMUTED = ("creator", "creator", "folder 0", "folder 1")
+
+
+def newobjects_sentences():
+    s = Script("newobjects_sentences", "02, Seven: each sentence by itself.")
+    s.say("The recorder and the alarm both make files in one folder. By a rule with w and t each file gets the folder's label, by one with w alone its creator's.")
+    s.piece(b"Recorder Records rwxt\nAlarm Records wt\nDesk Records w\nDoor Records rx\nProbe3 Records t\nVault7 Records rxat\n")
+    s.end("report 6 6 0 0 0 0")
+    s.newobject(b"Recorder", b"Records", 1, 0, "folder 0")
+    s.newobject(b"Alarm", b"Records", 1, 0, "folder 0")
+    s.newobject(b"Desk", b"Records", 1, 0, "creator")
+    s.say("Given creator, folder label, whether the folder transmutes, and whether the new object is a folder: each of the four decides.")
+    s.newobject(b"Recorder", b"Records", 1, 1, "folder 1")
+    s.newobject(b"Recorder", b"Records", 0, 1, "creator")
+    s.newobject(b"Recorder", b"Records", 0, 0, "creator")
+    s.newobject(b"Door", b"Records", 1, 1, "denied")
+    s.newobject(b"Recorder", b"Alarm", 1, 1, "denied")
+    s.say("If the creator may not write to the folder by rules 1 to 7, say denied. Rule 1; then rule 7, with another rule, with none, and with the rule of the other direction.")
+    for creator, folder in ((b"*", b"Records"), (b"*", b"*"), (b"*", b"_"), (b"*", b"Unseen"), (b"Door", b"Records"), (b"Air", b"Records"), (b"Records", b"Recorder"), (b"Recorder", b"Air"), (b"Unseen", b"Records")):
+        four(s, creator, folder, "denied")
+        s.ask(creator, folder, b"w", "denied 1" if creator == b"*" else "denied 7")
+    s.say("Rules 2 and 3 are for r and x alone.")
+    four(s, b"^", b"Records", "denied")
+    four(s, b"Recorder", b"_", "denied")
+    four(s, b"^", b"_", "denied")
+    s.say("A rule with t and without w, a rule with a and without w: denied.")
+    four(s, b"Probe3", b"Records", "denied")
+    four(s, b"Vault7", b"Records", "denied")
+    s.say("Override isn't considered here: the list is empty, then holds the creator, then another label.")
+    s.ask(b"Door", b"Records", b"w", "override 7", 1)
+    four(s, b"Door", b"Records", "denied")
+    s.override(b"Door *")
+    s.ask(b"Door", b"Records", b"w", "override 7", 1)
+    four(s, b"Door", b"Records", "denied")
+    four(s, b"*", b"Records", "denied")
+    four(s, b"Recorder", b"Records", *TRANSMUTED)
+    s.override(b"Air")
+    four(s, b"Door", b"Records", "denied")
+    four(s, b"Recorder", b"Records", *TRANSMUTED)
+    four(s, b"Desk", b"Records", "creator")
+    s.override(b"-")
+    s.say("The folder's label is given when the folder transmutes and rule 6 granted the write by a rule with t; a new folder then transmutes too.")
+    four(s, b"Recorder", b"Records", "creator", "creator", "folder 0", "folder 1")
+    four(s, b"Alarm", b"Records", "creator", "creator", "folder 0", "folder 1")
+    s.say("Otherwise it's the creator's label, and it doesn't transmute: a rule without t; rule 5; rule 4, also beside a rule with t for that pair.")
+    four(s, b"Desk", b"Records", "creator")
+    four(s, b"Records", b"Records", "creator")
+    four(s, b"Unseen", b"Unseen", "creator")
+    four(s, b"Recorder", b"*", "creator")
+    s.line(b"Recorder * rwxat", None)
+    four(s, b"Recorder", b"*", "creator")
+    four(s, b"^", b"*", "creator")
+    four(s, b"_", b"_", "creator")
+    s.say("Refusals: 3, and no place beside it.")
+    four(s, b"", b"Records", 3)
+    four(s, b"Recorder", b"", 3)
+    four(s, b"Recorder/", b"Records", 3)
+    four(s, b"Recorder", b"-Records", 3)
+    four(s, b"*", b"Re cords", 3)
+    four(s, b"L" * 256, b"*", 3)
+    four(s, b"L" * 255, b"*", "creator")
+    s.store()
+
+
+def newobjects_modes():
+    s = Script("newobjects_modes", "02, Seven: each of the 32 sets of modes of a rule, loaded by a line, set by a change and put into the lent state; a file and a folder in folders that transmute and not.", True)
+    s.say("By a line: the letters in their order, in the other order and case, and with placeholders.")
+    for modes in ALL_MODES:
+        for access in (modes or b"-", modes[::-1].upper() + b"-", b"-".join(modes[k:k + 1] for k in range(len(modes))) + b"B"):
+            s.fresh()
+            s.line(b"Alarm Records " + access, None)
+            made(s, b"Alarm", b"Records", modes)
+        made(s, b"Records", b"Alarm")
+    s.say("By a change: of a pair with no rule; of one that has every letter, the others taken; of one that has the other letters.")
+    for modes in ALL_MODES:
+        others = bytes(c for c in b"rwxat" if c not in modes) or b"-"
+        for before, allow, deny in ((None, modes or b"-", b"-"), (b"rwxat", b"-", others), (others, modes or b"-", others), (None, b"RWXAT", others), (b"-", modes.upper() + b"-", b"-")):
+            s.fresh()
+            if before is not None:
+                s.line(b"Alarm Records " + before, None)
+            s.change(b"Alarm Records %s %s" % (allow, deny))
+            made(s, b"Alarm", b"Records", modes)
+    s.say("In the lent state: the modes byte of the rule, and another rule of each of the two labels with every letter.")
+    lend(s, FIVE + [b"Alarm", b"Records", b"Air"], [(5, 7, b"rwxat"), (5, 6, b""), (7, 6, b"rwxat"), (6, 5, b"rwxat")])
+    for modes in ALL_MODES:
+        s.poke("entries", 513, bytes([bits_of(modes)]))
+        made(s, b"Alarm", b"Records", modes)
+    s.say("From each set of modes to each other by a line: only the last counts.")
+    s.fresh()
+    for k, first in enumerate(ALL_MODES):
+        for then in (ALL_MODES[31 - k], ALL_MODES[k ^ 2], ALL_MODES[k ^ 16]):
+            s.piece(b"Alarm Records %s\nAlarm Records %s\n" % (first or b"-", then or b"-"))
+            made(s, b"Alarm", b"Records", then)
+    s.store()
+
+
+def newobjects_marks():
+    s = Script("newobjects_marks", "02, Seven: every pair of the five labels and two others, with a rule of each set of modes for that pair in the lent state, also of a label with itself. Rules 1, 4 and 5 decide before it.", True)
+    names = FIVE + [b"Alarm", b"Records"]
+    lend(s, names, [(5, 6, b"")])
+    for a, creator in enumerate(names):
+        for b, folder in enumerate(names):
+            s.say("%s in %s" % (creator.decode(), folder.decode()))
+            s.poke("entries", 0, bytes([a]))
+            s.poke("entries", 256, bytes([b]))
+            for modes in ALL_MODES:
+                s.poke("entries", 512, bytes([bits_of(modes)]))
+                for transmutes, is_folder in FOUR:
+                    s.newobject(creator, folder, transmutes, is_folder, says_new(creator, folder, modes, transmutes, is_folder))
+                if modes in (b"", b"w", b"t", b"wt", b"rxa"):
+                    s.ask(creator, folder, b"w", says_write(creator, folder, modes))
+    s.say("Without any rule.")
+    s.poke("words", 1, 0)
+    for creator in names:
+        for folder in names:
+            made(s, creator, folder)
+    s.store()
+
+    s = Script("newobjects_marks_loaded", "02, Seven: rules of the five labels that came by lines and changes, with each set of modes.", True)
+    asked = [(b"Alarm", b"*"), (b"Alarm", b"_"), (b"Alarm", b"^"), (b"Alarm", b"?"), (b"Alarm", b"@"), (b"*", b"Alarm"), (b"_", b"Alarm"), (b"^", b"Alarm"), (b"?", b"Alarm"), (b"@", b"Alarm"), (b"^", b"_"), (b"^", b"*"), (b"*", b"_"), (b"_", b"*"), (b"?", b"@"), (b"@", b"?"),
+             (b"_", b"^")]
+    for k, modes in enumerate(ALL_MODES):
+        s.say("modes " + (modes.decode() or "-"))
+        s.fresh()
+        for j, (creator, folder) in enumerate(asked):
+            if (j + k) % 2:
+                s.change(b"%s %s %s -" % (creator, folder, modes or b"-"))
+            else:
+                s.piece(b"%s %s %s\n" % (creator, folder, modes or b"-"))
+        for creator, folder in asked:
+            for transmutes, is_folder in FOUR:
+                s.newobject(creator, folder, transmutes, is_folder, says_new(creator, folder, modes, transmutes, is_folder))
+            if k % 4 == 2:
+                s.ask(creator, folder, b"w", says_write(creator, folder, modes))
+        for label in FIVE + [b"Alarm", b"Unseen"]:
+            s.newobject(label, label, 1, k % 2, "denied" if label == b"*" else "creator")
+    s.store()
+
+
+def newobjects_same():
+    s = Script("newobjects_same", "02, Seven: creator and folder with one label. Rule 5 granted the write, so it is the creator's label and nothing transmutes, also where the lent state has a rule of the label with itself.", True)
+    names = [b"Alarm", b"Records", b"?", b"@", b"_", b"^", b"L" * 23, b"L" * 24, b"L" * 255, b"a", b"**", b"__"]
+    unseen = [b"Unseen", b"U", b"U" * 255, b"!"]
+    labels = FIVE + [name for name in names if name not in FIVE]
+    for say, rules in (("no rules", []), ("rules of each label with itself, with every letter", [(k, k, b"rwxat") for k in range(len(labels))]), ("rules of each label with itself, with w and t", [(k, k, b"wt") for k in range(len(labels))]),
+                       ("with t alone", [(k, k, b"t") for k in range(len(labels))]), ("with no letter", [(k, k, b"") for k in range(len(labels))]),
+                       ("rules of each label with the next and the one before", [(k, (k + 1) % len(labels), b"wt") for k in range(len(labels))] + [((k + 1) % len(labels), k, b"wt") for k in range(len(labels))])):
+        for override in (b"", b"\x05", b"\x06\x07"):
+            s.say(say + "; %d labels on the override list" % len(override))
+            lend(s, labels, rules, None, override)
+            for label in names + unseen:
+                four(s, label, label, "creator")
+                s.ask(label, label, b"w", "granted 5")
+            four(s, b"*", b"*", "denied")
+    s.store()
+
+
+def newobjects_unknown():
+    s = Script("newobjects_unknown", "02, Seven, and 01, Questions: a well-formed label that is not in the table is judged like any other; it has no rules. Rules of other pairs, of the other direction and of number 0 are none of theirs.", True)
+    known = FIVE + [b"Alarm", b"Records"]
+    every = [(a, b, b"rwxat") for a in range(7) for b in range(7)]
+    for say, rules in (("no rules", []), ("a rule of _ with itself", [(0, 0, b"wt")]), ("rules of _ with all", [(0, k, b"wt") for k in range(7)] + [(k, 0, b"wt") for k in range(7)]), ("rules of all with all", every), ("the last label with itself", [(6, 6, b"wt")]),
+                       ("Alarm in Records alone", [(5, 6, b"wt")]), ("Records in Alarm alone", [(6, 5, b"wt")])):
+        s.say(say)
+        lend(s, known, rules)
+        modes = {(known[a], known[b]): m for a, b, m in rules}
+        for creator in known + [b"New", b"alarm"]:
+            for folder in known + [b"New", b"alarm", b"Record"]:
+                if creator in known and folder in known and creator in FIVE and folder in FIVE:
+                    continue
+                made(s, creator, folder, modes.get((creator, folder)))
+    s.say("The rule in the other direction; the rule of another creator; the rule of another folder; and each beside the pair's own.")
+    for rules in ([(6, 5, b"wt")], [(7, 6, b"wt")], [(5, 7, b"wt")], [(6, 5, b"wt"), (7, 6, b"wt"), (5, 7, b"wt")]):
+        for own in (None, b"w", b"t", b"wt", b"", b"rxa"):
+            for first in (0, 1):
+                mine = [] if own is None else [(5, 6, own)]
+                lend(s, FIVE + [b"Alarm", b"Records", b"Air"], mine + rules if first else rules + mine)
+                made(s, b"Alarm", b"Records", own)
+    s.say("No labels at all, and only some of the five.")
+    for count in range(6):
+        lend(s, FIVE, [], count)
+        for creator in (b"*", b"^", b"_", b"?", b"@", b"Alarm"):
+            for folder in (b"*", b"^", b"_", b"?", b"@", b"Alarm"):
+                made(s, creator, folder)
+    s.say("A creator and a folder whose label was counted and is no more: with it their rule is gone, and the state is sound.")
+    lend(s, FIVE + [b"Alarm", b"Records"], [], 5)
+    made(s, b"Alarm", b"Records")
+    made(s, b"Alarm", b"Alarm")
+    s.poke("words", 0, 6)
+    made(s, b"Alarm", b"Records")
+    s.poke("words", 0, 7)
+    s.change(b"Alarm Records wt -")
+    made(s, b"Alarm", b"Records", b"wt")
+    s.store()
+
+
+def newobjects_near():
+    s = Script("newobjects_near", "02, Seven: labels that are hard to tell apart, with one rule with t: labels that agree in their first characters, and that differ in one byte or in length.", True)
+    whole = (b"ClimateProbe_StoreNorth_" * 11)
+    for length in (1, 2, 3, 4, 7, 8, 15, 16, 22, 23, 24, 31, 32, 63, 64, 127, 128, 253, 254):
+        base = whole[:length]
+        one, two = base + b"1", base + b"2"
+        s.say("labels that agree in their first %d characters" % length)
+        for first, second in (((one, b"wt"), None), ((one, b"wt"), (two, b"w")), ((two, b"w"), (one, b"wt")), ((one, b"wt"), (two, b"t")), ((two, b"-"), (one, b"wt")))[:5 if length in (8, 22, 23, 24, 253, 254) else 3]:
+            rules = dict([first] + ([second] if second else []))
+            s.fresh()
+            s.piece(b"".join(b"%s Records %s\nRecords %s %s\n" % (label, modes, label, modes) for label, modes in rules.items()))
+            for label in (one, two, base):
+                for transmutes, is_folder in FOUR:
+                    s.newobject(label, b"Records", transmutes, is_folder, says_new(label, b"Records", rules.get(label), transmutes, is_folder))
+                    s.newobject(b"Records", label, transmutes, is_folder, says_new(b"Records", label, rules.get(label), transmutes, is_folder))
+            made(s, one, two)
+            made(s, one, one)
+            s.newobject(two, one, 1, 1, "denied")
+            s.newobject(base, one, 1, 1, "denied")
+        s.say("and have a rule between them")
+        s.fresh()
+        s.line(b"%s %s wt" % (one, two), None)
+        made(s, one, two, b"wt")
+        made(s, two, one)
+        made(s, one, one)
+        made(s, two, two)
+    s.say("One byte is another, at each place: that label has no rule.")
+    for length in (1, 5, 8, 23, 24, 40, 255):
+        base = whole[:length]
+        s.fresh()
+        s.piece(b"%s Air wt\nAir %s wt\n" % (base, base))
+        four(s, base, b"Air", *TRANSMUTED)
+        four(s, b"Air", base, *TRANSMUTED)
+        for at in range(length):
+            stranger = base[:at] + bytes([other_byte(base[at], 2)]) + base[at + 1:]
+            s.newobject(stranger, b"Air", 1, at % 2, "denied")
+            s.newobject(b"Air", stranger, 1, at % 2, "denied")
+            if at in (0, 22, 23, length - 1):
+                s.newobject(stranger, base, 1, 1, "denied")
+                s.newobject(stranger, stranger, 1, 1, "creator")
+    s.say("Lengths: beginnings and ends of one label, each with modes of its own.")
+    for label_of in (lambda n: whole[:n], lambda n: whole[30 - n:30], lambda n: b"A" * n):
+        modes = {label_of(n): ALL_MODES[n * 7 % 32] for n in range(1, 25, 2)}
+        s.fresh()
+        s.piece(b"".join(b"%s Records %s\n" % (label, m or b"-") for label, m in modes.items()))
+        for n in range(1, 26):
+            label = label_of(n)
+            for transmutes, is_folder in FOUR:
+                s.newobject(label, b"Records", transmutes, is_folder, says_new(label, b"Records", modes.get(label), transmutes, is_folder))
+    s.say("The case of a letter counts.")
+    s.fresh()
+    s.piece(b"Alarm Records wt\nalarm Records w\nALARM records wt\n")
+    for creator, folder, modes in ((b"Alarm", b"Records", b"wt"), (b"alarm", b"Records", b"w"), (b"ALARM", b"records", b"wt"), (b"ALARM", b"Records", None), (b"Alarm", b"records", None), (b"alarm", b"records", None), (b"Records", b"records", None), (b"alarm", b"ALARM", None)):
+        made(s, creator, folder, modes)
+    s.store()
+
+
+def newobjects_twice():
+    s = Script("newobjects_twice", "01: where a lent state holds a label or a pair twice, the first counts, and a label means its first number. So for w and for t alike. _ ^ and * are known by their bytes.", True)
+    s.say("A pair twice, each two sets of modes of five; the first counts: first wt, second w: the folder's label. First w, second wt: the creator's. First t, second w: denied. First none, second wt: denied.")
+    for first, second, answers in ((b"wt", b"w", TRANSMUTED), (b"w", b"wt", ("creator",)), (b"t", b"w", ("denied",)), (b"", b"wt", ("denied",))):
+        lend(s, FIVE + [b"Alarm", b"Records"], [(5, 6, first), (5, 6, second)])
+        four(s, b"Alarm", b"Records", *answers)
+    some = [b"", b"w", b"t", b"wt", b"a", b"at", b"rx", b"rwxat", b"wa", b"rxat"]
+    for first in some:
+        for second in some:
+            lend(s, FIVE + [b"Alarm", b"Records"], [(5, 6, first), (6, 5, b"wt"), (5, 6, second)])
+            made(s, b"Alarm", b"Records", first)
+    s.say("Three times, at the ends and in the middle of many other rules.")
+    for count in (3, 33, 64, 65, 256):
+        for at in sorted({(0, 1, 2), (0, count // 2, count - 1), (count - 3, count - 2, count - 1)}):
+            for three in ((b"wt", b"w", b"t"), (b"w", b"t", b"wt"), (b"t", b"wt", b"w"), (b"", b"w", b"wt"), (b"wt", b"", b"")):
+                rules = [(6 + k % 2, 5 + k % 3, b"rwxat") for k in range(count)]
+                for place_, modes in zip(at, three):
+                    rules[place_] = (5, 6, modes)
+                lend(s, FIVE + [b"Alarm", b"Records", b"Air"], rules)
+                made(s, b"Alarm", b"Records", three[0])
+    s.say("A label twice: what stands under its second number is found by no label.")
+    for one, other in ((5, 6), (5, 9), (8, 63), (0, 5), (3, 4), (4, 63)):
+        labels = FIVE + [b"L%02d" % k for k in range(5, 64)]
+        labels[one] = labels[other] = b"Twice"
+        lend(s, labels, [])
+        for rules, there, back in (([(other, 20, b"wt")], None, None), ([(20, other, b"wt")], None, None), ([(one, 20, b"wt"), (20, one, b"w")], b"wt", b"w"), ([(other, 20, b"wt"), (one, 20, b"w"), (20, other, b"w"), (20, one, b"wt")], b"w", b"wt"),
+                                   ([(other, 20, b"w"), (one, 20, b"wt")], b"wt", None), ([(one, 20, b"t"), (other, 20, b"w"), (other, 20, b"wt")], b"t", None), ([(one, other, b"wt"), (other, one, b"wt")], None, None)):
+            for at, row in ((0, bytes(r[0] for r in rules)), (256, bytes(r[1] for r in rules)), (512, bytes(bits_of(r[2]) for r in rules))):
+                s.poke("entries", at, row)
+            s.poke("words", 1, len(rules))
+            made(s, b"Twice", b"L20", there)
+            made(s, b"L20", b"Twice", back)
+            four(s, b"Twice", b"Twice", "creator")
+    s.say("Both labels twice.")
+    labels = FIVE + [b"Alarm", b"Records", b"Alarm", b"Records"]
+    for a in (5, 7):
+        for b in (6, 8):
+            lend(s, labels, [(a, b, b"wt")])
+            made(s, b"Alarm", b"Records", b"wt" if (a, b) == (5, 6) else None)
+            lend(s, labels, [(a, b, b"wt"), (5, 6, b"w")])
+            made(s, b"Alarm", b"Records", b"wt" if (a, b) == (5, 6) else b"w")
+            lend(s, labels, [(a, b, b"w"), (5, 6, b"wt")])
+            made(s, b"Alarm", b"Records", b"w" if (a, b) == (5, 6) else b"wt")
+    s.say("The second number becomes the first: another label stands at the first.")
+    lend(s, labels, [(7, 8, b"wt"), (5, 6, b"w")])
+    made(s, b"Alarm", b"Records", b"w")
+    s.poke("labels", 256 * 5, place(b"Other"))
+    made(s, b"Alarm", b"Records")
+    made(s, b"Other", b"Records", b"w")
+    s.poke("labels", 256 * 6, place(b"Folder"))
+    made(s, b"Alarm", b"Records", b"wt")
+    made(s, b"Other", b"Folder", b"w")
+    s.say("Writes go to the first rule of the pair, and the answer goes by it.")
+    lend(s, FIVE + [b"Alarm", b"Records"], [(5, 6, b"r"), (5, 6, b"wt")])
+    made(s, b"Alarm", b"Records", b"r")
+    s.change(b"Alarm Records w -")
+    made(s, b"Alarm", b"Records", b"rw")
+    s.change(b"Alarm Records t r")
+    made(s, b"Alarm", b"Records", b"wt")
+    s.list(1, b"Alarm Records wt\n", b"\xee" * 24)
+    s.line(b"Alarm Records t", None)
+    made(s, b"Alarm", b"Records", b"t")
+    s.list(1, b"Alarm Records wt\n", b"\xee" * 24)
+    s.say("Other labels at the places of _ ^ and *: they are as any other, and the marks are known by their bytes, wherever they stand or not.")
+    for labels in ([b"X", b"Y", b"Z", b"?", b"@", b"_", b"^", b"*", b"Alarm"], [b"*", b"_", b"^", b"@", b"?", b"X", b"Y", b"Z", b"Alarm"], [b"^", b"*", b"_", b"X", b"Y", b"Z", b"A", b"B", b"Alarm"], [b"X", b"Y", b"Z", b"A", b"B", b"C", b"D", b"E", b"Alarm"]):
+        every = [(a, b, b"wt") for a in range(9) for b in range(9)]
+        for rules in (every, [(a, b, b"w") for a, b, _ in every], []):
+            lend(s, labels, rules)
+            for creator in (b"X", b"Y", b"Z", b"*", b"^", b"_", b"?", b"Alarm"):
+                for folder in (b"X", b"Z", b"*", b"^", b"_", b"@", b"Alarm"):
+                    stored = creator in labels and folder in labels and rules
+                    for transmutes, is_folder in FOUR[2:]:
+                        s.newobject(creator, folder, transmutes, is_folder, says_new(creator, folder, rules[0][2] if stored else None, transmutes, is_folder))
+    s.say("Stored labels that are not well formed: no label means them, and they are no damage.")
+    lend(s, FIVE + [b"Alarm", b"Records"], [(5, 6, b"wt")])
+    for stored in (b"", b" ", b"-", b"Alarm/", b"\0" * 255, b"Alarm\n", b"\xc1larm"):
+        s.poke("labels", 256 * 5, place(stored))
+        made(s, b"Alarm", b"Records")
+        s.newobject(stored, b"Records", 1, 1, 3)
+        s.newobject(b"Records", stored, 1, 1, 3)
+        s.newobject(stored, stored, 1, 1, 3)
+    s.poke("labels", 256 * 5, place(b"Alarm"))
+    made(s, b"Alarm", b"Records", b"wt")
+    s.say("What lies behind a label in its place does not count, nor does a rule behind the count.")
+    s.poke("labels", 256 * 5 + 6, b"Alarm" * 10)
+    made(s, b"Alarm", b"Records", b"wt")
+    made(s, b"AlarmAlarm", b"Records")
+    s.poke("entries", 1, b"\x06")
+    s.poke("entries", 257, b"\x05")
+    s.poke("entries", 513, b"\x12")
+    made(s, b"Records", b"Alarm")
+    s.poke("words", 1, 2)
+    made(s, b"Records", b"Alarm", b"wt")
+    s.poke("words", 1, 0)
+    made(s, b"Alarm", b"Records")
+    s.store()
+
+
+def newobjects_after():
+    s = Script("newobjects_after", "02, Seven: after a revoke, after changes that take or give w or t, after lines that replace the modes, and after writes that do not reach the rule.", True)
+    s.say("One pair, write by write.")
+    s.fresh()
+    made(s, b"Alarm", b"Records")
+    for write, modes in ((b"change Alarm Records w -", b"w"), (b"change Alarm Records t -", b"wt"), (b"change Alarm Records - w", b"t"), (b"change Alarm Records W -", b"wt"), (b"change Alarm Records - T", b"w"), (b"change Alarm Records t t", b"w"), (b"change Alarm Records t w", b"t"),
+                         (b"change Alarm Records w t", b"w"), (b"change Alarm Records rxat -", b"rwxat"), (b"change Alarm Records - rxa", b"wt"), (b"change Alarm Records - -", b"wt"), (b"change Alarm Records - wt", b""), (b"change Alarm Records wt -", b"wt"), (b"change Alarm Records wt w", b"t"),
+                         (b"line Alarm Records wt", b"wt"), (b"line Alarm Records w", b"w"), (b"line Alarm Records t", b"t"), (b"line Alarm Records TW", b"wt"), (b"line Alarm Records -", b""), (b"line Alarm Records rwxatb", b"rwxat"), (b"line Alarm Records rxat", b"rxat"), (b"line Alarm Records a", b"a"),
+                         (b"line Alarm Records wtb", b"wt"), (b"line Alarm Records b", b""), (b"line Alarm Records w-t", b"wt"), (b"revoke Alarm", b""), (b"change Alarm Records t -", b"t"), (b"change Alarm Records w -", b"wt"), (b"revoke Alarm", b""), (b"line Alarm Records wt", b"wt")):
+        name, rest = write.split(b" ", 1)
+        if name == b"line":
+            s.line(rest, None)
+        elif name == b"change":
+            s.change(rest)
+        else:
+            s.revoke(rest, "revoked 1")
+        made(s, b"Alarm", b"Records", modes)
+    s.say("Writes that do not reach the rule: revoke of the folder's label, of another, of an unknown one; rules of other pairs; mappings and override lists.")
+    s.revoke(b"Records", "revoked 0")
+    s.revoke(b"Air", "revoked 0")
+    s.revoke(b"*", "revoked 0")
+    made(s, b"Alarm", b"Records", b"wt")
+    s.line(b"Records Alarm -", None)
+    s.line(b"Alarm Air w", None)
+    s.line(b"Air Records t", None)
+    s.mapping(b"Alarm 9 1")
+    s.mapping(b"Records 9 1")
+    made(s, b"Alarm", b"Records", b"wt")
+    made(s, b"Alarm", b"Air", b"w")
+    made(s, b"Air", b"Records", b"t")
+    s.say("Refused writes change nothing of it.")
+    for text, number in ((b"Alarm Records w", 2), (b"Alarm Records - q", 4), (b"Alarm Records - b", 4), (b"Alarm/ Records - w", 3), (b"Alarm Alarm wt -", 5), (b"Alarm Records - t" + b" " * 600, 1)):
+        s.change(text, "refused %d" % number)
+        four(s, b"Alarm", b"Records", *TRANSMUTED)
+    for text, number in ((b"Alarm Records", 2), (b"Alarm Records q", 4), (b"Alarm Records l", 4), (b"Alarm -Records r", 3), (b"Records Records wt", 5), (b"Alarm Records r" + b" " * 600, 1)):
+        s.line(text, number)
+        four(s, b"Alarm", b"Records", *TRANSMUTED)
+    s.say("Revoke takes the rules of every folder from one creator, and of no other.")
+    s.fresh()
+    s.piece(b"".join(b"%s %s wt\n" % (a, b) for a in (b"Alarm", b"Recorder", b"Desk") for b in (b"Records", b"Air", b"_", b"^")))
+    for revoked in (b"Recorder", b"Alarm", b"Desk"):
+        for creator in (b"Alarm", b"Recorder", b"Desk"):
+            for folder in (b"Records", b"Air", b"_", b"^"):
+                gone = (b"Recorder", b"Alarm", b"Desk").index(creator) < (b"Recorder", b"Alarm", b"Desk").index(revoked)
+                made(s, creator, folder, b"" if gone else b"wt")
+        s.revoke(revoked, "revoked 4")
+        made(s, revoked, b"Records", b"")
+        made(s, revoked, b"*", b"")
+        made(s, revoked, revoked, b"")
+    s.store()
+
+
+def newobjects_override():
+    s = Script("newobjects_override", "02, Seven: override isn't considered here. The same answers under an empty list, under one that holds the creator and under one that does not, and after each.", True)
+    names = FIVE + [b"Alarm", b"Records", b"Desk", b"Unseen"]
+    rules = {(b"Alarm", b"Records"): b"wt", (b"Desk", b"Records"): b"w", (b"Records", b"Alarm"): b"t", (b"Alarm", b"Desk"): b"rxa", (b"*", b"Records"): b"rwxat", (b"Alarm", b"*"): b"wt", (b"^", b"Records"): b"wt", (b"_", b"Alarm"): b"at", (b"Alarm", b"_"): b"wt", (b"?", b"@"): b"wt"}
+    for text in (b"-", b"Alarm", b"Desk", b"Records", b"* _ ^ ? @", b"*", b"Alarm Desk Records", b"Later", b"_", b"A1 A2 A3 A4 A5 A6 A7 A8", b"A1 A2 A3 A4 A5 A6 A7 Alarm", b"- "):
+        s.say("the list is " + text.decode())
+        s.fresh()
+        s.piece(b"".join(b"%s %s %s\n" % (a, b, m) for (a, b), m in rules.items()))
+        s.override(text)
+        listed = text.split()
+        for creator in names:
+            for folder in (b"Records", b"Alarm", b"Desk", b"*", b"_", b"@", b"Unseen"):
+                modes = rules.get((creator, folder))
+                for transmutes, is_folder in FOUR[2:]:
+                    s.newobject(creator, folder, transmutes, is_folder, says_new(creator, folder, modes, transmutes, is_folder))
+                said_ = says_write(creator, folder, modes)
+                s.ask(creator, folder, b"w", said_.replace("denied", "override") if listed == [b"-"] or creator in listed else said_, 1)
+        made(s, b"Alarm", b"Records", b"wt")
+        made(s, b"Desk", b"Records", b"w")
+    s.say("A lent list that holds a label's second number, or a label twice.")
+    for override in (b"\x05", b"\x07", b"\x05\x05", b"\x07\x07\x07\x07\x07\x07\x07\x07"):
+        lend(s, FIVE + [b"Alarm", b"Records", b"Alarm"], [(6, 5, b"wt"), (5, 6, b"t")], None, override)
+        made(s, b"Alarm", b"Records", b"t", b"\x05" in override)
+        made(s, b"Records", b"Alarm", b"wt")
+        made(s, b"Records", b"*")
+        four(s, b"*", b"Alarm", "denied")
+    s.store()
+
+
+def newobjects_refusals():
+    s = Script("newobjects_refusals", "02, Seven: refusal 3 exactly where the creator or the folder's label is not well formed, whatever rules there are and whatever the other two say; no place beside it. Nothing changes.", True)
+    ill = [b"", b"-", b"--", b"-A", b"-Alarm", b"/", b"Alarm/", b"/Alarm", b"Al/arm", b"Alarm ", b" Alarm", b"Al arm", b"Alarm\t", b"Alarm\n", b"\nAlarm", b"Alarm\0", b"\0", b"Al'arm", b"Al\"arm", b"Al\\arm", b"\x7f", b"Alarm\x7f", b"\x80", b"\xff", b"Al\xe4rm", b"*\n", b"* ", b"* *", b"_/", b"^-/", b"-*",
+           b"L" * 256, b"L" * 257, b"L" * 300, b"L" * 511, b"L" * 512, b"L" * 600, b"L" * 601, b"*" * 256, b"L" * 254 + b"/", b"L" * 255 + b"/", b"/" + b"L" * 255, b"L" * 65537]
+    good = [b"Alarm", b"Records", b"*", b"_", b"^", b"Unseen", b"A-", b"L" * 255]
+    for text in (b"", b"Alarm Records wt\n* Records wt\nAlarm * wt\n"):
+        s.fresh()
+        s.piece(text)
+        s.dump("rules %d" % len(text))
+        for k, label in enumerate(ill):
+            long = len(label) > 1000
+            for j, other in enumerate(good[:1] if long else good):
+                transmutes, is_folder = FOUR[(j + k) % 4]
+                s.newobject(label, other, transmutes, is_folder, 3)
+                s.newobject(other, label, is_folder, transmutes, 3)
+            four(s, label, label, 3)
+            if not long:
+                s.newobject(label, ill[k - 1] if len(ill[k - 1]) < 1000 else b"-", 1, 1, 3)
+        s.dump("rules %d" % len(text))
+    s.say("Either side: labels of 1 to 255 bytes, a dash that is not the first.")
+    for label in (b"A", b"A-", b"A--", b"!", b"~", b"L" * 254, b"L" * 255, b"LL-" * 85, b"#", b"@@"):
+        four(s, label, label, "creator")
+        four(s, label, b"*", "creator")
+        four(s, b"*", label, "denied")
+        four(s, b"Alarm", label, "denied")
+        four(s, label, b"Records", "denied")
+    s.store()
+
+    s = Script("newobjects_bytes", "02, Seven, and 01, Labels: every byte value in the creator and in the folder's label: alone, first, in the middle and last.", True)
+    s.fresh()
+    s.piece(b"A Records wt\nRecords A wt\n_ Records wt\nRecords ^ w\nLa Records wt\naL Records w\nLaL Records wt\nRecords LaL wt\n")
+    rules = {(b"A", b"Records"): b"wt", (b"Records", b"A"): b"wt", (b"_", b"Records"): b"wt", (b"Records", b"^"): b"w", (b"La", b"Records"): b"wt", (b"aL", b"Records"): b"w", (b"LaL", b"Records"): b"wt", (b"Records", b"LaL"): b"wt"}
+    for byte in range(256):
+        one = bytes([byte])
+        for label in (one, one + b"L", b"L" + one, b"L" + one + b"L", b"L" * 254 + one, b"L" * 255 + one):
+            is_folder = (byte + len(label)) % 2
+            s.newobject(label, b"Records", 1, is_folder, says_new(label, b"Records", rules.get((label, b"Records")), 1, is_folder) if is_label(label) else 3)
+            s.newobject(b"Records", label, 1, is_folder, says_new(b"Records", label, rules.get((b"Records", label)), 1, is_folder) if is_label(label) else 3)
+        for label in (one, b"L" + one):
+            s.newobject(label, label, 1, 1, says_new(label, label, None, 1, 1) if is_label(label) else 3)
+            s.newobject(b"Records/", label, 1, 1, 3)
+            s.newobject(label, b"", 1, 1, 3)
+    s.store()
+
+
+def newobjects_damage():
+    s = Script("newobjects_damage", "01, refusal 0, and 02, Seven: in a damaged state the answer is 0, before 3 and before every rule of the seven, and nothing changes.", True)
+    kinds = [("words", index, value) for index, limit, old in ((0, 64, 9), (1, 256, 3), (2, 32, 2), (3, 8, 2)) for value in (limit + 1, 1000, (1 << 32) + old, 1 << 63, HUGE)] + [("words", 0, value) for value in (8, 5, 0)]
+    kinds += [("entries", at, bytes([value])) for at in (0, 1, 2, 256, 257, 258, 768, 769, 832, 833) for value in (9, 64, 255)]
+    kinds += [("entries", at, bytes([value])) for at in (512, 513, 514) for value in (1, 64, 128, 19, 82, 146, 255)] + [("words", at, value) for at in (68, 69) for value in (1, 128, HUGE)]
+    kinds += [(part, None, size) for part, size_ in (("labels", 16384), ("entries", 840), ("words", 100)) for size in (0, 1, size_ // 2, size_ - 1, size_ + 1, 2 * size_)]
+    asked = [(b"B", b"C"), (b"A", b"B"), (b"A", b"A"), (b"*", b"*"), (b"A", b"*"), (b"*", b"A"), (b"^", b"_"), (b"Unseen", b"Unseen"), (b"Unseen", b"A"), (b"", b""), (b"/", b"C"), (b"B", b"-"), (b"L" * 256, b"C")]
+    for number in damaged_by(s, kinds):
+        for k, (creator, folder) in enumerate(asked):
+            s.newobject(creator, folder, *FOUR[(k + number) % 4], 0)
+        four(s, b"B", b"C", 0)
+        s.dump("kind %d" % number)
+    s.say("Sound again, and what is no damage: numbers and bits behind the counts; the loader and the line, which this call is not lent.")
+    small_state(s)
+    four(s, b"B", b"C", "creator")
+    s.poke("entries", 513, b"\x12")
+    four(s, b"B", b"C", *TRANSMUTED)
+    for at, byte in ((3, b"\xff"), (259, b"\x40"), (515, b"\xff"), (770, b"\xff"), (834, b"\xff")):
+        s.poke("entries", at, byte)
+        four(s, b"B", b"C", *TRANSMUTED)
+    s.poke("words", 70, HUGE)
+    four(s, b"B", b"C", *TRANSMUTED)
+    for kept in (601, 602, 1000, HUGE):
+        s.poke("loader", 0, kept)
+        four(s, b"B", b"C", *TRANSMUTED)
+    for size in (0, 599, 601):
+        s.call("resize line %d" % size, "done")
+        four(s, b"B", b"C", *TRANSMUTED)
+        four(s, b"C", b"B", "denied")
+        four(s, b"", b"B", 3)
+    s.say("A full table: an unknown mode bit, and a number without a label, at each place of the rules.")
+    full(s)
+    s.override(b" ".join(name_of(k) for k in range(5, 13)))
+    s.dump("full", True)
+    for k in range(256):
+        a, b = pairs()[k]
+        for at, value, old in ((512 + k, (1 | 32, 64 | 18, 128 | 62)[k % 3], 32), (k, 64 + k % 192, int(a[1:])), (256 + k, 255 - k % 192, int(b[1:]))):
+            s.poke("entries", at, bytes([value]))
+            s.newobject(*asked[(k + at) % len(asked)], *FOUR[k % 4], 0)
+            s.poke("entries", at, bytes([old]))
+        s.newobject(a, b, 1, 1, "denied")
+    s.dump("full", True)
+    s.store()
+
+
+def newobjects_kept():
+    s = Script("newobjects_kept", "02, Seven: nothing enters and nothing changes, whatever is answered, also while a line is under way; that line is judged as if nothing had been asked.", True)
+    asked = [(b"Alarm", b"Records", b"wt"), (b"Desk", b"Records", b"w"), (b"Door", b"Records", b"rx"), (b"Unseen1", b"Records", None), (b"Alarm", b"Unseen2", None), (b"Unseen3", b"Unseen4", None), (b"Unseen5", b"Unseen5", None), (b"Unseen6", b"*", None), (b"*", b"Unseen7", None), (b"^", b"_", None),
+             (b"U" * 255, b"V" * 255, None)]
+    text = b"Alarm Records wt\nDesk Records w\nDoor Records rx\n"
+
+    def all_asked():
+        for creator, folder, modes in asked:
+            made(s, creator, folder, modes)
+        for creator, folder in ((b"", b"Records"), (b"Alarm", b"Rec/ords"), (b"Unseen8/", b"Unseen9")):
+            four(s, creator, folder, 3)
+    for name, line in (("no line", b""), ("a line", b"Alarm Air w"), ("a line that will be refused", b"Alarm Air/ wt"), ("a line of over 600 bytes", b"A" * 700), ("blanks", b"   "), ("a line of the pair", b"Alarm Records r")):
+        s.say(name + " under way")
+        s.fresh()
+        s.piece(text + line)
+        s.mapping(b"Alarm 9 1")
+        s.dump("under way " + name)
+        all_asked()
+        s.dump("under way " + name)
+    s.say("The line of the pair is judged at its newline: until then the rule is as it was.")
+    four(s, b"Alarm", b"Records", *TRANSMUTED)
+    s.piece(b"\n")
+    four(s, b"Alarm", b"Records", "denied")
+    s.end("report 4 4 0 0 0 0")
+    s.say("Each byte of a text, one by one, and the answer between.")
+    s.fresh()
+    whole, modes = b"Alarm Records w\nAlarm Records wt\nAlarm Records t\n\nAlarm Records tw b\nAlarm Alarm wt\nAlarm Records WbT", b""
+    judged = {15: b"w", 32: b"wt", 48: b"t"}
+    for at in range(len(whole)):
+        s.piece(whole[at:at + 1])
+        modes = judged.get(at, modes)
+        transmutes, is_folder = FOUR[at % 2 + 2]
+        s.newobject(b"Alarm", b"Records", transmutes, is_folder, says_new(b"Alarm", b"Records", modes, transmutes, is_folder))
+    s.end("report 7 4 1 2 5 2", 0, 1)
+    four(s, b"Alarm", b"Records", *TRANSMUTED)
+    s.say("Full tables: 64 labels and 256 rules, and unknown labels that have no place to enter.")
+    full(s)
+    s.dump("full", True)
+    for creator, folder in ((b"Unseen1", b"L05"), (b"L05", b"Unseen1"), (b"Unseen1", b"Unseen2"), (b"Unseen1", b"Unseen1"), (b"Unseen1", b"*"), (b"L40", b"L41"), (b"L05", b"L06")):
+        made(s, creator, folder, b"r" if folder == b"L06" else None)
+    s.dump("full", True)
+    s.label(64, 13)
+    s.say("Unknown labels do not enter: the next number is free, and the next write takes it.")
+    s.fresh()
+    four(s, b"Unseen1", b"Unseen2", "denied")
+    four(s, b"Unseen1", b"Unseen1", "creator")
+    s.label(5, 13)
+    s.line(b"Unseen2 Unseen1 wt", None)
+    s.label(5, b"Unseen2")
+    s.label(6, b"Unseen1")
+    s.label(7, 13)
+    four(s, b"Unseen2", b"Unseen1", *TRANSMUTED)
+    four(s, b"Unseen1", b"Unseen2", "denied")
+    s.say("A label that a mapping or an override list brought in has no rules.")
+    s.mapping(b"Mapped 9")
+    s.override(b"Listed")
+    for creator, folder in ((b"Mapped", b"Listed"), (b"Listed", b"Mapped"), (b"Mapped", b"Unseen1"), (b"Unseen2", b"Mapped"), (b"Mapped", b"Mapped"), (b"Listed", b"Unseen1")):
+        made(s, creator, folder, None, creator == b"Listed")
+    s.store()
+
+
+def newobjects_full():
+    s = Script("newobjects_full", "02, Seven: full tables, 64 labels and 256 rules, the pair at each place from 0 to 255; and each of 64 labels as creator and as folder.", True)
+    full(s)
+    s.dump("full", True)
+    for k in range(256):
+        a, b = pairs()[k]
+        for modes in (b"wt", b"w", b"t") if k % 8 in (0, 7) else (b"wt",):
+            s.poke("entries", 512 + k, bytes([bits_of(modes)]))
+            for transmutes, is_folder in FOUR:
+                s.newobject(a, b, transmutes, is_folder, says_new(a, b, modes, transmutes, is_folder))
+        s.newobject(b, a, 1, 1, "denied")
+        s.newobject(*pairs()[(k + 1) % 256], 1, 1, "denied")
+        s.poke("entries", 512 + k, b"\x20")
+    s.dump("full", True)
+    s.say("Only one rule is with w and t, then all but one: at each place.")
+    for k in range(256):
+        a, b = pairs()[k]
+        s.poke("entries", 512, b"\x10" * k + b"\x12" + b"\x10" * (255 - k))
+        four(s, a, b, *TRANSMUTED)
+        s.newobject(*pairs()[(k - 1) % 256], 1, 1, "creator")
+        s.newobject(*pairs()[(k + 1) % 256], 1, 1, "creator")
+        s.poke("entries", 512, b"\x12" * k + b"\x02" + b"\x12" * (255 - k))
+        s.newobject(a, b, 1, 1, "denied")
+        s.newobject(*pairs()[(k - 1) % 256], 1, 0, "folder 0")
+        s.newobject(*pairs()[(k + 1) % 256], 1, 1, "folder 1")
+    s.say("Every count of rules: the last below it is found, the next is not.")
+    s.poke("entries", 512, b"\x12" * 256)
+    for count in range(257):
+        s.poke("words", 1, count)
+        if count:
+            s.newobject(*pairs()[count - 1], 1, 1, "folder 1")
+        if count < 256:
+            s.newobject(*pairs()[count], 1, 1, "denied")
+    s.say("Each label as creator and as folder, in a table of 64 labels with one rule.")
+    labels = FIVE + [b"L%02d" % k for k in range(5, 64)]
+    lend(s, labels, [(5, 6, b"wt")])
+    for k in range(64):
+        for j in ((k + 1) % 64, (k + 40) % 64, 63 - k):
+            s.poke("entries", 0, bytes([k]))
+            s.poke("entries", 256, bytes([j]))
+            for transmutes, is_folder in FOUR[1:]:
+                s.newobject(labels[k], labels[j], transmutes, is_folder, says_new(labels[k], labels[j], b"wt", transmutes, is_folder))
+            s.newobject(labels[j], labels[k], 1, 1, says_new(labels[j], labels[k], b"wt" if j == k else None, 1, 1))
+            s.newobject(labels[k], labels[j - 1], 1, 1, says_new(labels[k], labels[j - 1], None, 1, 1))
+    s.store()
+
+
+def newobjects_walk():
+    s = Script("newobjects_walk", "02, Seven: a long list of lines, changes, revokes and override lists about ten labels, and the labels of new objects between.", True)
+    rng, modes = random.Random(7), {}
+    names = FIVE + [b"Alarm", b"Recorder", b"Records", b"Air", b"Desk"]
+    s.fresh()
+    for step in range(400):
+        creator, folder = rng.sample(names, 2)
+        kind = rng.choice(["line"] * 4 + ["change"] * 4 + ["revoke", "override"])
+        if kind == "line":
+            access = rng.choice(ALL_MODES + [b"wt", b"rwt", b"wat"] * 5)
+            s.piece(b"%s %s %s\n" % (creator, folder, access or b"-"))
+            modes[creator, folder] = access
+        elif kind == "change":
+            allow, deny = rng.choice([b"w", b"t", b"wt", b"", b"rxa"]), rng.choice([b"w", b"t", b"", b"", b"a", b"wt"])
+            s.change(b"%s %s %s %s" % (creator, folder, allow or b"-", deny or b"-"))
+            old = modes.get((creator, folder), b"")
+            modes[creator, folder] = bytes(c for c in b"rwxat" if (c in old or c in allow) and c not in deny)
+        elif kind == "revoke" and step % 3 == 0:
+            s.revoke(creator, "revoked %d" % sum(a == creator for a, _ in modes))
+            modes.update({pair: b"" for pair in modes if pair[0] == creator})
+        elif kind == "override":
+            s.override(rng.choice([b"-", creator, folder, creator + b" " + folder]))
+        for ask in range(4):
+            a, b = (creator, folder) if ask == 0 else (folder, creator) if ask == 1 else (rng.choice(names), rng.choice(names)) if ask == 2 or not modes else rng.choice(sorted(modes))
+            transmutes, is_folder = rng.choice(FOUR[1:])
+            s.newobject(a, b, transmutes, is_folder, says_new(a, b, modes.get((a, b)), transmutes, is_folder))
+            if step % 5 == 0:
+                s.ask(a, b, b"w", says_write(a, b, modes.get((a, b))))
+    for k, (a, b) in enumerate(modes):
+        line = b"%s %s %s\n" % (a, b, modes[a, b] or b"-")
+        s.list(k, line, b"\xee" * (len(line) + 2))
+    s.store()
+
+
+def newobjects_kernel():
+    s = Script("newobjects_kernel", "What a running kernel does with the label of a new object, sentence by sentence, and what 02, Seven, decides otherwise. P is the creating process's label, D the directory's.", True)
+    s.say("Normally the creating process's label.")
+    s.fresh()
+    s.line(b"P D rwx", None)
+    four(s, b"P", b"D", "creator")
+    s.say("The directory's label is taken when both the directory carries the mark and an explicit rule contains t.")
+    s.line(b"P D rwxt", None)
+    four(s, b"P", b"D", "creator", "creator", "folder 0", "folder 1")
+    s.say("A sub-directory so made inherits the mark; a file gets only the label.")
+    s.newobject(b"P", b"D", 1, 1, "folder 1")
+    s.newobject(b"P", b"D", 1, 0, "folder 0")
+    s.say("Without t: process label, no mark.")
+    s.line(b"P D rwxa", None)
+    s.newobject(b"P", b"D", 1, 1, "creator")
+    s.newobject(b"P", b"D", 1, 0, "creator")
+    s.say("Same label without a rule: keeps that label, but a new sub-directory does not get the mark. The creator's label, and it does not transmute.")
+    four(s, b"D", b"D", "creator")
+    four(s, b"P", b"P", "creator")
+    s.say("02 decides otherwise: only the rule list is looked at by the kernel, so that a rule of a label with itself gives the mark there. Here rule 5 granted the write, and not rule 6.")
+    lend(s, FIVE + [b"P", b"D"], [(5, 5, b"rwxat"), (6, 6, b"rwxat")])
+    four(s, b"D", b"D", "creator")
+    four(s, b"P", b"P", "creator")
+    s.say("t alone does not give the right to create: w on the directory is still needed.")
+    s.fresh()
+    s.line(b"P D t", None)
+    four(s, b"P", b"D", "denied")
+    s.line(b"P D rxat", None)
+    four(s, b"P", b"D", "denied")
+    s.say("02 decides otherwise: with capabilities and a rule t the kernel takes the directory's label. Override isn't considered here: denied, though the question for w is granted by override.")
+    s.line(b"P D t", None)
+    s.ask(b"P", b"D", b"w", "override 7", 1)
+    four(s, b"P", b"D", "denied")
+    s.override(b"P")
+    s.ask(b"P", b"D", b"w", "override 7", 1)
+    four(s, b"P", b"D", "denied")
+    s.say("Directory labelled * without a rule: the process label.")
+    four(s, b"P", b"*", "creator")
+    s.say("02 decides otherwise: with a rule P * rwxat the kernel gives files labelled *. Here rule 4 granted the write, and not rule 6.")
+    s.line(b"P * rwxat", None)
+    four(s, b"P", b"*", "creator")
+    s.ask(b"P", b"*", b"w", "granted 4")
+    s.say("Directories labelled _ and ^, and processes with these labels: what is written there goes by the rule list, in the kernel and here.")
+    for creator, folder in ((b"P", b"_"), (b"P", b"^"), (b"_", b"D"), (b"^", b"D"), (b"^", b"_"), (b"?", b"D"), (b"P", b"?")):
+        four(s, creator, folder, "denied")
+        s.line(creator + b" " + folder + b" rwx", None)
+        four(s, creator, folder, "creator")
+        s.line(creator + b" " + folder + b" rwxt", None)
+        four(s, creator, folder, *TRANSMUTED)
+    s.say("01 decides otherwise: the kernel allows whatever has @ as subject or object. Here @ has no special rule.")
+    for creator, folder in ((b"P", b"@"), (b"@", b"D"), (b"@", b"_")):
+        four(s, creator, folder, "denied")
+        s.line(creator + b" " + folder + b" wt", None)
+        four(s, creator, folder, *TRANSMUTED)
+    s.say("A process labelled * is refused whatever the object.")
+    for folder in (b"D", b"*", b"@", b"_"):
+        if folder != b"*":
+            s.line(b"* " + folder + b" rwxat", None)
+        four(s, b"*", folder, "denied")
+    s.store()
+
+
+def newobjects():
+    newobjects_sentences()
+    newobjects_modes()
+    newobjects_marks()
+    newobjects_same()
+    newobjects_unknown()
+    newobjects_near()
+    newobjects_twice()
+    newobjects_after()
+    newobjects_override()
+    newobjects_refusals()
+    newobjects_damage()
+    newobjects_kept()
+    newobjects_full()
+    newobjects_walk()
+    newobjects_kernel()
 
 
 # ---------------------------------------------------------------------------------------------------------------------------------------------
@@ -7919,6 +8709,7 @@ def main():
     categories()
     options()
     bringup()
+    newobjects()
     folder = os.environ.get("KERNEL_VECTORS")
     if folder:
         kernel(folder)

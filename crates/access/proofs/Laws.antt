@@ -16,12 +16,13 @@ use Rattle.alphabet.specs.Alphabet.{wellFormed}
 use Rattle.modes.specs.Modes.{readModes, requestLetters}
 use Rattle.modes.specs.declared.Access.the-variants.{Modes}
 use Rattle.store.specs.declared.Rule.{Rule}
-use Rattle.store.specs.Table.{Table, labelIn, isPair}
-use Rattle.store.specs.Layout.{store, tableOf, ruleAt}
+use Rattle.store.specs.Table.{Table, labelIn, isPair, labelLimit, ruleLimit}
+use Rattle.store.specs.Layout.{store, tableOf, ruleAt, labelAt, modesFrom, firstsFrom, Sizes}
+use Rattle.store.specs.Within.{Counts}
 use Rattle.access.specs.SevenRules.{holds, Clause, rule7, firstOf, sevenRules}
-use Rattle.store.specs.Pairs.{ruleBetween, has-modes, modesFound, modesBetween}
+use Rattle.store.specs.Pairs.{PairModes, ruleBetween, has-modes, modesFound, modesBetween}
 use Rattle.access.specs.Access.{onList, effective, denied, answered, decide, answer}
-use Rattle.access.specs.Within.{markRules, laterRules, sameLabel, rulingOf}
+use Rattle.access.specs.Within.{markRules, laterRules, sameLabel, ruled, rulingOf, rulingBy}
 use Rattle.access.specs.declared.Denial.{Denial}
 use Rattle.access.specs.declared.Denial.the-variants.{AnyOther}
 use Rattle.access.specs.declared.Verdict.{Verdict}
@@ -123,7 +124,7 @@ first-then (l ∷ ls) rest e =
 
 module _ (t : Table) (s o : List ℕ) (wanted : ℕ) (capable : Bool) where
   pub decide-is : (v : Verdict) → firstOf (markRules s o wanted) ≡ v → decide t s o wanted capable ≡ answered (effective t (labelIn t s) capable) (after v (rulingOf t s o wanted .verdict))
-  unfolding decide rulingOf
+  unfolding decide ruled
   decide-is v e = rw (first-then (markRules s o wanted) (laterRules s o (modesBetween t s o) wanted) refl, e)
 
 -- ---- rules 5 to 7, by numbers
@@ -149,32 +150,27 @@ same-numbers ls s o Nothing (At j) p q =
     sym (not-so (sameBytes s o) (λ h. let z : Nothing ≡ At j = p ∙ ap (λ (l : List ℕ). first (sameBytes l) ls) (same-equal s o h) ∙ sym q in let w : _≡_ {A = ℕ} 0 1 = cc in omega arith))
 same-numbers ls s o Nothing Nothing p q = refl
 
--- what each of the three says, with the subject's number
-abbrev pub ruling : Verdict → Found → Ruling
-ruling v f = record { verdict = v; subject = f }
+-- what each of the three says, with the modes by which it granted
+abbrev pub ruling : Verdict → ℕ → Ruling
+ruling v m = record { verdict = v; modes = m }
 
-module _ (t : Table) (s o : List ℕ) (wanted : ℕ) (f : Found) (p : f ≡ labelIn t s) where
-  pub ruling-same : sameBytes s o ≡ true → ruling (Grants 5) f ≡ rulingOf t s o wanted
-  unfolding rulingOf
-  ruling-same e = rw (p, e)
+pub ruled-same : (same : Bool) (pair : PairModes) (wanted : ℕ) → same ≡ true → ruling (Grants 5) 0 ≡ ruled same pair wanted
+unfolding ruled
+ruled-same same pair wanted e = rw e
 
-  module _ (apart : sameBytes s o ≡ false) where
-    pub ruling-none : ruleBetween t (labelIn t s) (labelIn t o) ≡ Nothing → ruling (Denies AnyOther) f ≡ rulingOf t s o wanted
-    unfolding rulingOf modesBetween
-    ruling-none e = rw (p, apart, e)
+module _ (same : Bool) (apart : same ≡ false) (rules : List Rule) (f : Found) (wanted : ℕ) where
+  pub ruled-none : f ≡ Nothing → ruling (Denies AnyOther) 0 ≡ ruled same (modesFound rules f) wanted
+  unfolding ruled
+  ruled-none e = rw (apart, e)
 
-    module _ (k : ℕ) (there : ruleBetween t (labelIn t s) (labelIn t o) ≡ At k) (m : ℕ) (is : modesFound (t .rules) (At k) ≡ has-modes m) where
-      pair : modesBetween t s o ≡ has-modes m
-      unfolding modesBetween
-      pair = ap (modesFound (t .rules)) there ∙ is
+  module _ (m : ℕ) (is : modesFound rules f ≡ has-modes m) where
+    pub ruled-grants : holds wanted m ≡ true → ruling (Grants 6) m ≡ ruled same (modesFound rules f) wanted
+    unfolding ruled
+    ruled-grants e = rw (apart, is, e)
 
-      pub ruling-grants : holds wanted m ≡ true → ruling (Grants 6) f ≡ rulingOf t s o wanted
-      unfolding rulingOf
-      ruling-grants e = rw (p, apart, pair, e)
-
-      pub ruling-denies : holds wanted m ≡ false → ruling (Denies AnyOther) f ≡ rulingOf t s o wanted
-      unfolding rulingOf
-      ruling-denies e = rw (p, apart, pair, e)
+    pub ruled-denies : holds wanted m ≡ false → ruling (Denies AnyOther) 0 ≡ ruled same (modesFound rules f) wanted
+    unfolding ruled
+    ruled-denies e = rw (apart, is, e)
 
 -- ---- override, and where a rule stands, look at no label of the store
 
@@ -187,14 +183,11 @@ module _ (l e w : List ℕ) where
   denied-same s s′ capable by q = rw (effective-same s capable, q)
 
   pub answered-same :
-      (s o : List ℕ) (wanted : ℕ) (capable : Bool) (r : Ruling) →
-      r ≡ rulingOf (tableOf (store l e w)) s o wanted →
-      answered (effective (tableOf (store [] e w)) (r .subject) capable) (r .verdict)
-      ≡ answered (effective (tableOf (store l e w)) (labelIn (tableOf (store l e w)) s) capable) (rulingOf (tableOf (store l e w)) s o wanted .verdict)
-  unfolding rulingOf
-  answered-same s o wanted capable r q =
-      ap (λ (z : Ruling). answered (effective (tableOf (store [] e w)) (z .subject) capable) (z .verdict)) q
-      ∙ rw (effective-same (labelIn (tableOf (store l e w)) s) capable)
+      (s : List ℕ) (f : Found) (capable : Bool) (r z : Ruling) →
+      f ≡ labelIn (tableOf (store l e w)) s →
+      r ≡ z →
+      answered (effective (tableOf (store [] e w)) f capable) (r .verdict) ≡ answered (effective (tableOf (store l e w)) (labelIn (tableOf (store l e w)) s) capable) (z .verdict)
+  answered-same s f capable r z p q = rw (effective-same f capable, p, q)
 
   pub between-same : (s s′ o o′ : Found) → s ≡ s′ → o ≡ o′ → ruleBetween (tableOf (store [] e w)) s o ≡ ruleBetween (tableOf (store l e w)) s′ o′
   between-same s s′ o o′ p q = rw (p, q) (by-case s′ o′)
@@ -203,6 +196,30 @@ module _ (l e w : List ℕ) where
       by-case (At i) (At j) = refl
       by-case (At i) Nothing = refl
       by-case Nothing g = refl
+
+  -- rules 5 to 7 by the numbers of two labels that were sought are those by the labels
+  pub ruled-by :
+      (s o : List ℕ) (same : Bool) (f g : Found) (wanted : ℕ) →
+      same ≡ sameBytes s o →
+      f ≡ labelIn (tableOf (store l e w)) s →
+      g ≡ labelIn (tableOf (store l e w)) o →
+      rulingBy (tableOf (store [] e w)) same f g wanted ≡ rulingOf (tableOf (store l e w)) s o wanted
+  unfolding modesBetween
+  ruled-by s o same f g wanted r p q =
+      rw r
+      (ap (λ (k : Found). ruled (sameBytes s o) (modesFound (tableOf (store l e w) .rules) k) wanted) (between-same f _ g _ p q))
+
+  -- two labels that were sought in a tested store have numbers that the rule search takes
+  pub numbers-below :
+      Sizes l e w → Counts w → (s o : List ℕ) (f g : Found) →
+      f ≡ labelIn (tableOf (store l e w)) s →
+      g ≡ labelIn (tableOf (store l e w)) o →
+      ((modesFrom + ruleLimit ≤ length e) × (firstsFrom ≤ length w) × Counts w) × ((placeOf f 0 < labelLimit) × (placeOf g 0 < labelLimit))
+  numbers-below sizes counts s o f g p q =
+      let n = getD w 0 0 in (
+        (omega (arith, sizes .entries), omega (arith, sizes .words), counts),
+        (place-below (sameBytes s) (labelAt l) n 64 f p (counts .labels) (omega arith), place-below (sameBytes o) (labelAt l) n 64 g q (counts .labels) (omega arith)),
+      )
 
   pub between-below : (s o : Found) (k : ℕ) → ruleBetween (tableOf (store l e w)) s o ≡ At k → k < getD w 1 0
   between-below (At i) (At j) k q = found-below (isPair i j) (ruleAt e) (getD w 1 0) k q

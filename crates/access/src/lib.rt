@@ -30,10 +30,10 @@ pub enum Verdict {
     Undecided,
 }
 
-// What rules 5 to 7 say, and the number that was found for the subject.
+// What rules 5 to 7 say, and the modes of the rule by which rule 6 granted: none where another decided.
 pub struct Ruling {
     pub verdict: Verdict,
-    pub subject: Found,
+    pub modes: u8,
 }
 
 // The answer to a question: granted, with the rule's number; denied, with the rule that denies; granted by override, with the rule that would have
@@ -67,7 +67,7 @@ fn is_mark(label: &[u8], mark: u8) -> bool
 }
 
 // Rules 1 to 4, the first that applies: they know _ ^ and * by their bytes.
-fn by_marks(subject: &[u8], object: &[u8], wanted: u8) -> Verdict
+pub fn by_marks(subject: &[u8], object: &[u8], wanted: u8) -> Verdict
     ensures { λ r. ⌜ r ≡ rules.firstOf (within.markRules (now (subject .entry)) (now (object .entry)) wanted) ⌝ }
 {
     if is_mark(subject, STAR) {
@@ -180,49 +180,47 @@ fn answered(
     }
 }
 
-// Rules 5 to 7, by numbers: each label is looked up once, the object first where the subject was found, since for rule 5 it stands there. Who calls it
-// has tested the store.
-fn by_numbers(
-    labels: &[u8],
+// Rules 5 to 7, by whether the two labels are equal and the numbers that were found for them. No label is looked up or compared; and it is small, so that the
+// compiler can put it into each of its callers. Who calls it has tested the store, and has the numbers from searches of it.
+pub fn by_numbers(
     entries: &[u8],
     words: &[u64],
-    subject: &[u8],
-    object: &[u8],
+    same: bool,
+    s: Found,
+    o: Found,
     wanted: u8,
 ) -> Ruling
-    requires { ⌜ Sizes (now labels) (now entries) (now words) × Counts (now words) ⌝ }
-    ensures { λ r. ⌜ r ≡ within.rulingOf (tableOf (lent labels entries words)) (now (subject .entry)) (now (object .entry)) wanted ⌝ }
+    requires { ⌜ (modesFrom + ruleLimit ≤ length (now entries)) × (firstsFrom ≤ length (now words)) × Counts (now words) ⌝ }
+    requires { ⌜ (placeOf s 0 < labelLimit) × (placeOf o 0 < labelLimit) ⌝ }
+    ensures { λ r. ⌜ r ≡ within.rulingBy (tableOf (store [] (now (entries .entry)) (now (words .entry)))) same s o wanted ⌝ }
 {
-    let count = words[store::LABEL_COUNT] as usize;
-    let s = places::find_label(labels, count, subject);
-    let o = places::find_label_hinted(labels, count, object, s);
-    if same_label(subject, object, s, o) {
+    if same {
         return Ruling {
             verdict: Verdict::Grants(5),
-            subject: s,
+            modes: 0,
         };
     }
     let Found::At(k) = find_rule(entries, words, s, o) else {
         return Ruling {
             verdict: Verdict::Denies(Denial::AnyOther),
-            subject: s,
+            modes: 0,
         };
     };
     let modes = entries[store::MODES_FROM + k];
     if wanted & modes == wanted {
         return Ruling {
             verdict: Verdict::Grants(6),
-            subject: s,
+            modes,
         };
     }
     Ruling {
         verdict: Verdict::Denies(Denial::AnyOther),
-        subject: s,
+        modes: 0,
     }
 }
 
-// The first of the seven rules that applies decides. Where rules 1 to 4 do, no label is looked up, but for a denial that may be overridden. Who calls it
-// has tested the store.
+// The first of the seven rules that applies decides. Where rules 1 to 4 do, no label is looked up, but for a denial that may be overridden. Otherwise each
+// label is looked up once, the object first where the subject was found, since for rule 5 it stands there. Who calls it has tested the store.
 fn decide(
     labels: &[u8],
     entries: &[u8],
@@ -245,8 +243,11 @@ fn decide(
             denied(entries, words, s, by, capable)
         }
         Verdict::Undecided => {
-            let ruling = by_numbers(labels, entries, words, subject, object, wanted);
-            let s = ruling.subject;
+            let count = words[store::LABEL_COUNT] as usize;
+            let s = places::find_label(labels, count, subject);
+            let o = places::find_label_hinted(labels, count, object, s);
+            let same = same_label(subject, object, s, o);
+            let ruling = by_numbers(entries, words, same, s, o, wanted);
             let verdict = ruling.verdict;
             answered(entries, words, s, verdict, capable)
         }

@@ -1,7 +1,7 @@
 -- 01's number and values for each case of each answer that is an enum: what a host gets for it, as plain numbers. The promises of the
 -- exported functions use these definitions. Where an answer is refused the number and the place are the refusal's, and otherwise 0 (but for the number
 -- of a question); what a case has no value for is 0. A call that tells no place (a piece, the end call, what is written to a lent output, by level and
--- set, the label by its number) has none in its answer; the fresh table and the call beside the label of a number answer as a write does, with place 0.
+-- set, the label by its number, the label of a new object) has none in its answer; the fresh table and the call beside the label of a number answer as a write does, with place 0.
 -- Assumes nothing.
 use Prim.Native.Nat.{ℕ}
 use mathlib.Core.Bool.{true, false}
@@ -18,6 +18,8 @@ use Rattle.lookups.specs.declared.Lookup.{Lookup}
 use Rattle.lookups.specs.declared.Lookup.the-variants as lookup
 use Rattle.lookups.specs.declared.Label.{Label}
 use Rattle.lookups.specs.declared.Label.the-variants as label
+use Rattle.new_object.specs.declared.ObjectLabel.{ObjectLabel}
+use Rattle.new_object.specs.declared.ObjectLabel.the-variants as new
 use Rattle.output.specs.declared.Output.{Output}
 use Rattle.output.specs.declared.Output.the-variants as output
 use Rattle.reports.specs.declared.Loader.{Loader}
@@ -34,6 +36,7 @@ use Rattle.answers.specs.declared.Finished.{Finished}
 use Rattle.answers.specs.declared.Length.{Length}
 use Rattle.answers.specs.declared.Mapped.{Mapped}
 use Rattle.answers.specs.declared.Lowest.{Lowest}
+use Rattle.answers.specs.declared.Labelled.{Labelled}
 use Rattle.answers.specs.declared.Part.{Part}
 
 -- a question: kind 0 granted, 1 denied, 2 granted by override, 3 refused; the number is the rule's, or the refusal's. (01 does not number the kinds)
@@ -79,6 +82,14 @@ abbrev pub searchShown : Label → Lowest
 searchShown (label.Number k) = record { kind = 0; number = 0; label = k }
 searchShown label.Nothing = record { kind = 1; number = 0; label = 0 }
 searchShown (label.Refused n) = record { kind = 2; number = n; label = 0 }
+
+-- the label of a new object: kind 0 the creator's; 1 denied; 2 the folder's, and whether the new object transmutes; 3 refused. (02 does not number the kinds;
+-- denied and refused have those of a question)
+abbrev pub objectShown : ObjectLabel → Labelled
+objectShown new.Creator = record { kind = 0; number = 0; transmutes = false }
+objectShown new.Denied = record { kind = 1; number = 0; transmutes = false }
+objectShown (new.Folder transmutes) = record { kind = 2; number = 0; transmutes = transmutes }
+objectShown (new.Refused n) = record { kind = 3; number = n; transmutes = false }
 
 -- a label by its number, whose length is n: where it stands in the label store
 abbrev pub partShown : ℕ → ℕ → Done → Part

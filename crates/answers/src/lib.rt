@@ -6,6 +6,7 @@ use load::Ended;
 use load::Fed;
 use lookups::Label;
 use lookups::Lookup;
+use new_object::ObjectLabel;
 use numbers::CategorySet;
 use output::Output;
 use reports::Loader;
@@ -14,7 +15,7 @@ use revoke::Revoked;
 use store::Done;
 ghost use mathlib.Core.Path.{_≡_};
 ghost use Rattle.access.specs.SevenRules.{denialNumber};
-ghost use Rattle.answers.specs.Answers.{shown, writeShown, revokeShown, pieceShown, endShown, outputShown, lookupShown, searchShown};
+ghost use Rattle.answers.specs.Answers.{shown, writeShown, revokeShown, pieceShown, endShown, outputShown, lookupShown, searchShown, objectShown};
 
 // What a question answers. Kind 0 is granted, 1 denied, 2 granted by override, 3 refused; the number is the rule's, or the refusal's.
 #[repr(C)]
@@ -84,6 +85,14 @@ pub struct Lowest {
     pub kind: u8,
     pub number: u8,
     pub label: usize,
+}
+
+// Which label a new object gets. Kind 0 is the creator's, 1 denied, 2 the folder's, 3 refused.
+#[repr(C)]
+pub struct Labelled {
+    pub kind: u8,
+    pub number: u8,
+    pub transmutes: bool,
 }
 
 // Where a label stands in the lent label store: `length` bytes from `start` on.
@@ -278,6 +287,34 @@ pub fn search_shown(answer: Label) -> Lowest
             kind: 2,
             number,
             label: 0,
+        },
+    }
+}
+
+// So for the label of a new object.
+pub fn object_shown(answer: ObjectLabel) -> Labelled
+    ensures { λ r. ⌜ r ≡ objectShown answer ⌝ }
+{
+    match answer {
+        ObjectLabel::Creator => Labelled {
+            kind: 0,
+            number: 0,
+            transmutes: false,
+        },
+        ObjectLabel::Denied => Labelled {
+            kind: 1,
+            number: 0,
+            transmutes: false,
+        },
+        ObjectLabel::Folder(transmutes) => Labelled {
+            kind: 2,
+            number: 0,
+            transmutes,
+        },
+        ObjectLabel::Refused(number) => Labelled {
+            kind: 3,
+            number,
+            transmutes: false,
         },
     }
 }

@@ -66,6 +66,10 @@ use Rattle.host.proofs.bq_read_option.Kinds as read-option-kinds
 use Rattle.host.proofs.bq_read_option.Reads as read-option-reads
 use Rattle.host.proofs.bq_read_option.Symbol as read-option-symbol
 use Rattle.host.proofs.bq_read_option.Met as read-option-met
+use Rattle.host.proofs.bq_new_object.Kinds as new-object-kinds
+use Rattle.host.proofs.bq_new_object.Reads as new-object-reads
+use Rattle.host.proofs.bq_new_object.Symbol as new-object-symbol
+use Rattle.host.proofs.bq_new_object.Met as new-object-met
 use Rattle.host.proofs.bq_label.Kinds as label-kinds
 use Rattle.host.proofs.bq_label.Reads as label-reads
 use Rattle.host.proofs.bq_label.Symbol as label-symbol
@@ -80,8 +84,9 @@ use Rattle.cipso.specs.Cipso.{mapAnswer, mapStored}
 use Rattle.lookups.specs.Lookups.{byLabelOf, byLevelOf}
 use Rattle.listing.specs.Listing.{listAnswer, listOut, labelGiven, labelAnswer}
 use Rattle.access.specs.Access.{questionOf}
+use Rattle.new_object.specs.NewObject.{objectLabelOf}
 use Rattle.cipso_option.specs.Option.{optionAnswer, optionOut, peerGiven, peerShown}
-use Rattle.answers.specs.Answers.{shown}
+use Rattle.answers.specs.Answers.{shown, objectShown}
 use Rattle.reports.specs.declared.Loader.{Loader}
 use Rattle.reports.specs.Report.{freshLoader}
 use Rattle.load.specs.declared.Fed.the-variants as f
@@ -93,7 +98,7 @@ use Rattle.host.proofs.Laws.{label-stands}
 use Rattle.lists.specs.Called.{Called}
 use Rattle.lists.specs.Reader as r
 use Rattle.lists.specs.Reader.{Ask, Write, Call, Reply}
-use Rattle.calls.specs.Calls.{Answers, Writes, Runs, none, a-piece, an-end, an-ask, a-write, a-question, a-change, a-revoke, an-onlycap, a-mapping, a-look-up, a-search, a-listing, a-label, a-check, an-option, a-peer, taken-reply, finished-reply}
+use Rattle.calls.specs.Calls.{Answers, Writes, Runs, none, a-piece, an-end, an-ask, a-write, a-question, a-change, a-revoke, an-onlycap, a-mapping, a-look-up, a-search, a-listing, a-label, a-check, an-option, a-peer, a-new-object, taken-reply, finished-reply}
 
 -- ---- the routines
 
@@ -142,6 +147,9 @@ real-write-option w γ k e = write-option-reads.known w γ k write-option-symbol
 
 pub real-read-option : Real 4 read-option-kinds.ps read-option-kinds.r read-option-reads.Asked read-option-reads.Learnt read-option-symbol.routine
 real-read-option w γ k e = read-option-reads.known w γ k read-option-symbol.routine e (read-option-met.met (w .𝓤) (w .H) (w .𝓜) (w .𝓖) (w .𝓡))
+
+pub real-new-object : Real 5 new-object-kinds.ps new-object-kinds.r new-object-reads.Asked new-object-reads.Learnt new-object-symbol.routine
+real-new-object w γ k e = new-object-reads.known w γ k new-object-symbol.routine e (new-object-met.met (w .𝓤) (w .H) (w .𝓜) (w .𝓖) (w .𝓡))
 
 pub real-label : Real 3 label-kinds.ps label-kinds.r label-reads.Asked label-reads.Learnt label-symbol.routine
 real-label w γ k e = label-reads.known w γ k label-symbol.routine e (label-met.met (w .𝓤) (w .H) (w .𝓜) (w .𝓖) (w .𝓡))
@@ -227,6 +235,9 @@ Called-write-option = Called write-option-kinds.ps write-option-kinds.r write-op
 
 abbrev Called-read-option : Type 0
 Called-read-option = Called read-option-kinds.ps read-option-kinds.r read-option-reads.Asked read-option-reads.Learnt
+
+abbrev Called-new-object : Type 0
+Called-new-object = Called new-object-kinds.ps new-object-kinds.r new-object-reads.Asked new-object-reads.Learnt
 
 abbrev Called-label : Type 0
 Called-label = Called label-kinds.ps label-kinds.r label-reads.Asked label-reads.Learnt
@@ -366,6 +377,17 @@ read-option-call st option =
       ensures = refl;
     }
 
+abbrev new-object-call : (st : Store) (creator folder : List ℕ) (transmutes isFolder : Bool) → Called-new-object
+new-object-call st creator folder transmutes isFolder =
+    record {
+      lifetimes = ([], ([], ([], ([], ([], tt)))));
+      args = (ref (st .labels), (ref (st .entries), (ref (st .words), (ref creator, (ref folder, (transmutes, (isFolder, tt)))))));
+      asked = tt;
+      result = objectShown (objectLabelOf st creator folder transmutes isFolder);
+      last = (tt, (tt, (tt, (tt, (tt, (tt, (tt, tt)))))));
+      ensures = refl;
+    }
+
 abbrev label-check-call : (st : Store) (k : ℕ) → Called-label-check
 label-check-call st k =
     record {
@@ -396,6 +418,7 @@ answered st (r.list-rule n out) = (_, a-listing (list-rule-call st n out))
 answered st (r.label n) = (_, a-label (label-call st n))
 answered st (r.write-option l out) = (_, an-option (write-option-call st l out))
 answered st (r.read-option option) = (_, a-peer (read-option-call st option))
+answered st (r.new-object creator folder transmutes isFolder) = (_, a-new-object (new-object-call st creator folder transmutes isFolder))
 answered st (r.label-check n) = (_, a-check (label-check-call st n))
 
 wrote : (st : Store) (w : Write) → (reply : Reply) × (st′ : Store) × Writes st w reply st′

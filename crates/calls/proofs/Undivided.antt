@@ -17,7 +17,7 @@ use Rattle.onlycap.specs.Onlycap.{onlycapAnswer}
 use Rattle.cipso.specs.Cipso.{mapAnswer}
 use Rattle.listing.specs.Listing.{labelAnswer}
 use Rattle.cipso_option.specs.Option.{peerShown}
-use Rattle.answers.specs.Answers.{shown}
+use Rattle.answers.specs.Answers.{shown, objectShown}
 use Rattle.reports.specs.declared.Loader.{Loader}
 use Rattle.load.specs.declared.Fed.{Fed}
 use Rattle.load.specs.declared.Fed.the-variants as f
@@ -31,8 +31,8 @@ use Rattle.lists.specs.Reader as r
 use Rattle.lists.specs.Reader.{Reader, startOn, takePiece, Ask, Call, Reply, doneReply, countReply, Write, writeSays, writeOn, askSays, after, afterAll, saysAll, Event, events, reports}
 use Rattle.lists.proofs.Follows.{Holds, fresh-holds}
 use Rattle.lists.proofs.Steps.{fed-reply, end-reply, piece-law, end-law, on, after-events, reportsOn, reports-events}
-use Rattle.lists.proofs.Others.{storeLeft, write-holds, by-label-refused, by-label-says, by-level-refused, by-level-says, change-refused, change-says, check-refused, check-says, label-refused, label-says, list-refused, list-says, option-refused, option-says, peer-refused, peer-says, mapping-refused, mapping-says, onlycap-refused, onlycap-says, question-refused, question-says, revoke-refused, revoke-says, write-refused}
-use Rattle.calls.specs.Calls.{Fresh, Answers, Writes, Runs, none, a-piece, an-end, an-ask, a-write, a-question, a-change, a-revoke, an-onlycap, a-mapping, a-look-up, a-search, a-listing, a-label, a-check, an-option, a-peer, taken-reply, finished-reply, written-reply, counted-reply}
+use Rattle.lists.proofs.Others.{storeLeft, write-holds, by-label-refused, by-label-says, by-level-refused, by-level-says, change-refused, change-says, check-refused, check-says, label-refused, label-says, list-refused, list-says, option-refused, option-says, peer-refused, peer-says, object-refused, object-says, mapping-refused, mapping-says, onlycap-refused, onlycap-says, question-refused, question-says, revoke-refused, revoke-says, write-refused}
+use Rattle.calls.specs.Calls.{Fresh, Answers, Writes, Runs, none, a-piece, an-end, an-ask, a-write, a-question, a-change, a-revoke, an-onlycap, a-mapping, a-look-up, a-search, a-listing, a-label, a-check, an-option, a-peer, a-new-object, taken-reply, finished-reply, written-reply, counted-reply}
 use Rattle.calls.specs.PlainReaders.{acts, Made, PlainReaders, refusal-of}
 use Rattle.calls.proofs.Acts.{made, grown-made}
 
@@ -66,6 +66,8 @@ answers-read u (a-search k) = ap r.lowest (k .ensures) ∙ by-level-says (lent (
 answers-read u (a-listing k) = both-listed (k .ensures .0) (k .ensures .1) ∙ list-says (lent (k .args)) u (fourth (k .args)) (now (fifth (k .args)))
 answers-read u (a-label k) = label-says (lent (k .args)) u (fourth (k .args)) _ (k .result) _ (k .ensures .0) (k .ensures .1)
 answers-read u (an-option k) = both-listed (k .ensures .0) (k .ensures .1) ∙ option-says (lent (k .args)) u (now (fourth (k .args))) (now (fifth (k .args)))
+answers-read u (a-new-object k) =
+    ap r.labelled (k .ensures) ∙ object-says (lent (k .args)) u (now (fourth (k .args))) (now (fifth (k .args))) (sixth (k .args)) (seventh (k .args))
 answers-read u (a-peer k) = ap r.peer (k .ensures) ∙ peer-says (lent (k .args)) u (now (fourth (k .args)))
 answers-read u (a-check k) = ap written-reply (k .ensures) ∙ shown-written (labelAnswer (lent (k .args)) (fourth (k .args))) ∙ check-says (lent (k .args)) u (fourth (k .args))
 
@@ -185,6 +187,7 @@ answers-refused u (a-listing k) =
 answers-refused u (an-option k) =
     let c = option-refused _ u (now (fourth (k .args))) (now (fifth (k .args))) in
     both-listed (k .ensures .0 ∙ ap outputShown (c .0)) (k .ensures .1 ∙ c .1)
+answers-refused u (a-new-object k) = ap r.labelled (k .ensures ∙ ap objectShown (object-refused _ u _ _ _ _))
 answers-refused u (a-peer k) = ap r.peer (k .ensures ∙ ap peerShown (peer-refused _ u _))
 answers-refused u (a-label k) = label-refused _ u _ _ _ _ (k .ensures .0)
 answers-refused u (a-check k) = ap written-reply (k .ensures ∙ ap writeShown (check-refused _ u _))

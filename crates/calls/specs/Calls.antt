@@ -34,6 +34,8 @@ use Rattle.host.proofs.bq_write_option.Kinds as write-option-kinds
 use Rattle.host.proofs.bq_write_option.Reads as write-option-reads
 use Rattle.host.proofs.bq_read_option.Kinds as read-option-kinds
 use Rattle.host.proofs.bq_read_option.Reads as read-option-reads
+use Rattle.host.proofs.bq_new_object.Kinds as new-object-kinds
+use Rattle.host.proofs.bq_new_object.Reads as new-object-reads
 use Rattle.refusals.specs.Refusals.{plain}
 use Rattle.alphabet.specs.Alphabet.{lineLimit}
 use Rattle.store.specs.Layout.{Store, store, undamagedOf}
@@ -100,6 +102,9 @@ pub data Answers : Store → Ask → Reply → Type 0 where
       Answers (lent (k .args)) (r.write-option (now (fourth (k .args))) (now (fifth (k .args)))) (r.listed (k .result) (fifth (k .last)))
   a-peer : (k : Called read-option-kinds.ps read-option-kinds.r read-option-reads.Asked read-option-reads.Learnt) →
       Answers (lent (k .args)) (r.read-option (now (fourth (k .args)))) (r.peer (k .result))
+  a-new-object : (k : Called new-object-kinds.ps new-object-kinds.r new-object-reads.Asked new-object-reads.Learnt) →
+      Answers (lent (k .args)) (r.new-object (now (fourth (k .args))) (now (fifth (k .args))) (sixth (k .args)) (seventh (k .args)))
+      (r.labelled (k .result))
 
 -- and of a single write also the tables that it leaves
 pub data Writes : Store → Write → Reply → Store → Type 0 where

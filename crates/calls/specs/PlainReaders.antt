@@ -13,7 +13,8 @@ use Rattle.lines.specs.Lines.{ruleOf}
 use Rattle.writes.specs.Writes.{judged, changed}
 use Rattle.store.specs.Judged.{is-skipped, is-refused, is-accepted}
 use Rattle.cipso_option.specs.Option.{not-read, peerShown}
-use Rattle.answers.specs.Answers.{shown, lookupShown, searchShown, outputShown}
+use Rattle.new_object.specs.declared.ObjectLabel.the-variants as object
+use Rattle.answers.specs.Answers.{shown, lookupShown, searchShown, outputShown, objectShown}
 use Rattle.access.specs.declared.Answer.the-variants as answer
 use Rattle.lookups.specs.declared.Lookup.the-variants as lookup
 use Rattle.lookups.specs.declared.Label.the-variants as label
@@ -108,3 +109,4 @@ refusal-of (r.ask (r.label k)) = r.refusal damaged
 refusal-of (r.ask (r.label-check k)) = r.refusal damaged
 refusal-of (r.ask (r.write-option l out)) = r.listed (outputShown (listed.Refused (damaged .number))) out
 refusal-of (r.ask (r.read-option option)) = r.peer (peerShown (not-read (damaged .number)))
+refusal-of (r.ask (r.new-object creator folder transmutes isFolder)) = r.labelled (objectShown (object.Refused (damaged .number)))

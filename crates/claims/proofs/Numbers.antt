@@ -93,5 +93,6 @@ numbers-of-02 =
       option-bytes = λ level bitmap. refl;
       peer-label = λ l h. (refl, refl, refl, room-front l, room-length l h, room-behind l);
       peer-refused = λ n. (refl, refl, refl, refl, room-zero);
+      new-object = (refl, refl, λ b. refl, λ n. refl);
       no-category = refl;
     }

@@ -1,6 +1,7 @@
--- 01, Either side of a limit, and 02, Six: the cases P1 to P12 that are proved, as one table and one test over it. Assumes nothing.
+-- 01, Either side of a limit, and 02, Six: the cases P1 to P12 that are proved, as one table and one test over it; further ones; and those of a new object
+-- (02, Seven). Assumes nothing.
 use Prim.Native.Nat.{ℕ}
-use mathlib.Core.Bool.{Bool, false, _&&_}
+use mathlib.Core.Bool.{Bool, true, false, cond, not, _&&_}
 use mathlib.Core.List.{List, [], _∷_, foldl}
 use lib.Dec.{eqb}
 use Rattle.search.specs.Bytes.{ascii, sameBytes}
@@ -11,8 +12,10 @@ use Rattle.writes.specs.Writes.{judged, changeWrite}
 use Rattle.store.specs.Judged.{tableAfter}
 use Rattle.store.specs.Pairs.{modesBetween, modesSoFar}
 use Rattle.access.specs.Access.{answer}
-use Rattle.answers.specs.Answers.{shown}
+use Rattle.new_object.specs.NewObject.{objectLabel}
+use Rattle.answers.specs.Answers.{shown, objectShown}
 use Rattle.answers.specs.declared.Shown.{Shown}
+use Rattle.answers.specs.declared.Labelled.{Labelled}
 use Rattle.cipso.specs.Cipso.{mappingWrite}
 use Rattle.lookups.specs.Lookups.{labelLookup}
 use Rattle.lookups.specs.declared.Lookup.{Lookup}
@@ -20,9 +23,11 @@ use Rattle.lookups.specs.declared.Lookup.the-variants as l
 use Rattle.numbers.specs.Categories.{categories}
 
 -- a case: after these lines are loaded into a fresh table, a subject asks a request of an object; after a line and a change, a pair has
--- these modes, as text; after a mapping write, a label has this level, these categories and their count
+-- these modes, as text; after a mapping write, a label has this level, these categories and their count; after lines, a creator makes an object in a folder,
+-- which transmutes or not, and the object is a folder or not
 pub data Case : Type 0 where
   asks : List (List ℕ) → List ℕ → List ℕ → List ℕ → Shown → Case
+  creates : List (List ℕ) → List ℕ → List ℕ → Bool → Bool → Labelled → Case
   changes : List ℕ → List ℕ → List ℕ → List ℕ → List ℕ → Case
   maps : List ℕ → List ℕ → ℕ → List ℕ → ℕ → Case
 
@@ -42,7 +47,14 @@ sameLookup (l.Mapped level set count) x cs n = eqb level x && (sameBytes (catego
 sameLookup l.Unmapped x cs n = false
 sameLookup (l.Refused k) x cs n = false
 
+abbrev pub sameTest : Bool → Bool → Bool
+sameTest a b = cond a b (not b)
+
+abbrev pub sameLabelled : Labelled → Labelled → Bool
+sameLabelled a b = eqb (a .kind) (b .kind) && (eqb (a .number) (b .number) && sameTest (a .transmutes) (b .transmutes))
+
 unfoldable pub right : Case → Bool
+right (creates lines creator folder transmutes isFolder expected) = sameLabelled (objectShown (objectLabel (afterLines lines) creator folder transmutes isFolder)) expected
 right (asks lines s o request expected) = sameShown (shown (answer (afterLines lines) s o request false)) expected
 right (changes line write s o modes) =
     sameBytes (modesText (pairModes (tableAfter (afterLines (line ∷ [])) (changeWrite write (afterLines (line ∷ [])))) s o)) modes
@@ -117,4 +129,48 @@ furtherCases =
     ∷ asks (ascii "Probe3 Air b" ∷ []) (ascii "Probe3") (ascii "Air") (ascii "r") (denied 7)
     ∷ asks (ascii "Probe3 Air rb" ∷ []) (ascii "Probe3") (ascii "Air") (ascii "rb") (refusedWith 8)
     ∷ maps (ascii "Vault7 9 63 64 065 128 129 184 064") (ascii "Vault7") 9 (63 ∷ 64 ∷ 65 ∷ 128 ∷ 129 ∷ 184 ∷ []) 6
+    ∷ []
+
+-- ---- a new object (02, Seven)
+
+abbrev pub creatorLabel : Labelled
+creatorLabel = record { kind = 0; number = 0; transmutes = false }
+
+abbrev pub creationDenied : Labelled
+creationDenied = record { kind = 1; number = 0; transmutes = false }
+
+abbrev pub folderLabel : Bool → Labelled
+folderLabel newTransmutes = record { kind = 2; number = 0; transmutes = newTransmutes }
+
+abbrev pub creationRefused : ℕ → Labelled
+creationRefused n = record { kind = 3; number = n; transmutes = false }
+
+-- a rule with w and t, a folder that transmutes or not, a file or a folder; w without t, t without w, other letters, none, no rule; the turned pair, another
+-- creator and another folder, alike in their first 23 bytes; one label (rule 5), stored or not; the folder * (rule 4) and _; the creators * (rule 1) and ^
+-- (rule 2 grants no w); labels that are not well formed
+abbrev pub creationCases : List Case
+creationCases =
+    creates (ascii "Recorder Records wt" ∷ []) (ascii "Recorder") (ascii "Records") true false (folderLabel false)
+    ∷ creates (ascii "Recorder Records wt" ∷ []) (ascii "Recorder") (ascii "Records") true true (folderLabel true)
+    ∷ creates (ascii "Recorder Records wt" ∷ []) (ascii "Recorder") (ascii "Records") false false creatorLabel
+    ∷ creates (ascii "Recorder Records wt" ∷ []) (ascii "Recorder") (ascii "Records") false true creatorLabel
+    ∷ creates (ascii "Recorder Records rwxa" ∷ []) (ascii "Recorder") (ascii "Records") true true creatorLabel
+    ∷ creates (ascii "Recorder Records t" ∷ []) (ascii "Recorder") (ascii "Records") true true creationDenied
+    ∷ creates (ascii "Recorder Records rxat" ∷ []) (ascii "Recorder") (ascii "Records") true true creationDenied
+    ∷ creates (ascii "Recorder Records wt" ∷ ascii "Recorder Records -" ∷ []) (ascii "Recorder") (ascii "Records") true true creationDenied
+    ∷ creates [] (ascii "Recorder") (ascii "Records") true true creationDenied
+    ∷ creates (ascii "Records Recorder wt" ∷ []) (ascii "Recorder") (ascii "Records") true true creationDenied
+    ∷ creates (ascii "Recorder-of-cold-store-1 Records wt" ∷ []) (ascii "Recorder-of-cold-store-2") (ascii "Records") true true creationDenied
+    ∷ creates (ascii "Recorder Records-of-cold-stores-1 wt" ∷ ascii "Recorder Records-of-cold-stores-2 w" ∷ []) (ascii "Recorder") (ascii "Records-of-cold-stores-2") true true creatorLabel
+    ∷ creates (ascii "Recorder Records wt" ∷ []) (ascii "Records") (ascii "Records") true true creatorLabel
+    ∷ creates [] (ascii "Recorder") (ascii "Recorder") true true creatorLabel
+    ∷ creates (ascii "Recorder * wt" ∷ []) (ascii "Recorder") (ascii "*") true true creatorLabel
+    ∷ creates (ascii "Recorder _ wt" ∷ []) (ascii "Recorder") (ascii "_") true true (folderLabel true)
+    ∷ creates [] (ascii "Recorder") (ascii "_") true true creationDenied
+    ∷ creates (ascii "* Records wt" ∷ []) (ascii "*") (ascii "Records") true true creationDenied
+    ∷ creates [] (ascii "*") (ascii "*") true true creationDenied
+    ∷ creates [] (ascii "^") (ascii "Records") true true creationDenied
+    ∷ creates (ascii "^ Records wt" ∷ []) (ascii "^") (ascii "Records") true true (folderLabel true)
+    ∷ creates [] (ascii "Rec/order") (ascii "Records") true true (creationRefused 3)
+    ∷ creates [] (ascii "*") (ascii "-Records") true true (creationRefused 3)
     ∷ []

@@ -36,6 +36,8 @@ use Rattle.host.proofs.bq_lowest_of.Reads as lowest-of-reads
 use Rattle.host.proofs.bq_lowest_in_run as lowest-in-run
 use Rattle.host.proofs.bq_question as question
 use Rattle.host.proofs.bq_question.Reads as question-reads
+use Rattle.host.proofs.bq_new_object as new-object
+use Rattle.host.proofs.bq_new_object.Reads as new-object-reads
 use Rattle.host.proofs.bq_list_rule as list-rule
 use Rattle.host.proofs.bq_list_rule.Reads as list-rule-reads
 use Rattle.host.proofs.bq_label_check as label-check
@@ -61,6 +63,7 @@ use Rattle.cipso.specs.Cipso.{mapAnswer, mapStored}
 use Rattle.lookups.specs.Lookups.{byLabelOf, byLevelOf}
 use Rattle.run.specs.Run.{runOf, recordsOf}
 use Rattle.access.specs.Access.{questionOf}
+use Rattle.new_object.specs.NewObject.{objectLabelOf}
 use Rattle.answers.specs.Answers.{shown}
 use Rattle.places.specs.Places.{PartFrom}
 use Rattle.listing.specs.Listing.{listAnswer, listOut, labelGiven, labelAnswer, labelFrom}
@@ -70,7 +73,7 @@ use Rattle.cipso_option.specs.Option.{optionAnswer, optionOut, peerGiven, peerS
 use Rattle.reports.specs.Report.{freshLoader}
 use Rattle.load.specs.Loader.{pieceAnswer, pieceAfter, endAnswer, endAfter}
 use Rattle.lists.specs.Called.{first, second, third, fourth, fifth, sixth, seventh, lent, left, loading, loaded}
-use Rattle.answers.specs.Answers.{writeShown, revokeShown, pieceShown, endShown, outputShown, lookupShown, searchShown, partShown}
+use Rattle.answers.specs.Answers.{writeShown, revokeShown, pieceShown, endShown, outputShown, lookupShown, searchShown, objectShown, partShown}
 
 -- The promise of a function. Its caller has nothing to show, whatever the arguments a. And of every call, with the answer r and with what the
 -- parameters lent by `&mut` hold at its end, l, what the function ensures says this
@@ -110,7 +113,7 @@ module _ (κs : Lfts 1) (a : Args lowest-in-run.signature κs) where
     abbrev pub Learnt-in-run : Type 0
     Learnt-in-run = AllOf (learnt-in-run .tells)
 
--- ---- the twenty exported functions, in 01's order of the calls and then 02's, and the one call that can't be exported in its own form
+-- ---- the twenty-one exported functions, in 01's order of the calls and then 02's, and the one call that can't be exported in its own form
 
 pub record ExportedCalls : Type 0 where
   -- a fresh table: the entries are lent by `&`
@@ -180,6 +183,10 @@ pub record ExportedCalls : Type 0 where
       × (fifth l ≡ optionOut (lent a) (now (fourth a)) (now (fifth a))) × (first l ≡ tt) × (second l ≡ tt) × (third l ≡ tt) × (fourth l ≡ tt))
   pub read-option : Promise read-option.ended read-option-reads.Asked read-option-reads.Learnt
       (λ κs a r l. (r ≡ peerShown (peerGiven (lent a) (now (fourth a)))) × (l ≡ (tt, (tt, (tt, (tt, tt))))))
+  -- the label of a new object: creator, folder, whether the folder transmutes, and whether the new object is a folder
+  pub new-object : Promise new-object.ended new-object-reads.Asked new-object-reads.Learnt
+      (λ κs a r l. (r ≡ objectShown (objectLabelOf (lent a) (now (fourth a)) (now (fifth a)) (sixth a) (seventh a)))
+      × (l ≡ (tt, (tt, (tt, (tt, (tt, (tt, (tt, tt)))))))))
   -- the very part of the lent labels, as a host in Rattle gets it: its bytes, and where it points
   pub label-part : Promise label-part.ended label-part-reads.Asked label-part-reads.Learnt
       (λ κs a r l. (now r ≡ labelGiven (lent a) (fourth a)) × PartFrom r (first a) (labelFrom (labelAnswer (lent a) (fourth a)) (fourth a))

@@ -2,7 +2,7 @@
 -- a name that has another number is refused. Assumes nothing.
 use Prim.Native.Nat.{ℕ, _+_, _≤_}
 use mathlib.Core.Path.{_≡_}
-use mathlib.Core.Bool.{true, false, not, _&&_}
+use mathlib.Core.Bool.{Bool, true, false, not, _&&_}
 use lib.Dec.{eqb, leb}
 use lib.ListN.{length, take, getD}
 use mathlib.Core.List.{List, [], _∷_, map, foldl}
@@ -23,6 +23,7 @@ use Rattle.rule_text.specs.RuleText.{longestRule}
 use Rattle.fixed_load.specs.Records.{recordLabel, labelPlace, recordSize}
 use Rattle.access.specs.declared.Denial.the-variants.{StarSubject, AnyOther}
 use Rattle.access.specs.declared.Answer.the-variants as answer
+use Rattle.new_object.specs.declared.ObjectLabel.the-variants as object
 use Rattle.lookups.specs.declared.Lookup.the-variants as lookup
 use Rattle.lookups.specs.declared.Label.the-variants as label
 use Rattle.output.specs.declared.Output.the-variants as output
@@ -32,7 +33,7 @@ use Rattle.reports.specs.declared.Report.{Report}
 use Rattle.reports.specs.declared.Loader.{Loader}
 use Rattle.load.specs.declared.Fed.the-variants as fed
 use Rattle.load.specs.declared.Ended.the-variants as ended
-use Rattle.answers.specs.Answers.{shown, writeShown, revokeShown, pieceShown, endShown, lookupShown, searchShown, outputShown}
+use Rattle.answers.specs.Answers.{shown, writeShown, revokeShown, pieceShown, endShown, lookupShown, searchShown, outputShown, objectShown}
 use Rattle.store.specs.Pairs.{no-rule, modesSoFar}
 
 -- the refusals and the limits, in 01's order; the last, of a listed rule, by 02, Six: five letters
@@ -82,7 +83,8 @@ pub record NumbersOf01 : Type 0 where
 -- of the record. Three: the place beside a 3, as every answer that has one shows it; a refusal is plain where its place is 0. Four: the highest category
 -- and the most bytes of a mapping write; and, which no paper has, the sizes of the lent parts, where their runs begin, and the bits of categories at both
 -- ends of each word of a set. Five: the refusals 16 to 19 and 21, the level of labels as their own bits, at which no mapping is written, the most bytes of such
--- a label and of a bitmap that is read, each byte of the option, and what a host gets for a label that was read
+-- a label and of a bitmap that is read, each byte of the option, and what a host gets for a label that was read. Seven: what a host gets for the label of a
+-- new object
 pub record NumbersOf02 : Type 0 where
   pub old-records :
       (refusal.badRecord .number ∷ refusal.notInARecord .number ∷ recordLabel ∷ labelPlace ∷ recordSize ∷ []) ≡ 14 ∷ 15 ∷ 23 ∷ 24 ∷ 53 ∷ []
@@ -128,4 +130,8 @@ pub record NumbersOf02 : Type 0 where
   pub peer-refused : (n : ℕ) →
       (peerShown (option.not-read n) .refused ≡ true) × (peerShown (option.not-read n) .number ≡ n) × (peerShown (option.not-read n) .length ≡ 0)
       × (length (peerShown (option.not-read n) .bytes) ≡ 255) × ((i : ℕ) → getD (peerShown (option.not-read n) .bytes) i 0 ≡ 0)
+  pub new-object : (objectShown object.Creator ≡ record { kind = 0; number = 0; transmutes = false })
+      × (objectShown object.Denied ≡ record { kind = 1; number = 0; transmutes = false })
+      × ((new-transmutes : Bool) → objectShown (object.Folder new-transmutes) ≡ record { kind = 2; number = 0; transmutes = new-transmutes })
+      × ((n : ℕ) → objectShown (object.Refused n) ≡ record { kind = 3; number = n; transmutes = false })
   pub no-category : noCategories ≡ record { first = 0; second = 0; third = 0 }

@@ -12,7 +12,7 @@ ghost use Rattle.lists.specs.Reader.{Call, Reply, events, reports};
 ghost use Rattle.calls.specs.Calls.{Fresh, Runs};
 ghost use Rattle.calls.specs.PlainReaders.{PlainReaders, refusal-of};
 ghost use Rattle.lists.specs.Tables.{TablesFollow};
-ghost use Rattle.claims.specs.Cases.{right, cases, furtherCases};
+ghost use Rattle.claims.specs.Cases.{right, cases, furtherCases, creationCases};
 ghost use Rattle.claims.specs.EachRule.{EachRule};
 ghost use Rattle.claims.specs.Examples.{ExamplesOf01, ExamplesOf02};
 ghost use Rattle.claims.specs.Exported.{ExportedCalls};
@@ -72,10 +72,11 @@ pub fn bytes_and_letters()
     ensures { λ _. ⌜ LettersAndBits ⌝ }
 {}
 
-// The cases P1 to P12, and further ones.
+// The cases P1 to P12, further ones, and those of a new object.
 pub fn either_side_of_a_limit()
     ensures { λ _. ⌜ all right cases ≡ true ⌝ }
     ensures { λ _. ⌜ all right furtherCases ≡ true ⌝ }
+    ensures { λ _. ⌜ all right creationCases ≡ true ⌝ }
 {}
 
 // 01's numbers, as they stand there: the refusals, the limits, and what a host gets for each case of an answer.

@@ -19,6 +19,7 @@ use Rattle.store.specs.Table.{Table, withOnlycap, numberIn}
 use Rattle.store.specs.Judged.{is-refused, is-accepted}
 use Rattle.onlycap.specs.Onlycap.{different, labelsWith, withList, loneDash, onlycapFields, onlycapWrite}
 use Rattle.access.specs.Access.{isFound, onList, effective}
+use Rattle.new_object.proofs.WhichLabel.{pair-alone}
 use Rattle.grown.specs.Pairs.{SoundTable}
 use Rattle.grown.proofs.Pairs.{modes-kept}
 use Rattle.effects.specs.Labels.{among, FirstAppearances}
@@ -44,6 +45,7 @@ module _ (t : Table) (sound : SoundTable t) where
         rules = refl;
         mappings = refl;
         modes = λ x y. modes-kept t (withOnlycap t []) sound (front-same (t .labels)) x y (λ i j a b. refl);
+        new-objects = λ x y. pair-alone (withOnlycap t []) t x y (modes-kept t (withOnlycap t []) sound (front-same (t .labels)) x y (λ i j a b. refl));
         look-ups = lookups-kept t (withOnlycap t []) sound (front-same (t .labels)) refl;
       }
 
@@ -105,6 +107,7 @@ module _ (t : Table) (sound : SoundTable t) where
           rules = refl;
           mappings = refl;
           modes = λ x y. modes-kept t (withList t fs) sound (fold-front fs (t .labels)) x y (λ i j a b. refl);
+          new-objects = λ x y. pair-alone (withList t fs) t x y (modes-kept t (withList t fs) sound (fold-front fs (t .labels)) x y (λ i j a b. refl));
           look-ups = lookups-kept t (withList t fs) sound (fold-front fs (t .labels)) refl;
         }
 

@@ -29,6 +29,7 @@ use Rattle.cipso.proofs.Laws.{said-known}
 use Rattle.lookups.specs.declared.Lookup.{Lookup}
 use Rattle.lookups.specs.declared.Lookup.the-variants.{Mapped, Unmapped, Refused}
 use Rattle.lookups.specs.Lookups.{mappedAs, lookedUp, lookupBy, labelLookup}
+use Rattle.new_object.proofs.WhichLabel.{pair-alone}
 use Rattle.grown.specs.Pairs.{SoundTable}
 use Rattle.grown.proofs.Sane.{one-label, sound-parts}
 use Rattle.grown.proofs.Pairs.{answer-same, modes-kept, override-kept}
@@ -180,6 +181,7 @@ module _ (t : Table) (sound : SoundTable t) (l : List ℕ) (level : ℕ) (s : Ca
             answer-same t t′ x y
             (modes-kept t t′ sound (enter-front (t .labels) l) x y (λ i j a b. refl))
             (override-kept t t′ sound (enter-front (t .labels) l) refl x);
+        new-objects = λ x y. pair-alone t′ t x y (modes-kept t t′ sound (enter-front (t .labels) l) x y (λ i j a b. refl));
       }
     where
       counted : (f : Found) → (f ≢ Nothing) → countAfter f (length (t .mappings)) ≡ length (t .mappings)

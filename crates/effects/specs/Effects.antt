@@ -19,6 +19,7 @@ use Rattle.store.specs.Pairs.{PairModes, has-modes, no-rule, ruleBetween, modes
 use Rattle.lookups.specs.declared.Lookup.the-variants.{Mapped, Unmapped}
 use Rattle.lookups.specs.Lookups.{labelLookup}
 use Rattle.access.specs.Access.{effective, answer}
+use Rattle.new_object.specs.WhichLabel.{SameNewObjects}
 use Rattle.grown.specs.Pairs.{hasRule}
 use Rattle.effects.specs.Labels.{among, FirstAppearances, Enter}
 
@@ -31,10 +32,11 @@ cleared no-rule = no-rule
 
 -- 01: every rule with that subject gets no modes and keeps its place
 pub record Revokes (t t′ : Table) (l : List ℕ) : Type 0 where
-  -- the label's pairs have no letter from now on; of another subject no modes change, and no answer
+  -- the label's pairs have no letter from now on; of another subject no modes change, no answer, and no label of a new object
   pub own : (o : List ℕ) → modesBetween t′ l o ≡ cleared (modesBetween t l o)
   pub others : (x y : List ℕ) → x ≢ l → modesBetween t′ x y ≡ modesBetween t x y
   pub other-answers : (x y request : List ℕ) (capable : Bool) → x ≢ l → answer t′ x y request capable ≡ answer t x y request capable
+  pub other-new-objects : (x y : List ℕ) → x ≢ l → SameNewObjects t′ t x y
   -- every rule keeps its place, its subject and its object; it loses its modes where its subject is the label's number, and stays whole elsewhere
   pub as-many : length (t′ .rules) ≡ length (t .rules)
   pub subjects : (k : ℕ) → ruleNumbered t′ k .subject ≡ ruleNumbered t k .subject
@@ -64,10 +66,11 @@ pub record SetsList (t t′ : Table) (ls : List (List ℕ)) : Type 0 where
   pub listed : FirstAppearances ls (map (labelNumbered t′) (t′ .onlycap))
   -- its labels enter
   pub labels : Enter t t′ ls
-  -- nothing else changes: no rule, no mapping, no pair's modes and no label's look-up
+  -- nothing else changes: no rule, no mapping, no pair's modes, no label of a new object (02, Seven: override isn't considered there) and no label's look-up
   pub rules : t′ .rules ≡ t .rules
   pub mappings : t′ .mappings ≡ t .mappings
   pub modes : (x y : List ℕ) → modesBetween t′ x y ≡ modesBetween t x y
+  pub new-objects : (x y : List ℕ) → SameNewObjects t′ t x y
   pub look-ups : (x : List ℕ) → labelLookup t′ x ≡ labelLookup t x
 
 -- 01: 1 to 8 different labels, or a lone dash to clear
@@ -93,10 +96,11 @@ pub record Maps (t t′ : Table) (l : List ℕ) (level : ℕ) (set : CategorySet
   pub last : labelLookup t l ≡ Unmapped → length (t′ .mappings) ≡ suc (length (t .mappings))
   -- its label enters
   pub labels : Enter t t′ (l ∷ [])
-  -- nothing else changes: no rule, nothing of the override list, and no answer
+  -- nothing else changes: no rule, nothing of the override list, no answer, and no label of a new object
   pub rules : t′ .rules ≡ t .rules
   pub onlycap : t′ .onlycap ≡ t .onlycap
   pub answers : (s o request : List ℕ) (capable : Bool) → answer t′ s o request capable ≡ answer t s o request capable
+  pub new-objects : (x y : List ℕ) → SameNewObjects t′ t x y
 
 -- ---- a line of rule text, and Change
 

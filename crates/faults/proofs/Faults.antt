@@ -16,7 +16,7 @@ use Rattle.search.proofs.Laws.{no, and-both, entries-length, all-at, first-none
 use Rattle.refusals.specs.Refusals.{damaged, tooLong, wrongFields, badAccess, sameLabels, labelsFull, rulesFull, badRequest, badLevelOrCategory, mappingsFull, tooManyOverrides, noSuchNumber, badLabelAt}
 use Rattle.refusals.specs.declared.Refusal.{Refusal}
 use Rattle.alphabet.specs.Alphabet.{wellFormed, badByte, badByteOfTwo, fields, badByteIn}
-use Rattle.modes.specs.Modes.{allowedByte, modesOf, readModes, lineLetters, changeLetters, requestLetters, any, storedModes}
+use Rattle.modes.specs.Modes.{allowedByte, modesOf, readModes, lineLetters, changeLetters, requestLetters, writeLetter, any, storedModes}
 use Rattle.modes.specs.declared.Access.the-variants.{Modes, Bad}
 use Rattle.numbers.specs.Categories.{isLevel, isMappingLevel, isCategory, knownSet, noCategories, withCategory}
 use Rattle.numbers.specs.declared.CategorySet.{CategorySet}
@@ -29,7 +29,7 @@ use Rattle.store.specs.declared.Mapping.{Mapping}
 use Rattle.store.specs.declared.Done.{Done}
 use Rattle.store.specs.declared.Done.the-variants as d
 use Rattle.store.specs.Table.{Table, fresh, labelIn, mappingIn, names, ruleNumbered, noPlace, withOnlycap, soundRule, soundMapping, soundTable}
-use Rattle.store.specs.Pairs.{modesFound, modesBetween, modesSoFar}
+use Rattle.store.specs.Pairs.{PairModes, modesFound, modesBetween, modesSoFar}
 use Rattle.store.specs.Layout.{Store, tableOf, fullSizes, undamagedOf, labelAt, ruleAt, mappingAt}
 use Rattle.store.specs.Judged.{Judged, is-skipped, is-refused, is-accepted, doneOf, onState, freshWrite, freshAnswer}
 use Rattle.store.proofs.Laws.{undamaged-is}
@@ -59,7 +59,10 @@ use Rattle.run.specs.declared.Best.the-variants as best
 use Rattle.run.specs.Run as run
 use Rattle.program.specs.Program.{asked, answerTo}
 use Rattle.access.specs.Access.{isFound, effective, answer, answered, decide, byRequest, questionOf}
-use Rattle.access.specs.SevenRules.{firstOf, sevenRules}
+use Rattle.new_object.specs.NewObject.{byRuleWithT, labelBy, labelFor, objectLabel, objectLabelOf}
+use Rattle.new_object.specs.declared.ObjectLabel.{ObjectLabel}
+use Rattle.new_object.specs.declared.ObjectLabel.the-variants as object
+use Rattle.access.specs.SevenRules.{firstOf, rulesFor, sevenRules}
 use Rattle.access.specs.declared.Verdict.{Verdict}
 use Rattle.access.specs.declared.Verdict.the-variants as verdict
 use Rattle.access.specs.declared.Answer.{Answer}
@@ -125,6 +128,7 @@ use Rattle.faults.specs.Faults.{
   field,
   askFaults,
   questionFaults,
+  newObjectFaults,
   asksAQuestion,
   questionLineFaults,
   listingFaults,
@@ -227,6 +231,21 @@ of-peer = refuses not-read peer-by (λ n. refl) from
     from : (x : Peer) (n : ℕ) → peer-by x ≡ by n → x ≡ not-read n
     from (peer.label x) n q = let z : _≡_ {A = ℕ} 0 1 = cc in absurd (omega arith)
     from (not-read m) n q = let z : m ≡ n = cc in ap not-read z
+
+abbrev object-by : ObjectLabel → First ℕ
+object-by object.Creator = none
+object-by object.Denied = none
+object-by (object.Folder x) = none
+object-by (object.Refused n) = by n
+
+of-object : (x : ObjectLabel) (faults : List (Fault ℕ)) → object-by x ≡ firstFault faults → Refuses x object.Refused faults
+of-object = refuses object.Refused object-by (λ n. refl) from
+  where
+    from : (x : ObjectLabel) (n : ℕ) → object-by x ≡ by n → x ≡ object.Refused n
+    from object.Creator n q = let z : _≡_ {A = ℕ} 0 1 = cc in absurd (omega arith)
+    from object.Denied n q = let z : _≡_ {A = ℕ} 0 1 = cc in absurd (omega arith)
+    from (object.Folder x) n q = let z : _≡_ {A = ℕ} 0 1 = cc in absurd (omega arith)
+    from (object.Refused m) n q = let z : m ≡ n = cc in ap object.Refused z
 
 abbrev answer-by : Answer → First Refusal
 answer-by (a.Granted x) = none
@@ -975,6 +994,35 @@ question-refused st s o request capable =
     of-answer _ (questionFaults st s o request)
     (state-first answer-by (undamagedOf st) _ (a.Refused damaged) _ refl (λ u. asked-first (tableOf st) s o request capable))
 
+-- ---- the label of a new object
+
+new-object-refused :
+    (st : Store) (creator folder : List ℕ) (transmutes isFolder : Bool) →
+    Refuses (objectLabelOf st creator folder transmutes isFolder) object.Refused (newObjectFaults st creator folder)
+unfolding objectLabelOf objectLabel labelFor
+new-object-refused st creator folder transmutes isFolder =
+    of-object _ (newObjectFaults st creator folder)
+    (state-first object-by (undamagedOf st) _ (object.Refused 0) _ refl (λ u. by-tests (wellFormed creator) (wellFormed folder)))
+  where
+    pair : PairModes
+    pair = modesBetween (tableOf st) creator folder
+
+    by-test : (b : Bool) → object-by (cond b (object.Folder isFolder) object.Creator) ≡ none
+    by-test true = refl
+    by-test false = refl
+
+    by-verdict : (v : Verdict) → object-by (labelBy v pair transmutes isFolder) ≡ none
+    by-verdict (verdict.Grants k) = by-test (transmutes && byRuleWithT k pair)
+    by-verdict (verdict.Denies x) = refl
+    by-verdict verdict.Undecided = refl
+
+    by-tests :
+        (p q : Bool) →
+        object-by (cond (p && q) (labelBy (firstOf (rulesFor creator folder pair writeLetter)) pair transmutes isFolder) (object.Refused 3)) ≡ cond (not p || not q) (by 3) none
+    by-tests false q = refl
+    by-tests true false = refl
+    by-tests true true = by-verdict (firstOf (rulesFor creator folder pair writeLetter))
+
 -- ---- a question line of the program
 
 question-line-refused : (t : Table) (line : List ℕ) → Refuses (answerTo (answer t) line) a.Refused (questionLineFaults line)
@@ -1056,6 +1104,7 @@ first-in-order =
       write-option = write-option-refused;
       read-option = read-option-refused;
       question = question-refused;
+      new-object = new-object-refused;
       question-line = question-line-refused;
       listing = listing-refused;
       label-by-number = label-refused;

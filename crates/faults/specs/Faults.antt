@@ -46,6 +46,8 @@ use Rattle.run.specs.declared.Record.{Record}
 use Rattle.run.specs.Run.{runOf}
 use Rattle.access.specs.Access.{isFound, answer, questionOf}
 use Rattle.access.specs.declared.Answer.the-variants as a
+use Rattle.new_object.specs.NewObject.{objectLabelOf}
+use Rattle.new_object.specs.declared.ObjectLabel.the-variants as object
 use Rattle.listing.specs.Listing.{ruleText, listAnswer, labelAnswer}
 use Rattle.output.specs.Output.{textAnswer}
 use Rattle.output.specs.declared.Output.the-variants as l
@@ -330,6 +332,15 @@ questionLineFaults line =
     ∷ refusal.wrongFields when not (asksAQuestion (fields line))
     ∷ askFaults (field (fields line) 0) (field (fields line) 1) (field (fields line) 2)
 
+-- ---- label of a new object (02, Seven): 3
+
+-- the creator's label or the folder's is not well formed. (02 asks for no place here)
+abbrev pub newObjectFaults : Store → List ℕ → List ℕ → List (Fault ℕ)
+newObjectFaults st creator folder =
+    refusal.damaged .number when not (undamagedOf st)
+    ∷ refusal.badLabel .number when badLabels creator folder
+    ∷ []
+
 -- ---- listing: 13 12; label by number: 13
 
 -- no rule of that number; its text is longer than the lent output
@@ -446,6 +457,9 @@ pub record FirstInOrder : Type 0 where
   pub question :
       (st : Store) (s o request : List ℕ) (capable : Bool) →
       Refuses (questionOf st s o request capable) a.Refused (questionFaults st s o request)
+  pub new-object :
+      (st : Store) (creator folder : List ℕ) (transmutes isFolder : Bool) →
+      Refuses (objectLabelOf st creator folder transmutes isFolder) object.Refused (newObjectFaults st creator folder)
   pub question-line : (t : Table) (line : List ℕ) → Refuses (answerTo (answer t) line) a.Refused (questionLineFaults line)
   pub listing : (st : Store) (k : ℕ) (out : List ℕ) → Refuses (listAnswer st k out) l.Refused (listingFaults st k out)
   pub label-by-number : (st : Store) (k : ℕ) → Refuses (labelAnswer st k) d.Refused (labelByNumberFaults st k)

@@ -23,10 +23,12 @@ use Rattle.listing.specs.Listing.{listAnswer, listOut, labelGiven, labelAnswer}
 use Rattle.cipso_option.specs.Option.{optionGiven, optionAnswer, optionOut, not-read, peerGiven, peerShown}
 use Rattle.output.specs.declared.Output.the-variants as listed
 use Rattle.access.specs.Access.{questionOf}
+use Rattle.new_object.specs.NewObject.{objectLabelOf}
+use Rattle.new_object.specs.declared.ObjectLabel.the-variants as object
 use Rattle.answers.specs.Answers.{shown}
 use Rattle.access.specs.declared.Answer.the-variants as a
 use Rattle.load.specs.Loader.{Load, load}
-use Rattle.answers.specs.Answers.{outputShown, lookupShown, searchShown, partShown}
+use Rattle.answers.specs.Answers.{outputShown, lookupShown, searchShown, objectShown, partShown}
 use Rattle.answers.specs.declared.Part.{Part}
 use Rattle.lists.specs.Reader as r
 use Rattle.lists.specs.Reader.{Reader, doneReply, countReply, Write, afterWrite, writeSays, writeOn, askSays}
@@ -100,6 +102,12 @@ module _ (st : Store) (u : undamagedOf st ≡ true) where
   unfolding peerGiven
   peer-says option = rw u
 
+  pub object-says :
+      (creator folder : List ℕ) (transmutes isFolder : Bool) →
+      r.labelled (objectShown (objectLabelOf st creator folder transmutes isFolder)) ≡ askSays (tableOf st) (r.new-object creator folder transmutes isFolder)
+  unfolding objectLabelOf
+  object-says creator folder transmutes isFolder = rw u
+
   pub check-says : (k : ℕ) → doneReply (labelAnswer st k) ≡ askSays (tableOf st) (r.label-check k)
   unfolding labelAnswer
   check-says k = rw u (by-test (ltb k (length (tableOf st .labels))))
@@ -164,6 +172,10 @@ module _ (st : Store) (u : undamagedOf st ≡ false) where
   pub peer-refused : (option : List ℕ) → peerGiven st option ≡ not-read 0
   unfolding peerGiven
   peer-refused option = rw u
+
+  pub object-refused : (creator folder : List ℕ) (transmutes isFolder : Bool) → objectLabelOf st creator folder transmutes isFolder ≡ object.Refused 0
+  unfolding objectLabelOf
+  object-refused creator folder transmutes isFolder = rw u
 
   pub list-refused : (k : ℕ) (out : List ℕ) → (listAnswer st k out ≡ listed.Refused 0) × (listOut st k out ≡ out)
   unfolding listAnswer listOut

@@ -24,7 +24,7 @@ use Rattle.load.specs.declared.Ended.{Ended}
 use Rattle.load.specs.declared.Ended.the-variants as e
 use Rattle.reports.specs.Report.{freshLoader}
 use Rattle.load.specs.Loader.{Load, load, ready, stepEnd, pieceAnswer, pieceAfter, endAnswer, endAfter}
-use Rattle.lists.specs.Reader.{Totals, Reader, startOn, takeByte, takePiece, finish, limitedTotals, Write, change, revoke, onlycap, mapping, Ask, question, by-label, by-level, list-rule, label, label-check, write-option, read-option, Call, piece, end-call, ask, write, Reply, done, refusal, report, label-is, doneReply, countReply, writeSays, askSays, writeOn, after, says, afterAll, saysAll, Event, byte, stop, wrote, events, reports}
+use Rattle.lists.specs.Reader.{Totals, Reader, startOn, takeByte, takePiece, finish, limitedTotals, Write, change, revoke, onlycap, mapping, Ask, question, by-label, by-level, list-rule, label, label-check, write-option, read-option, new-object, Call, piece, end-call, ask, write, Reply, done, refusal, report, label-is, doneReply, countReply, writeSays, askSays, writeOn, after, says, afterAll, saysAll, Event, byte, stop, wrote, events, reports}
 use Rattle.load.proofs.Laws.{is-ready}
 use Rattle.lists.proofs.Follows.{SameTotals, Holds, piece-follows, finish-follows, fresh-holds}
 
@@ -136,6 +136,7 @@ ask-reports t (by-level level set) rs = refl
 ask-reports t (list-rule k out) rs = refl
 ask-reports t (write-option l out) rs = refl
 ask-reports t (read-option option) rs = refl
+ask-reports t (new-object creator folder transmutes isFolder) rs = refl
 ask-reports t (label k) rs = by-test (ltb k (length (t .labels)))
   where
     by-test : (b : Bool) → reports (cond b (label-is (labelNumbered t k)) (refusal noSuchNumber) ∷ rs) ≡ reports rs

@@ -29,12 +29,14 @@ use Rattle.output.specs.Output.{textAnswer, textOut}
 use Rattle.cipso_option.specs.Option.{labelOption, peerOf, peerShown}
 use Rattle.cipso_option.specs.declared.PeerLabel.{PeerLabel}
 use Rattle.access.specs.Access.{answer}
+use Rattle.new_object.specs.NewObject.{objectLabel}
 use Rattle.answers.specs.Answers.{shown}
 use Rattle.answers.specs.declared.Shown.{Shown}
-use Rattle.answers.specs.Answers.{lookupShown, searchShown, outputShown}
+use Rattle.answers.specs.Answers.{lookupShown, searchShown, outputShown, objectShown}
 use Rattle.answers.specs.declared.Mapped.{Mapped}
 use Rattle.answers.specs.declared.Lowest.{Lowest}
 use Rattle.answers.specs.declared.Length.{Length}
+use Rattle.answers.specs.declared.Labelled.{Labelled}
 
 -- the report's numbers, as they are; `first`, `reason` and `place` are the number (from 1), the reason and the place of the first refused line, 0 where
 -- there is none; the place is 0, too, where the reason is not 3 (02, Three); `bringup` is how many accepted lines held b (02, Six)
@@ -144,7 +146,7 @@ pub data Write : Type 0 where
 
 -- the calls that write no table: a question (subject, object, request, and whether the asker has the capability), a mapping by label, by level and set,
 -- a rule by its number with the lent buffer, a label by its number, and the call beside it; the packet option of a label with the lent buffer, and the label
--- of an option
+-- of an option; the label of a new object (creator, folder, whether the folder transmutes, and whether the new object is a folder)
 pub data Ask : Type 0 where
   question : List ℕ → List ℕ → List ℕ → Bool → Ask
   by-label : List ℕ → Ask
@@ -154,6 +156,7 @@ pub data Ask : Type 0 where
   label-check : ℕ → Ask
   write-option : List ℕ → List ℕ → Ask
   read-option : List ℕ → Ask
+  new-object : List ℕ → List ℕ → Bool → Bool → Ask
 
 pub data Call : Type 0 where
   piece : List ℕ → Call
@@ -172,6 +175,7 @@ pub data Reply : Type 0 where
   lowest : Lowest → Reply
   listed : Length → List ℕ → Reply
   peer : PeerLabel → Reply
+  labelled : Labelled → Reply
   label-is : List ℕ → Reply
 
 abbrev pub doneReply : Done → Reply
@@ -209,6 +213,7 @@ askSays t (label k) = cond (ltb k (length (t .labels))) (label-is (labelNumbered
 askSays t (label-check k) = cond (ltb k (length (t .labels))) done (refusal noSuchNumber)
 askSays t (write-option l out) = listed (outputShown (textAnswer (labelOption t l) out)) (textOut (labelOption t l) out)
 askSays t (read-option option) = peer (peerShown (peerOf t option))
+askSays t (new-object creator folder transmutes isFolder) = labelled (objectShown (objectLabel t creator folder transmutes isFolder))
 
 -- a line under way stays under way: it is judged at its end, against the table as it then is
 abbrev pub writeOn : Reader → Write → Reader
@@ -259,4 +264,5 @@ reports (mapped m ∷ rs) = reports rs
 reports (lowest l ∷ rs) = reports rs
 reports (listed n out ∷ rs) = reports rs
 reports (peer p ∷ rs) = reports rs
+reports (labelled l ∷ rs) = reports rs
 reports (label-is l ∷ rs) = reports rs

@@ -76,6 +76,13 @@ requestLetters = 60
 abbrev pub readExecute : ℕ
 readExecute = 40
 
+-- w alone, and t: the label of a new object goes by these (02, Seven)
+abbrev pub writeLetter : ℕ
+writeLetter = 16
+
+abbrev pub transmuteLetter : ℕ
+transmuteLetter = 2
+
 -- the modes that a table may store: no other bit than those of a rule's letters (01: an unknown mode bit is damage; and by 02, Six, 1, which stored b, is one)
 unfoldable pub knownModes : ℕ → Bool
 knownModes m = eqb (bitAnd m ruleLetters) m
@@ -125,6 +132,8 @@ pub record LettersAndBits : Type 0 where
   pub in-a-rule : modesText ruleLetters ≡ ascii "rwxat"
   pub in-a-request : modesText requestLetters ≡ ascii "rwxa"
   pub read-execute : modesText readExecute ≡ ascii "rx"
+  pub write-letter : modesText writeLetter ≡ ascii "w"
+  pub transmute-letter : modesText transmuteLetter ≡ ascii "t"
   pub known : (m : ℕ) → (knownModes m ≡ true) ↔ ((m < 64) × (m % 2 ≡ 0))
   pub stored : (m l : ℕ) → oneOf (ascii "rwxat") l ≡ true → has (storedModes m) (bitOf l) ≡ has m (bitOf l)
   pub stored-known : (m : ℕ) → knownModes (storedModes m) ≡ true

@@ -60,6 +60,11 @@ pub const REQUEST_LETTERS: u8 = 60;
 // The first letter, r: the bits go down by halves in the order of the letters.
 pub const READ: u8 = 32;
 
+// The letters w and t: the label of a new object goes by these (02, Seven).
+pub const WRITE: u8 = 16;
+
+pub const TRANSMUTE: u8 = 2;
+
 // The bit that a small letter has and a capital one has not.
 const SMALL: u8 = 32;
 

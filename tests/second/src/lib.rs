@@ -1,7 +1,8 @@
 //! A plain reference: the paper 01 ("What is to be built") and the requests One
 //! ("Old fixed records"), Three ("Where is the bad byte?"), Four ("Categories stop
-//! too early"), Five ("Packet option, writer and reader") and Six ("The bring-up
-//! letter goes") of the paper 02 said again as code. Request Two changes no answer.
+//! too early"), Five ("Packet option, writer and reader"), Six ("The bring-up letter
+//! goes") and Seven ("Record files in a shared folder") of the paper 02 said again
+//! as code. Request Two changes no answer.
 //!
 //! - `plain`: the tables, the loader and every call of the papers. Nothing here
 //!   can be damaged, so refusal 0 does not occur.

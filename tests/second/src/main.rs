@@ -23,6 +23,7 @@ fn main() -> ExitCode {
                 ["categories"] => Kind::Categories,
                 ["options"] => Kind::Options,
                 ["bringup"] => Kind::Bringup,
+                ["newobjects"] => Kind::NewObjects,
                 _ => return usage(),
             };
             match (seed.parse(), count.parse()) {
@@ -43,7 +44,7 @@ fn main() -> ExitCode {
 
 fn usage() -> ExitCode {
     eprintln!(
-        "usage: second program | second script | second random SEED COUNT [records | searches | places | categories | options | bringup]"
+        "usage: second program | second script | second random SEED COUNT [records | searches | places | categories | options | bringup | newobjects]"
     );
     ExitCode::FAILURE
 }

@@ -2,9 +2,10 @@
 //!
 //! Words in quotes are the paper's. The order of this file is the paper's:
 //! labels, modes, rule text, single writes, look-ups, questions, listing; then
-//! request One of 02, old fixed records, and request Five, the packet option. The
-//! places of request Three, the categories of request Four and what request Six
-//! left of b stand with the labels, fields and calls that they belong to.
+//! request One of 02, old fixed records, request Five, the packet option, and
+//! request Seven, the label of a new object. The places of request Three, the
+//! categories of request Four and what request Six left of b stand with the labels,
+//! fields and calls that they belong to.
 //! A table here is never damaged; see `raw` for lent memory and refusal 0.
 
 use std::collections::BTreeSet;
@@ -444,6 +445,12 @@ impl Table {
         let subject = self.number_of(subject)?;
         let object = self.number_of(object)?;
         self.place_of_rule(subject, object)
+    }
+
+    /// The modes of the pair's rule, where the pair has one.
+    fn modes_of_pair(&self, subject: &[u8], object: &[u8]) -> Option<u8> {
+        let place = self.place_of_pair(subject, object)?;
+        Some(self.rules[place].2)
     }
 
     /// The place of the mapping of the label with this number: "the first counts".
@@ -977,8 +984,7 @@ impl Table {
             return Answer::Granted { rule: 5 };
         }
         // 6. "The pair has a rule whose modes hold every requested letter: granted."
-        if let Some(place) = self.place_of_pair(subject, object) {
-            let modes = self.rules[place].2;
+        if let Some(modes) = self.modes_of_pair(subject, object) {
             if modes & request == request {
                 return Answer::Granted { rule: 6 };
             }
@@ -1341,6 +1347,61 @@ impl Table {
         match self.lowest_with(u64::from(level), &set) {
             Some(number) => Ok(self.labels[number].clone()),
             None => Err(Refusal::NoMappingMatches),
+        }
+    }
+}
+
+// ---------------------------------------------------------------------------
+// The label of a new object (02, Seven)
+// ---------------------------------------------------------------------------
+
+/// What is said of a new object: the label that it gets, "denied", or refused with
+/// its number. "a new folder then transmutes too" is said of the folder's label
+/// alone; with the creator's label "it doesn't transmute".
+#[derive(Clone, Copy, PartialEq, Eq, Debug)]
+pub enum NewObject {
+    CreatorLabel,
+    FolderLabel { transmutes: bool },
+    Denied,
+    Refused(Refusal),
+}
+
+impl Table {
+    /// "the label of a new object: given creator, folder label, whether the folder
+    /// transmutes, and whether the new object is a folder". Refusal 3, for the creator
+    /// or the folder's label. This call is not 01's, so no place is told beside its 3:
+    /// it is 0 here. Nothing changes.
+    pub fn new_object(
+        &self,
+        creator: &[u8],
+        folder: &[u8],
+        folder_transmutes: bool,
+        is_folder: bool,
+    ) -> NewObject {
+        if !is_well_formed(creator) || !is_well_formed(folder) {
+            return NewObject::Refused(Refusal::BadLabel { place: 0 });
+        }
+        // "If the creator may not write to the folder by rules 1 to 7, say denied;
+        // override isn't considered here."
+        let Answer::Granted { rule } = self.seven_rules(creator, folder, W) else {
+            return NewObject::Denied;
+        };
+        // "The folder's label is given when the folder transmutes and rule 6 granted
+        // the write by a rule with t; a new folder then transmutes too."
+        if folder_transmutes && rule == 6 && self.rule_has_t(creator, folder) {
+            return NewObject::FolderLabel {
+                transmutes: is_folder,
+            };
+        }
+        // "Otherwise it's the creator's label, and it doesn't transmute."
+        NewObject::CreatorLabel
+    }
+
+    /// Whether the rule that rule 6 goes by is "a rule with t".
+    fn rule_has_t(&self, subject: &[u8], object: &[u8]) -> bool {
+        match self.modes_of_pair(subject, object) {
+            Some(modes) => modes & T != 0,
+            None => false,
         }
     }
 }

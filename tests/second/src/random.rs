@@ -16,7 +16,8 @@
 use std::io::{self, Write};
 
 use crate::plain::{
-    self, category_bit, class_of, option_bytes, own_bits, set_of, words_of, Class, Table, Words,
+    self, category_bit, class_of, option_bytes, own_bits, set_of, words_of, Class, NewObject,
+    Table, Words,
 };
 use crate::raw;
 use crate::script::{write_hex, write_set, Machine};
@@ -70,8 +71,9 @@ impl Xorshift {
 /// lines and back; questions, and some writes, about labels that are hard to
 /// tell apart; the calls that tell the place of a bad byte; mappings, look-ups and
 /// runs of sets that are hard to tell apart; the packet option's writer and reader,
-/// with mappings and look-ups beside them; or lines with the retired letter b, with
-/// changes, requests and conversions that have it and states that stored it.
+/// with mappings and look-ups beside them; lines with the retired letter b, with
+/// changes, requests and conversions that have it and states that stored it; or the
+/// labels of new objects, with the rules that they go by.
 #[derive(Clone, Copy, PartialEq, Eq)]
 pub enum Kind {
     Every,
@@ -81,6 +83,7 @@ pub enum Kind {
     Categories,
     Options,
     Bringup,
+    NewObjects,
 }
 
 /// Lengths just under and over 600 bytes, and for a mapping over 1,000 too.
@@ -116,6 +119,7 @@ pub fn write_script(seed: u64, count: u64, kind: Kind, output: &mut dyn Write) -
             Kind::Categories => generator.categories_episode(),
             Kind::Options => generator.options_episode(),
             Kind::Bringup => generator.bringup_episode(),
+            Kind::NewObjects => generator.newobjects_episode(),
         }
     }
     match generator.error {
@@ -543,6 +547,10 @@ impl Generator<'_> {
         count: u64,
     ) {
         for _ in 0..1 + self.random.below(4) {
+            if self.left == 0 {
+                // The last call may have been a resize, which nothing mends any more.
+                return;
+            }
             let resized = self.random.chance(15);
             let mend = match resized {
                 true => self.resize_part(),
@@ -1252,7 +1260,7 @@ impl Generator<'_> {
     }
 
     fn any_call(&mut self) {
-        match self.random.below(118) {
+        match self.random.below(122) {
             0..=21 => self.piece_call(),
             22..=26 => self.emit("end"),
             27..=35 => self.change_call(),
@@ -1270,6 +1278,7 @@ impl Generator<'_> {
             104..=107 => self.write_option_call(),
             108..=112 => self.read_option_call(),
             113 => self.map_near_250(),
+            114..=117 => self.new_object_call(),
             _ => self.emit("dump"),
         }
         self.some_dump();
@@ -1299,6 +1308,7 @@ impl Generator<'_> {
         self.line_call();
         self.write_option_call();
         self.read_option_call();
+        self.new_object_call();
         self.emit("dump");
     }
 
@@ -3246,6 +3256,347 @@ impl Generator<'_> {
                     }
                 }
             }
+        }
+    }
+
+    // -----------------------------------------------------------------------
+    // The label of a new object
+    // -----------------------------------------------------------------------
+
+    /// New objects of few creators in few folders, in a table that is fresh, grown,
+    /// lent, full or damaged.
+    fn newobjects_episode(&mut self) {
+        self.emit("fresh");
+        self.emit("freshloader");
+        self.pending.clear();
+        self.make_folder_pool();
+        self.new_percent = 3;
+        match self.random.below(16) {
+            0 => {}
+            1..=6 => self.grow_folders(),
+            7..=12 => self.lend_folders(),
+            13 => {
+                let target = self.random.pick(&[30, 64]);
+                self.fill_labels_to(target);
+                let target = self.random.pick(&[100, 255, 256]);
+                self.fill_rules_to(target);
+            }
+            _ => {
+                match self.random.below(2) {
+                    0 => self.grow_folders(),
+                    _ => self.lend_folders(),
+                }
+                self.damage_and_mend(Self::damage, Self::folder_call, 6);
+            }
+        }
+        self.emit("dump");
+        for _ in 0..40 + self.random.below(60) {
+            self.folder_call();
+        }
+        self.emit("end");
+        self.emit("dump");
+    }
+
+    /// A few labels, so that creators and folders meet often: names, labels that
+    /// agree but for their last byte, or labels one byte or one length apart. Mostly
+    /// some marks are among them.
+    fn make_folder_pool(&mut self) {
+        self.pool.clear();
+        match self.random.below(3) {
+            0 => {
+                for name in ["Recorder", "Alarm", "Records", "alarm", "w", "t"] {
+                    self.pool.push(name.as_bytes().to_vec());
+                }
+            }
+            1 => {
+                let length = self.random.pick(&[1, 22, 23, 24, 40, 253, 254]);
+                for last in b"abcd" {
+                    let mut label = vec![b'L'; length];
+                    label.push(*last);
+                    self.pool.push(label);
+                }
+            }
+            _ => {
+                let length = self.random.pick(&[1, 2, 4, 8, 22, 23, 24, 64, 254, 255]);
+                let first = self.label_of_length(length);
+                self.pool.push(first);
+                for _ in 0..3 {
+                    let label = self.pool_label();
+                    let near = self.near_label(&label);
+                    self.pool.push(near);
+                }
+            }
+        }
+        for _ in 0..self.random.pick(&[0, 1, 2, 3]) {
+            self.pool.push(vec![self.random.pick(b"_^*?@")]);
+        }
+    }
+
+    /// The modes of a rule: none, any of the 32 sets, or one with w, or with w and t.
+    fn folder_modes(&mut self) -> u8 {
+        let any = self.random.byte() & plain::MODE_LETTERS;
+        match self.random.below(10) {
+            0 => 0,
+            1..=3 => any,
+            4 | 5 => any | plain::W,
+            _ => any | plain::W | plain::T,
+        }
+    }
+
+    /// Such modes as an access field, in either case, now and then with a placeholder.
+    fn folder_access(&mut self) -> Vec<u8> {
+        let modes = self.folder_modes();
+        let mut field = Vec::new();
+        for (letter, bit) in plain::LETTERS {
+            if modes & bit != 0 {
+                let large = letter.to_ascii_uppercase();
+                field.push(self.random.pick(&[letter, letter, large]));
+            }
+        }
+        if field.is_empty() || self.random.chance(10) {
+            let at = self.random.below(field.len() as u64 + 1) as usize;
+            field.insert(at, self.random.pick(b"--b"));
+        }
+        field
+    }
+
+    /// A line with such a field: mostly of two labels of the pool or of a pair that has
+    /// a rule, now and then any line.
+    fn folder_line(&mut self) -> Vec<u8> {
+        if self.random.chance(8) {
+            return self.rule_line();
+        }
+        let (creator, folder) = match self.ruled_pair() {
+            Some((creator, folder, _)) if self.random.chance(30) => (creator, folder),
+            _ => (self.pool_label(), self.pool_label()),
+        };
+        let access = self.folder_access();
+        self.join(&[creator, folder, access])
+    }
+
+    fn folder_text(&mut self) -> Vec<u8> {
+        let mut text = Vec::new();
+        for _ in 0..1 + self.random.below(4) {
+            text.extend(self.folder_line());
+            text.push(b'\n');
+        }
+        if self.random.chance(30) {
+            text.pop();
+        }
+        text
+    }
+
+    /// A change that gives or takes w or t, or other letters, mostly of a pair that has
+    /// a rule.
+    fn folder_change(&mut self) {
+        let (creator, folder) = match self.ruled_pair() {
+            Some((creator, folder, _)) if self.random.chance(70) => (creator, folder),
+            _ => (self.pool_label(), self.pool_label()),
+        };
+        let mut allow = self.letters(b"wtWTrxa-", 2);
+        let mut deny = self.letters(b"wtWTrxa-", 2);
+        match self.random.below(3) {
+            0 => allow = b"-".to_vec(),
+            1 => deny = b"-".to_vec(),
+            _ => {}
+        }
+        let write = self.join(&[creator, folder, allow, deny]);
+        self.emit(&format!("change {}", write_hex(&write)));
+    }
+
+    /// The rules come in by text in random cuts, and by changes.
+    fn grow_folders(&mut self) {
+        for _ in 0..self.random.pick(&[2, 4, 8, 12]) {
+            self.pending = self.folder_text();
+            self.pending.push(b'\n');
+            self.piece_call();
+            if self.random.chance(20) {
+                self.folder_change();
+            }
+        }
+    }
+
+    /// A table that need not have been grown: the five labels and those of the pool,
+    /// some of them twice, now and then in another order, cut, or at the end of 64;
+    /// rules of any two of them, of a label and itself too, some pairs twice with other
+    /// modes, some under the second number of a label; and an override list. Behind the
+    /// count lie rules that would count if it were larger.
+    fn lend_folders(&mut self) {
+        let mut labels: Vec<Vec<u8>> = Table::fresh().labels;
+        labels.extend(self.pool.clone());
+        for _ in 0..self.random.pick(&[0, 0, 1, 2, 4]) {
+            labels.push(self.pool_label());
+        }
+        if self.random.chance(30) {
+            let one = self.random.below(5) as usize;
+            let other = self.random.below(labels.len() as u64) as usize;
+            labels.swap(one, other);
+        }
+        if self.random.chance(10) {
+            let count = 1 + self.random.below(labels.len() as u64);
+            labels.truncate(count as usize);
+        }
+        let mut lowest = 0;
+        if self.random.chance(12) {
+            // Labels that have no rule stand before them.
+            while labels.len() < plain::LABEL_PLACES {
+                labels.insert(0, format!("F{}", labels.len()).into_bytes());
+                lowest += 1;
+            }
+        }
+        let mut store = Vec::new();
+        for label in &labels {
+            store.push(label.len() as u8);
+            store.extend_from_slice(label);
+            store.resize(store.len().next_multiple_of(raw::PLACE), 0);
+        }
+        self.emit(&format!("poke labels 0 {}", write_hex(&store)));
+        let count = labels.len() as u64;
+        self.emit(&format!("poke words {} {count}", raw::LABEL_COUNT));
+        let rules = self.random.pick(&[1, 4, 8, 16, 32, 64, 255, 256]);
+        let places = (rules + self.random.pick(&[0, 1, 8])).min(256);
+        let mut rows = [Vec::new(), Vec::new(), Vec::new()];
+        for place in 0..places {
+            let mut pair = [lowest; 2].map(|n| (n + self.random.below(count - n)) as u8);
+            if place > 0 && self.random.chance(30) {
+                // The pair of an earlier rule, or turned, or its creator with itself.
+                let before = self.random.below(place) as usize;
+                let (creator, folder) = (rows[0][before], rows[1][before]);
+                let turned = [folder, creator];
+                let alone = [creator, creator];
+                pair = [creator, folder];
+                pair = self.random.pick(&[pair, pair, turned, alone]);
+            }
+            rows[0].push(pair[0]);
+            rows[1].push(pair[1]);
+            rows[2].push(self.folder_modes());
+        }
+        for (at, row) in [raw::SUBJECTS, raw::OBJECTS, raw::MODES].iter().zip(rows) {
+            self.emit(&format!("poke entries {at} {}", write_hex(&row)));
+        }
+        self.emit(&format!("poke words {} {rules}", raw::RULE_COUNT));
+        let overrides = self.random.pick(&[0, 0, 1, 2, 8]);
+        let bytes: Vec<u8> = (0..8).map(|_| self.random.below(count) as u8).collect();
+        let at = raw::OVERRIDES;
+        self.emit(&format!("poke entries {at} {}", write_hex(&bytes)));
+        self.emit(&format!("poke words {} {overrides}", raw::OVERRIDE_COUNT));
+    }
+
+    /// The two labels of the last rule, or of the first behind the count where they are
+    /// labels.
+    fn pair_at_count(&mut self) -> Option<(Vec<u8>, Vec<u8>)> {
+        let table = self.table()?;
+        let count = table.rules.len();
+        let place = self.random.pick(&[count.saturating_sub(1), count]);
+        if place == plain::RULE_PLACES {
+            return None;
+        }
+        let entries = &self.machine.state.entries;
+        let label = |row: usize| table.labels.get(usize::from(entries[row + place]));
+        let (creator, folder) = (label(raw::SUBJECTS)?, label(raw::OBJECTS)?);
+        Some((creator.clone(), folder.clone()))
+    }
+
+    /// The two labels of a rule by which the folder's label is given, where there is one.
+    fn transmuting_pair(&mut self) -> Option<(Vec<u8>, Vec<u8>)> {
+        let table = self.table()?;
+        let mut pairs = Vec::new();
+        for (creator, folder, _) in &table.rules {
+            let (creator, folder) = (&table.labels[*creator], &table.labels[*folder]);
+            let answer = table.new_object(creator, folder, true, false);
+            if matches!(answer, NewObject::FolderLabel { .. }) {
+                pairs.push((creator, folder));
+            }
+        }
+        if pairs.is_empty() {
+            return None;
+        }
+        let (creator, folder) = self.random.pick(&pairs);
+        Some((creator.clone(), folder.clone()))
+    }
+
+    /// Creator and folder often have a rule by which the folder's label is given, or any
+    /// rule; now and then one of them is another label, or near it, or ill-formed.
+    /// Sometimes the question for w stands beside it.
+    fn new_object_call(&mut self) {
+        let mut creator = self.label();
+        let mut folder = self.label();
+        if self.random.chance(60) {
+            if let Some((one, other, _)) = self.ruled_pair() {
+                (creator, folder) = (one, other);
+            }
+        }
+        if self.random.chance(65) {
+            if let Some((one, other)) = self.transmuting_pair() {
+                (creator, folder) = (one, other);
+            }
+        }
+        if self.random.chance(3) {
+            if let Some((one, other)) = self.pair_at_count() {
+                (creator, folder) = (one, other);
+            }
+        }
+        match self.random.below(60) {
+            0 => creator = folder.clone(),
+            1 => folder = creator.clone(),
+            2 | 3 => std::mem::swap(&mut creator, &mut folder),
+            4 => creator = self.near_label(&creator),
+            5 => folder = self.near_label(&folder),
+            6 => creator = vec![self.random.pick(b"_^*?@")],
+            7 => folder = vec![self.random.pick(b"_^*?@")],
+            8 => creator = self.bad_label(),
+            9 => folder = self.bad_label(),
+            10 => match self.random.below(3) {
+                0 => creator = Vec::new(),
+                1 => folder = Vec::new(),
+                _ => (creator, folder) = (self.bad_label(), self.bad_label()),
+            },
+            11 => match self.random.below(3) {
+                0 => creator = self.new_name(),
+                1 => folder = self.new_name(),
+                _ => {
+                    creator = self.new_name();
+                    folder = creator.clone();
+                }
+            },
+            _ => {}
+        }
+        let transmutes = u8::from(self.random.chance(80));
+        let is_folder = self.random.below(2);
+        self.emit(&format!(
+            "newobject {} {} {transmutes} {is_folder}",
+            write_hex(&creator),
+            write_hex(&folder)
+        ));
+        if self.random.chance(12) {
+            self.emit_question(&creator, &folder, b"w");
+        }
+    }
+
+    /// The label of a new object, or a call that changes the rules it goes by.
+    fn folder_call(&mut self) {
+        match self.random.below(50) {
+            0..=35 => self.new_object_call(),
+            36..=38 => {
+                if self.pending.is_empty() {
+                    self.pending = self.folder_text();
+                }
+                self.piece_call();
+            }
+            39 => self.emit("end"),
+            40..=42 => self.folder_change(),
+            43 | 44 => self.override_call(),
+            45 => match self.random.below(3) {
+                0 => self.revoke_call(),
+                1 => self.list_call(),
+                _ => self.label_call(),
+            },
+            46 => self.oddity(),
+            47 => self.any_call(),
+            _ => self.emit("dump"),
+        }
+        if self.random.chance(4) {
+            self.emit("dump");
         }
     }
 }

@@ -19,8 +19,8 @@
 
 use crate::plain::{
     self, has_unknown_bit, limited, search_run, set_of, words_of, Answer, Found, Loader, Mapping,
-    Record, Refusal, Report, Table, Words, LABEL_PLACES, LINE_LIMIT, MAPPING_PLACES, MODE_LETTERS,
-    OVERRIDE_PLACES, RULE_PLACES,
+    NewObject, Record, Refusal, Report, Table, Words, LABEL_PLACES, LINE_LIMIT, MAPPING_PLACES,
+    MODE_LETTERS, OVERRIDE_PLACES, RULE_PLACES,
 };
 
 /// A label's place: one byte of length and up to 255 bytes of label.
@@ -442,4 +442,18 @@ pub fn write_option(state: &RawState, label: &[u8], output: &mut [u8]) -> Result
 /// The label that an option says, by value. Refusals 0 16 17 18 3 21.
 pub fn read_option(state: &RawState, option: &[u8]) -> Result<Vec<u8>, Refusal> {
     table_of(state)?.read_option(option)
+}
+
+/// The label of a new object. Refusals 0 3.
+pub fn new_object(
+    state: &RawState,
+    creator: &[u8],
+    folder: &[u8],
+    folder_transmutes: bool,
+    is_folder: bool,
+) -> NewObject {
+    match table_of(state) {
+        Ok(table) => table.new_object(creator, folder, folder_transmutes, is_folder),
+        Err(refusal) => NewObject::Refused(refusal),
+    }
 }

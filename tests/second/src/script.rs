@@ -28,6 +28,7 @@
 //! | `linetorecord HEX OUT` | `length N HEX` or `refused N HEX`: the whole output afterwards |
 //! | `writeoption LABEL OUT` | `length N HEX` or `refused N HEX`: the whole output afterwards |
 //! | `readoption HEX` | `peer HEX` or `refused N` |
+//! | `newobject CREATOR FOLDER T D`, both `0` or `1` | `creator`, `folder 0`, `folder 1`, `denied` or `refused N` |
 //! | `poke labels OFFSET HEX` | `done`: the bytes from OFFSET on |
 //! | `poke entries OFFSET HEX` | `done` |
 //! | `poke words INDEX VALUE` | `done`: one word |
@@ -39,15 +40,19 @@
 //! SET is the three words of a set with `:` between.
 //!
 //! PLACE is where the first bad byte of the first bad label stands, from 0. The
-//! two calls for old records and the two for the packet option have none: their 3
-//! is `refused 3 HEX`, and `refused 3` of `readoption`.
+//! two calls for old records, the two for the packet option and that for a new
+//! object have none: their 3 is `refused 3 HEX`, and `refused 3` of `readoption` and
+//! `newobject`.
+//!
+//! In `newobject` T is `1` where the folder transmutes, D where the new object is a
+//! folder; behind `folder` stands whether the new object transmutes.
 //!
 //! In a dump H is the 64-bit FNV-1a hash of a part as 16 hex digits; a word
 //! counts as its eight bytes, lowest first. A count whose word has been cut off
 //! is written `-`. Before the first call there are a fresh table and a fresh
 //! loader.
 
-use crate::plain::{words_of, Answer, Record, Refusal, Report, Words};
+use crate::plain::{words_of, Answer, NewObject, Record, Refusal, Report, Words};
 use crate::program::answer_text;
 use crate::raw::{self, RawLoader, RawState};
 
@@ -157,11 +162,7 @@ impl Machine {
                 let subject = read_hex(subject)?;
                 let object = read_hex(object)?;
                 let request = read_hex(request)?;
-                let has_override = match *capability {
-                    "0" => false,
-                    "1" => true,
-                    _ => return None,
-                };
+                let has_override = read_flag(capability)?;
                 let answer = raw::question(&self.state, &subject, &object, &request, has_override);
                 Some(match answer {
                     Answer::Refused(refusal) => refused_text(refusal),
@@ -205,6 +206,14 @@ impl Machine {
                     // No place is told beside a 3.
                     Err(refusal) => format!("refused {}", refusal.number()),
                 })
+            }
+            ["newobject", creator, folder, transmutes, is_folder] => {
+                let creator = read_hex(creator)?;
+                let folder = read_hex(folder)?;
+                let transmutes = read_flag(transmutes)?;
+                let is_folder = read_flag(is_folder)?;
+                let answer = raw::new_object(&self.state, &creator, &folder, transmutes, is_folder);
+                Some(new_object_text(answer))
             }
             ["poke", part, at, value] => self.poke(part, read_u64(at)?, value),
             ["resize", part, size] => self.resize(part, read_u64(size)?),
@@ -331,6 +340,25 @@ fn length_text(answer: Result<usize, Refusal>, output: &[u8]) -> String {
         Err(refusal) => format!("refused {}", refusal.number()),
     };
     format!("{answer} {}", write_hex(output))
+}
+
+/// The label that a new object gets. No place is told beside a 3.
+fn new_object_text(answer: NewObject) -> String {
+    match answer {
+        NewObject::CreatorLabel => "creator".to_string(),
+        NewObject::FolderLabel { transmutes } => format!("folder {}", u8::from(transmutes)),
+        NewObject::Denied => "denied".to_string(),
+        NewObject::Refused(refusal) => format!("refused {}", refusal.number()),
+    }
+}
+
+/// `1` for yes, `0` for no.
+fn read_flag(word: &str) -> Option<bool> {
+    match word {
+        "0" => Some(false),
+        "1" => Some(true),
+        _ => None,
+    }
 }
 
 /// A decimal number: digits alone.

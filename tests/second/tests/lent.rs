@@ -46,6 +46,10 @@ fn assert_every_call_gets_0(state: &RawState) {
                 raw::question(&copy, text, b"B", b"r", capability),
                 Answer::Refused(Refusal::Damaged)
             );
+            assert_eq!(
+                raw::new_object(&copy, text, text, capability, !capability),
+                NewObject::Refused(Refusal::Damaged)
+            );
         }
     }
     assert_eq!(raw::end(&mut copy, &mut loader), Err(Refusal::Damaged));
@@ -59,6 +63,12 @@ fn assert_every_call_gets_0(state: &RawState) {
         raw::question(&copy, b"A", b"A", b"r", true),
         Answer::Refused(Refusal::Damaged)
     );
+    for (creator, folder) in [(b"B", b"C"), (b"A", b"A"), (b"*", b"*"), (b"A", b"*")] {
+        assert_eq!(
+            raw::new_object(&copy, creator, folder, true, true),
+            NewObject::Refused(Refusal::Damaged)
+        );
+    }
     assert_eq!(raw::by_label(&copy, b"A"), Err(Refusal::Damaged));
     assert_eq!(raw::by_level(&copy, 9, &[2, 0, 0]), Err(Refusal::Damaged));
     assert_eq!(raw::by_level(&copy, 256, &[0, 0, 1]), Err(Refusal::Damaged));

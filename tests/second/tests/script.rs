@@ -2,7 +2,7 @@
 
 use std::collections::{BTreeMap, BTreeSet};
 
-use second::plain::{fields, Line, Loader, Refusal, Table};
+use second::plain::{fields, is_well_formed, Answer, Line, Loader, Refusal, Table, T, W};
 use second::random::{write_script, Kind, Xorshift};
 use second::raw;
 use second::script::{fnv1a, read_hex, write_hex, Machine};
@@ -133,9 +133,21 @@ fn every_form() {
         ("poke labels 1536 00", "done"),
         ("readoption 861200000003010c00094000000000000001", "peer -"),
         ("poke labels 1536 03", "done"),
+        // `Alarm Air wt`
+        ("change 416c61726d20416972207774202d", "done"),
+        ("newobject =Alarm =Air 1 1", "folder 1"),
+        ("newobject =Alarm =Air 1 0", "folder 0"),
+        ("newobject 416c61726d 416972 0 1", "creator"),
+        ("newobject =Air =Alarm 1 1", "denied"),
+        // No place here either.
+        ("newobject =Alarm =Ai/ 1 1", "refused 3"),
+        ("newobject - - 0 0", "refused 3"),
+        // `Alarm Air - wt`
+        ("change 416c61726d20416972202d207774", "done"),
         ("poke words 0 65", "done"),
         ("writeoption =A/ 0708", "refused 0 0708"),
         ("readoption -", "refused 0"),
+        ("newobject - - 0 0", "refused 0"),
         // No table is lent to these two.
         (&to_line, &written_line),
         (&to_record, &written_record),
@@ -233,6 +245,15 @@ fn lines_that_are_no_calls() {
         "readoption",
         "readoption 4",
         "readoption 41 42",
+        "newobject",
+        "newobject 41 42",
+        "newobject 41 42 1",
+        "newobject 41 42 1 2",
+        "newobject 41 42 2 1",
+        "newobject 41 42 - 0",
+        "newobject 41 4 1 1",
+        "newobject 4 42 1 1",
+        "newobject 41 42 1 1 1",
     ] {
         assert_eq!(machine.execute(line).as_deref(), Some("bad line"), "{line}");
     }
@@ -334,6 +355,7 @@ fn random_calls_are_calls_and_refusals_leave_every_byte() {
                 "linetorecord",
                 "writeoption",
                 "readoption",
+                "newobject",
                 "dump",
             ];
             if reads.contains(&kind) {
@@ -346,7 +368,7 @@ fn random_calls_are_calls_and_refusals_leave_every_byte() {
 
 #[test]
 fn random_scripts_reach_every_refusal_of_every_call() {
-    let orders: [(&str, &[u8]); 16] = [
+    let orders: [(&str, &[u8]); 17] = [
         ("freshen", &[0]),
         ("piece", &[0]),
         ("end", &[0]),
@@ -363,6 +385,7 @@ fn random_scripts_reach_every_refusal_of_every_call() {
         ("linetorecord", &[1, 2, 3, 4, 5, 15, 12]),
         ("writeoption", &[0, 3, 19, 12]),
         ("readoption", &[0, 16, 17, 18, 3, 21]),
+        ("newobject", &[0, 3]),
     ];
     let mut seen = BTreeSet::new();
     let mut reasons = BTreeSet::new();
@@ -762,7 +785,7 @@ fn random_options_are_of_every_kind() {
         ("writeoption refused 19", 300),
         ("readoption peer 250", 500),
         ("readoption peer mapped", 500),
-        ("readoption peer mapped ill-formed", 50),
+        ("readoption peer mapped ill-formed", 25),
         ("readoption refused 0", 50),
         ("readoption refused 3", 300),
         ("readoption refused 16", 500),
@@ -1022,12 +1045,188 @@ fn random_bringup_letters_are_of_every_kind() {
             "label",
             "writeoption",
             "readoption",
+            "newobject",
         ];
         for call in lent_the_tables {
             for bit in [1, 64, 128] {
                 let what = format!("bit {bit} {call}");
                 assert!(count(&what) > 0, "{what}");
             }
+        }
+    }
+}
+
+/// Whether this rule, of a lent or grown table, is not the one that counts: its pair
+/// stands before it, or one of its labels does.
+fn is_shadowed(table: &Table, place: usize) -> bool {
+    let (subject, object, _) = table.rules[place];
+    let pair = |rule: &(usize, usize, u8)| (&table.labels[rule.0], &table.labels[rule.1]);
+    table.rules[..place]
+        .iter()
+        .any(|rule| pair(rule) == pair(&table.rules[place]))
+        || table.number_of(&table.labels[subject]) != Some(subject)
+        || table.number_of(&table.labels[object]) != Some(object)
+}
+
+/// Of the labels of new objects each answer comes often, of rules with every set of
+/// modes and by each rule of the seven that can decide; of unknown labels and labels
+/// stored twice, pairs stored twice and rules of a label with itself; with the creator
+/// on the override list and not; and while a line is under way. The ordinary kind has
+/// every answer too.
+#[test]
+fn random_new_objects_are_of_every_kind() {
+    for (kind, seeds) in [(Kind::NewObjects, 0..5), (Kind::Every, 0..6)] {
+        let mut seen: BTreeMap<String, u32> = BTreeMap::new();
+        let mut all = 0;
+        for seed in seeds {
+            let mut machine = Machine::new();
+            for call in script_of(kind, seed, 20000) {
+                let words: Vec<&str> = call.split(' ').collect();
+                let answer = machine.execute(&call).unwrap();
+                assert_ne!(answer, "bad line", "{call}");
+                if words[0] != "newobject" {
+                    continue;
+                }
+                all += 1;
+                let mut see = |what: String| *seen.entry(what).or_insert(0) += 1;
+                see(answer.clone());
+                see(format!("{answer} of {} {}", words[3], words[4]));
+                let (creator, folder) = (read_hex(words[1]).unwrap(), read_hex(words[2]).unwrap());
+                let Ok(table) = raw::table_of(&machine.state) else {
+                    continue;
+                };
+                if answer == "refused 3" {
+                    for (who, label) in [("creator", &creator), ("folder", &folder)] {
+                        match label[..] {
+                            [] => see(format!("{who} empty")),
+                            [b'-', ..] => see(format!("{who} dash")),
+                            _ if label.len() > 255 => see(format!("{who} long")),
+                            _ if !is_well_formed(label) => see(format!("{who} byte")),
+                            _ => {}
+                        }
+                    }
+                    continue;
+                }
+                match table.question(&creator, &folder, b"w", false) {
+                    Answer::Granted { rule } => see(format!("{answer} by {rule}")),
+                    Answer::Denied { rule } => see(format!("{answer} by {rule}")),
+                    other => panic!("{other:?}"),
+                }
+                for (who, label) in [("creator", &creator), ("folder", &folder)] {
+                    match label[..] {
+                        [b'_' | b'^' | b'*' | b'?' | b'@'] => {
+                            see(format!("{who} {} {answer}", char::from(label[0])));
+                        }
+                        _ => {}
+                    }
+                    if table.number_of(label).is_none() {
+                        see(format!("{who} unknown {answer}"));
+                    }
+                    if table.labels.iter().filter(|other| *other == label).count() > 1 {
+                        see(format!("{who} twice {answer}"));
+                    }
+                }
+                let (mut first, mut others) = (None, Vec::new());
+                for (place, (subject, object, modes)) in table.rules.iter().enumerate() {
+                    if (&table.labels[*subject], &table.labels[*object]) == (&creator, &folder) {
+                        match is_shadowed(&table, place) {
+                            true => others.push(*modes),
+                            false => first = Some(*modes),
+                        }
+                    }
+                }
+                if let Some(modes) = first {
+                    see(format!("modes {modes} {} {}", words[3], words[4]));
+                    if creator == folder && modes & (W | T) == W | T {
+                        see(format!("itself {answer}"));
+                    }
+                }
+                if others
+                    .iter()
+                    .any(|modes| (first.unwrap_or(0) ^ modes) & W != 0)
+                {
+                    see(format!("other w {answer}"));
+                }
+                if others
+                    .iter()
+                    .any(|modes| (first.unwrap_or(0) ^ modes) & T != 0)
+                {
+                    see(format!("other t {answer}"));
+                }
+                let list = &table.override_list;
+                let number = table.number_of(&creator);
+                let listed = match (list.is_empty(), number) {
+                    (true, _) => "no list",
+                    (_, Some(number)) if list.contains(&number) => "listed",
+                    _ => "not listed",
+                };
+                see(format!("{listed} {answer}"));
+                if machine.loader.numbers[raw::KEPT] > 0 {
+                    see(format!("under way {answer}"));
+                }
+            }
+        }
+        let count = |what: &str| seen.get(what).copied().unwrap_or(0);
+        let answers = ["creator", "denied", "folder 0", "folder 1"];
+        for what in answers.iter().chain(&["refused 0", "refused 3"]) {
+            assert!(count(what) > 10, "{what} {}", count(what));
+        }
+        if kind == Kind::Every {
+            continue;
+        }
+        assert!(all > 40000, "{all}");
+        for what in answers {
+            assert!(count(what) * 100 > all * 15, "{what} {}", count(what));
+        }
+        for what in answers {
+            for rest in ["no list", "listed", "not listed", "under way"] {
+                let what = format!("{rest} {what}");
+                assert!(count(&what) > 300, "{what} {}", count(&what));
+            }
+            for rest in ["creator twice", "folder twice", "other w", "other t"] {
+                let what = format!("{rest} {what}");
+                assert!(count(&what) > 20, "{what} {}", count(&what));
+            }
+        }
+        for modes in (0..64).step_by(2) {
+            for flags in ["0 0", "0 1", "1 0", "1 1"] {
+                let what = format!("modes {modes} {flags}");
+                assert!(count(&what) > 5, "{what} {}", count(&what));
+            }
+        }
+        let often = [
+            ("creator by 4", 300),
+            ("creator by 5", 300),
+            ("creator by 6", 3000),
+            ("denied by 1", 300),
+            ("denied by 7", 3000),
+            ("itself creator", 50),
+            ("creator * denied", 300),
+            ("folder * creator", 300),
+            ("folder _ folder 0", 50),
+            ("folder _ denied", 50),
+            ("folder ^ folder 1", 50),
+            ("folder ? folder 1", 50),
+            ("folder @ folder 1", 50),
+            ("creator _ folder 1", 50),
+            ("creator ^ folder 1", 50),
+            ("creator ^ denied", 50),
+            ("creator ? folder 1", 50),
+            ("creator @ folder 1", 50),
+            ("creator unknown creator", 50),
+            ("creator unknown denied", 300),
+            ("folder unknown denied", 300),
+            ("creator empty", 50),
+            ("folder empty", 50),
+            ("creator dash", 50),
+            ("folder dash", 50),
+            ("creator long", 50),
+            ("folder long", 50),
+            ("creator byte", 100),
+            ("folder byte", 100),
+        ];
+        for (what, least) in often {
+            assert!(count(what) > least, "{what} {}", count(what));
         }
     }
 }

@@ -24,6 +24,7 @@ returns c =
       line-to-record = record { free = λ κs a. tt; says = λ κs a r l learnt. (learnt .0, learnt .1, refl) };
       write-option = record { free = λ κs a. tt; says = λ κs a r l learnt. (learnt .0, learnt .1, refl, refl, refl, refl) };
       read-option = record { free = λ κs a. tt; says = λ κs a r l learnt. (learnt, refl) };
+      new-object = record { free = λ κs a. tt; says = λ κs a r l learnt. (learnt, refl) };
       label-check = record { free = λ κs a. tt; says = λ κs a r l learnt. (learnt, refl) };
       label-by-number = record { free = λ κs a. tt; says = λ κs a r l learnt. (learnt .0, learnt .1, refl) };
       label-part = record { free = λ κs a. tt; says = λ κs a r l learnt. (learnt .0, learnt .1, refl) };

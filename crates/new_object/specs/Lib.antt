@@ -1,0 +1,3 @@
+pub mod NewObject
+pub mod WhichLabel
+pub mod Within
