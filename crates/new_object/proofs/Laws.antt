@@ -1,7 +1,7 @@
 -- Laws of a new object's label. Assumes nothing.
 use Prim.Native.Nat.{ℕ}
 use mathlib.Core.Path.{_≡_, refl, sym, ap, _∙_}
-use mathlib.Core.Bool.{Bool, true, false, cond, not, _&&_, _||_}
+use mathlib.Core.Bool.{Bool, true, false, cond, not, _&&_}
 use mathlib.Core.List.{List, [], _∷_}
 use lib.Dec.{eqb}
 use Rattle.search.specs.Search.{all}
@@ -9,7 +9,7 @@ use Rattle.search.proofs.Laws.{no, and-both}
 use Rattle.modes.specs.Modes.{has, writeLetter, transmuteLetter}
 use Rattle.store.specs.Table.{Table}
 use Rattle.store.specs.Pairs.{PairModes, has-modes, no-rule, modesBetween, modesSoFar}
-use Rattle.access.specs.SevenRules.{modesPass, Clause, rulesFor, firstOf}
+use Rattle.access.specs.SevenRules.{modesPass, Clause, firstOf}
 use Rattle.access.specs.Within.{markRules, laterRules, grantingModes, ruled, rulingOf}
 use Rattle.access.specs.declared.Denial.{Denial}
 use Rattle.access.specs.declared.Verdict.{Verdict}
@@ -18,8 +18,7 @@ use Rattle.access.specs.declared.Ruling.{Ruling}
 use Rattle.access.proofs.Laws.{after, first-then}
 use Rattle.new_object.specs.NewObject.{byRuleWithT, labelBy, labelFor}
 use Rattle.new_object.specs.Within.{labelGranting}
-use Rattle.new_object.specs.declared.ObjectLabel.{ObjectLabel}
-use Rattle.new_object.specs.declared.ObjectLabel.the-variants.{Creator, Denied, Folder}
+use Rattle.new_object.specs.declared.ObjectLabel.the-variants.{Creator, Denied}
 
 -- ---- rules 1 to 4 go by no rule of the table
 
@@ -58,7 +57,7 @@ with-t n pair = by-case (eqb n 6) pair
     by-case false p = refl
 
 pub granting-is : (v : Verdict) (pair : PairModes) (transmutes isFolder : Bool) → labelGranting v (grantingModes v pair) transmutes isFolder ≡ labelBy v pair transmutes isFolder
-granting-is (Grants n) pair transmutes isFolder = ap (λ (b : Bool). cond (transmutes && b) (Folder isFolder) Creator) (with-t n pair)
+granting-is (Grants n) pair transmutes isFolder = rw (with-t n pair)
 granting-is (Denies by) pair transmutes isFolder = refl
 granting-is Undecided pair transmutes isFolder = refl
 

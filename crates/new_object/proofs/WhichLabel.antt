@@ -6,19 +6,18 @@ use mathlib.Core.List.{List}
 use mathlib.Core.Logic.{_↔_, _≢_, _⊎_, inl, inr, ⊎-elim}
 use native.Mathlib.Omega.{arith}
 use lib.Dec.{eqb}
-use borrow.Author.Tests.{eqb-true, eqb-false, eq-eqb, ne-eqb}
-use Rattle.search.specs.Search.{first, all}
+use borrow.Author.Tests.{eqb-true, eqb-false}
+use Rattle.search.specs.Search.{all}
 use Rattle.search.specs.Bytes.{ascii}
 use Rattle.search.specs.declared.Found.{Found}
 use Rattle.search.specs.declared.Found.the-variants.{At, Nothing}
-use Rattle.search.proofs.Laws.{no, not-so, and-both}
+use Rattle.search.proofs.Laws.{no, and-both}
 use Rattle.refusals.specs.Refusals.{damaged, badLabelAt}
 use Rattle.refusals.specs.declared.Refusal.{Refusal}
 use Rattle.alphabet.specs.Alphabet.{wellFormed, badByteOfTwo}
-use Rattle.modes.specs.Modes.{has, bitOf, allowedByte, modesOf, readModes, requestLetters, writeLetter, transmuteLetter}
-use Rattle.modes.specs.declared.Access.the-variants.{Modes}
+use Rattle.modes.specs.Modes.{has, bitOf, allowedByte, modesOf, readModes, writeLetter, transmuteLetter}
 use Rattle.store.specs.Table.{Table, labelIn, pairIn}
-use Rattle.store.specs.Pairs.{PairModes, has-modes, no-rule, ruleBetween, modesFound, modesBetween}
+use Rattle.store.specs.Pairs.{ruleBetween, modesFound, modesBetween}
 use Rattle.store.specs.Layout.{Store, tableOf, undamagedOf}
 use Rattle.access.specs.SevenRules.{modesPass, firstOf, sevenRules}
 use Rattle.access.specs.Access.{effective, answered, answer, questionOf}
@@ -29,7 +28,7 @@ use Rattle.access.specs.declared.Verdict.the-variants.{Grants, Denies, Undecide
 use Rattle.access.specs.declared.Answer.{Answer}
 use Rattle.access.specs.declared.Answer.the-variants as answer
 use Rattle.access.proofs.Laws.{effective-not, answer-is}
-use Rattle.new_object.specs.NewObject.{byRuleWithT, labelBy, labelFor, objectLabel, objectLabelOf}
+use Rattle.new_object.specs.NewObject.{labelBy, labelFor, objectLabel, objectLabelOf}
 use Rattle.new_object.specs.WhichLabel.{writeAsked, RuleHas, WhichLabel, SameNewObjects}
 use Rattle.new_object.specs.declared.ObjectLabel.{ObjectLabel}
 use Rattle.new_object.specs.declared.ObjectLabel.the-variants.{Creator, Denied, Folder, Refused}

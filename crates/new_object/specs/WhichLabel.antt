@@ -9,14 +9,12 @@ use Rattle.search.specs.declared.Found.the-variants.{At}
 use Rattle.refusals.specs.declared.Refusal.{Refusal}
 use Rattle.modes.specs.Modes.{has, modesOf}
 use Rattle.store.specs.Table.{Table, labelIn, pairIn, ruleNumbered}
-use Rattle.store.specs.Pairs.{modesBetween}
 use Rattle.store.specs.Layout.{Store, tableOf}
 use Rattle.access.specs.Access.{questionOf}
 use Rattle.access.specs.declared.Denial.{Denial}
 use Rattle.access.specs.declared.Answer.{Answer}
 use Rattle.access.specs.declared.Answer.the-variants as answer
 use Rattle.new_object.specs.NewObject.{objectLabel, objectLabelOf}
-use Rattle.new_object.specs.declared.ObjectLabel.{ObjectLabel}
 use Rattle.new_object.specs.declared.ObjectLabel.the-variants.{Creator, Denied, Folder, Refused}
 
 -- a question of the creator for w alone to the folder, without the capability

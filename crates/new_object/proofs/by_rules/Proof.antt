@@ -1,5 +1,5 @@
 -- `new_object::by_rules` meets its contract: what rules 1 to 4 leave open rules 5 to 7 decide, by the numbers of the two labels. Assumes nothing.
-use mathlib.Core.Path.{_≡_, sym, _∙_}
+use mathlib.Core.Path.{sym, _∙_}
 use Rattle.store.specs.Table.{Table}
 use Rattle.store.specs.Layout.{store, tableOf}
 use Rattle.access.proofs.Laws.{numbers-below, ruled-by}
