@@ -91,6 +91,7 @@ OLDER __typeof__(bq_lowest_in_run) before_bq_lowest_in_run;
 OLDER __typeof__(bq_lowest_of) before_bq_lowest_of;
 OLDER __typeof__(bq_write_option) before_bq_write_option;
 OLDER __typeof__(bq_read_option) before_bq_read_option;
+OLDER __typeof__(bq_new_object) before_bq_new_object;
 
 /* ---- the second implementation */
 
@@ -1191,9 +1192,77 @@ static void check_options(void)
                 }
 }
 
+/* ---- the label of a new object */
+
+/* The spread rules with w and t in each. Creator and folder are subject and object of the questions that are asked by these rules; each row stands beside that
+ * of a question for w about the same labels, which is its baseline. */
+static struct lent lent_shared[SIZES];
+static const struct {
+    const char *name;
+    int by;
+    bool transmutes;
+    uint8_t kind, question;
+} OBJECT[] = {
+    {"folder's label", BY_6, true, BQ_FOLDER_LABEL, BQ_GRANTED},
+    {"creator's label by rule 6", BY_6, false, BQ_CREATOR_LABEL, BQ_GRANTED},
+    {"denied by rule 7", BY_7, true, BQ_CREATION_DENIED, BQ_DENIED},
+    {"denied by rule 7, folder unknown", BY_7_UNKNOWN, true, BQ_CREATION_DENIED, BQ_DENIED},
+    {"creator's label by rule 4", BY_4, true, BQ_CREATOR_LABEL, BQ_GRANTED},
+    {"creator's label by rule 5", BY_5, true, BQ_CREATOR_LABEL, BQ_GRANTED},
+};
+enum { OBJECTS = sizeof OBJECT / sizeof *OBJECT };
+
+static void make_shared(void)
+{
+    for (int kind = 0; kind < SIZES; kind++) {
+        make_lent(&lent_shared[kind], SPREAD, kind);
+        for (int i = 0; i < count[SPREAD]; i++)
+            lent_shared[kind].entries[512 + i] |= 16 | 2;
+    }
+}
+
+/* The answers' kinds and marks, added up; `asks`: those of the questions for w. */
+static unsigned do_objects(int side, int which, int kind, bool asks, int from, int to)
+{
+    struct lent *t = &lent_shared[kind];
+    unsigned sum = 0;
+    for (int i = from; i < to; i++) {
+        const struct question *q = &asked[SPREAD][kind][OBJECT[which].by][i];
+        if (asks) {
+            sum += OF(side, question, kind, t, q->subject, q->subject_len, q->object, q->object_len, (const uint8_t *)"w", 1, false);
+        } else {
+            bq_labelled l = (side == BEFORE ? before_bq_new_object : bq_new_object)(TABLES(t), q->subject, q->subject_len, q->object, q->object_len,
+                                                                                     OBJECT[which].transmutes, i % 2);
+            sum += l.kind * 2u + l.transmutes;
+        }
+    }
+    return sum;
+}
+
+static unsigned object_expected(int which, bool asks, int from, int to)
+{
+    unsigned sum = 0;
+    for (int i = from; i < to; i++)
+        sum += asks ? OBJECT[which].question : OBJECT[which].kind * 2u + (OBJECT[which].kind == BQ_FOLDER_LABEL && i % 2);
+    return sum;
+}
+
+/* Every answer is the one that the row names. */
+static void check_objects(void)
+{
+    for (int which = 0; which < OBJECTS; which++)
+        for (int kind = 0; kind < SIZES; kind++)
+            for (int i = 0; i < QUESTIONS; i++)
+                for (int asks = 0; asks < 2; asks++)
+                    if (do_objects(LIBRARY, which, kind, asks, i, i + 1) != object_expected(which, asks, i, i + 1)) {
+                        fprintf(stderr, "bench: not what the row says: %s; %s\n", OBJECT[which].name, KIND[kind].name);
+                        exit(1);
+                    }
+}
+
 /* ---- the operations and their table */
 
-enum { ASK, FEED, CHANGE, LIST, MAP, OPTION };
+enum { ASK, FEED, CHANGE, LIST, MAP, OPTION, CREATE };
 struct operation {
     int what, a, kind, by;
     char name[120];
@@ -1202,7 +1271,7 @@ struct operation {
     unsigned repeat[SIDES];
     double time[SIDES][MOST_ROUNDS]; /* ns for one call, one rule or one byte */
 };
-static struct operation ops[128];
+static struct operation ops[160];
 static int n_ops;
 static size_t total;
 
@@ -1226,6 +1295,8 @@ static unsigned expected(const struct operation *o)
         for (int i = 0; i < QUESTIONS; i++)
             sum += option_expected(o->by, o->kind, i);
         return sum;
+    case CREATE:
+        return object_expected(o->by, o->a, 0, QUESTIONS);
     default:
         return (unsigned)do_listing(SECOND, o->kind);
     }
@@ -1252,6 +1323,9 @@ static void run_once(const struct operation *o, int side, unsigned want)
         break;
     case OPTION:
         got = do_options(side, o->by, o->kind);
+        break;
+    case CREATE:
+        got = do_objects(side, o->by, o->kind, o->a, 0, QUESTIONS);
         break;
     }
     if (got != want) {
@@ -1319,6 +1393,12 @@ static void add_all(void)
             snprintf(name, sizeof name, is_packed(call, LONG) ? "%s; %s" : "%s", OPTION_CALL[call], KIND[kind].name);
             add(OPTION, 0, kind, call, QUESTIONS, name, alone | 1u << PLAIN);
         }
+    for (int which = 0; which < OBJECTS; which++)
+        for (int kind = 0; kind < SIZES; kind++)
+            for (int asks = 0; asks < 2; asks++) {
+                snprintf(name, sizeof name, "%s; %s; %s", asks ? "question for w of the same labels" : "new object", OBJECT[which].name, KIND[kind].name);
+                add(CREATE, asks, kind, which, QUESTIONS, name, asks || before_bq_new_object ? alone : 1u << LIBRARY);
+            }
     for (int t = 0; t < TEXTS; t++)
         for (int kind = 0; kind < sizes_of(t); kind++) {
             double bytes = (double)text_len[t][kind];
@@ -1354,18 +1434,19 @@ static int by_size(const void *a, const void *b)
 }
 
 /* The tables, and which rows and columns each has. */
-enum { CALLS_PART, OPTION_PART, TEXT_PART, PARTS };
+enum { CALLS_PART, OPTION_PART, OBJECT_PART, TEXT_PART, PARTS };
 static const char *const PART[PARTS] = {"ns per call: best (median)", "The packet option, ns per call: best (median)",
+                                        "The label of a new object, ns per call: best (median)",
                                         "MB per second (10^6 bytes): best (median)"};
 
 static int part_of(const struct operation *o)
 {
-    return o->what == FEED ? TEXT_PART : o->what == OPTION ? OPTION_PART : CALLS_PART;
+    return o->what == FEED ? TEXT_PART : o->what == OPTION ? OPTION_PART : o->what == CREATE ? OBJECT_PART : CALLS_PART;
 }
 
 static bool has_column(int part, int side)
 {
-    return part == OPTION_PART ? packs(side) : side != PLAIN && is_there(side);
+    return part == OPTION_PART ? packs(side) : part == OBJECT_PART ? is_library(side) && is_there(side) : side != PLAIN && is_there(side);
 }
 
 static void print_all(int rounds)
@@ -1552,6 +1633,7 @@ int main(int argc, char **argv)
             make_text(which, kind, which == FRESH ? 1 << 20 : total);
     make_mappings();
     make_packets();
+    make_shared();
     if (profiling) {
         profile(argv[2], atoi(argv[3]), argc > 4 ? atoi(argv[4]) : 0);
         return 0;
@@ -1559,6 +1641,7 @@ int main(int argc, char **argv)
     check_questions();
     check_mappings();
     check_options();
+    check_objects();
     add_all();
     if (counting) {
         count_instructions();

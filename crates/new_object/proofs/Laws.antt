@@ -5,6 +5,7 @@ use mathlib.Core.Bool.{Bool, true, false, cond, not, _&&_}
 use mathlib.Core.List.{List, [], _∷_}
 use lib.Dec.{eqb}
 use Rattle.search.specs.Search.{all}
+use Rattle.search.specs.Bytes.{sameBytes}
 use Rattle.search.proofs.Laws.{no, and-both}
 use Rattle.modes.specs.Modes.{has, writeLetter, transmuteLetter}
 use Rattle.store.specs.Table.{Table}
@@ -15,7 +16,7 @@ use Rattle.access.specs.declared.Denial.{Denial}
 use Rattle.access.specs.declared.Verdict.{Verdict}
 use Rattle.access.specs.declared.Verdict.the-variants.{Grants, Denies, Undecided}
 use Rattle.access.specs.declared.Ruling.{Ruling}
-use Rattle.access.proofs.Laws.{after, first-then}
+use Rattle.access.proofs.Laws.{after, first-then, ruled-same}
 use Rattle.new_object.specs.NewObject.{byRuleWithT, labelBy, labelFor}
 use Rattle.new_object.specs.Within.{labelGranting}
 use Rattle.new_object.specs.declared.ObjectLabel.the-variants.{Creator, Denied}
@@ -84,6 +85,12 @@ module _ (t : Table) (creator folder : List ℕ) (transmutes isFolder : Bool) wh
 
   pub denied-by-a-mark : (by : Denial) → marks ≡ Denies by → labelFor creator folder pair transmutes isFolder ≡ Denied
   denied-by-a-mark by e = in-parts (Denies by) e
+
+  pub by-one-label : marks ≡ Undecided → sameBytes creator folder ≡ true → labelFor creator folder pair transmutes isFolder ≡ Creator
+  by-one-label e same =
+      in-parts Undecided e
+      ∙ ap (λ (r : Ruling). labelBy (r .verdict) pair transmutes isFolder) (sym (ruled-same (sameBytes creator folder) pair writeLetter same))
+      ∙ by-another 5 pair transmutes isFolder refl
 
   pub by-the-others :
       marks ≡ Undecided →

@@ -37,8 +37,8 @@ fn by_verdict(verdict: Verdict, granting: u8, transmutes: bool, is_folder: bool)
     }
 }
 
-// By the seven rules, of a request of w alone. Rules 1 to 4 come first, and go by no rule of the table; for the others each label is looked up once. Who calls
-// it has tested the store.
+// By the seven rules, of a request of w alone. Rules 1 to 4 go by no rule of the table; nor does rule 5, which is told by the bytes, so that nothing is looked
+// up for a creator in a folder of its own label. For rules 6 and 7 each label is looked up once. Who calls it has tested the store.
 fn by_rules(
     labels: &[u8],
     entries: &[u8],
@@ -55,11 +55,13 @@ fn by_rules(
         Verdict::Grants(_) => ObjectLabel::Creator,
         Verdict::Denies(_) => ObjectLabel::Denied,
         Verdict::Undecided => {
+            if search::same_bytes(creator, folder) {
+                return ObjectLabel::Creator;
+            }
             let count = words[store::LABEL_COUNT] as usize;
             let s = places::find_label(labels, count, creator);
             let o = places::find_label(labels, count, folder);
-            let same = search::same_bytes(creator, folder);
-            let ruling = access::by_numbers(entries, words, same, s, o, modes::WRITE);
+            let ruling = access::by_numbers(entries, words, false, s, o, modes::WRITE);
             let verdict = ruling.verdict;
             let granting = ruling.modes;
             by_verdict(verdict, granting, transmutes, is_folder)
