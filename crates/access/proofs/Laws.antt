@@ -122,10 +122,18 @@ first-then (l ∷ ls) rest e =
     by-test true Undecided h ih = absurd (no h)
     by-test false v h ih = ih
 
-module _ (t : Table) (s o : List ℕ) (wanted : ℕ) (capable : Bool) where
-  pub decide-is : (v : Verdict) → firstOf (markRules s o wanted) ≡ v → decide t s o wanted capable ≡ answered (effective t (labelIn t s) capable) (after v (rulingOf t s o wanted .verdict))
-  unfolding decide ruled
-  decide-is v e = rw (first-then (markRules s o wanted) (laterRules s o (modesBetween t s o) wanted) refl, e)
+-- so the seven are rules 1 to 4, and then 5 to 7
+module _ (t : Table) (s o : List ℕ) (wanted : ℕ) where
+  pub in-two-parts : (v : Verdict) → firstOf (markRules s o wanted) ≡ v → firstOf (sevenRules t s o wanted) ≡ after v (rulingOf t s o wanted .verdict)
+  unfolding ruled
+  in-two-parts v e = rw (first-then (markRules s o wanted) (laterRules (sameBytes s o) (modesBetween t s o) wanted) refl, e)
+
+  pub decide-is :
+      (capable : Bool) (v : Verdict) →
+      firstOf (markRules s o wanted) ≡ v →
+      decide t s o wanted capable ≡ answered (effective t (labelIn t s) capable) (after v (rulingOf t s o wanted .verdict))
+  unfolding decide
+  decide-is capable v e = ap (answered (effective t (labelIn t s) capable)) (in-two-parts v e)
 
 -- ---- rules 5 to 7, by numbers
 

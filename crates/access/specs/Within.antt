@@ -1,9 +1,9 @@
--- What the functions within the library say: the seven rules in the two parts that the code looks at one after the other, and equal labels by their
--- numbers (02, Two). No contract of a host's call names these. Assumes nothing.
+-- What the functions within the library say: the seven rules in the two parts that the code looks at one after the other, equal labels by their
+-- numbers (02, Two), and the modes by which rule 6 granted (02, Seven). No contract of a host's call names these. Assumes nothing.
 use Prim.Native.Nat.{ℕ}
 use mathlib.Core.Bool.{Bool, false, cond}
 use mathlib.Core.List.{List, [], _∷_}
-use lib.ListN.{take, drop}
+use lib.ListN.{take}
 use lib.Dec.{eqb}
 use Rattle.search.specs.Bytes.{sameBytes}
 use Rattle.search.specs.declared.Found.{Found}
@@ -19,13 +19,9 @@ use Rattle.access.specs.declared.Ruling.{Ruling}
 abbrev pub markRules : List ℕ → List ℕ → ℕ → List Clause
 markRules s o wanted = take 4 (rulesFor s o no-rule wanted)
 
--- 5 compares the two labels, 6 looks at the pair's modes and the request, 7 at nothing
-abbrev pub laterRules : List ℕ → List ℕ → PairModes → ℕ → List Clause
-laterRules s o pair wanted = drop 4 (rulesFor s o pair wanted)
-
--- the same three by whether the labels are equal
-abbrev pub laterClauses : Bool → PairModes → ℕ → List Clause
-laterClauses same pair wanted = clause same (Grants 5) ∷ rule6 pair wanted ∷ rule7 ∷ []
+-- 5 looks at whether the two labels are equal, 6 at the pair's modes and the request, 7 at nothing
+abbrev pub laterRules : Bool → PairModes → ℕ → List Clause
+laterRules same pair wanted = clause same (Grants 5) ∷ rule6 pair wanted ∷ rule7 ∷ []
 
 -- whether two labels are equal, by the numbers that were found for them: their bytes are compared where neither has one
 abbrev pub sameLabel : List ℕ → List ℕ → Found → Found → Bool
@@ -44,8 +40,8 @@ grantingModes Undecided pair = 0
 unfoldable pub ruled : Bool → PairModes → ℕ → Ruling
 ruled same pair wanted =
     record {
-      verdict = firstOf (laterClauses same pair wanted);
-      modes = grantingModes (firstOf (laterClauses same pair wanted)) pair;
+      verdict = firstOf (laterRules same pair wanted);
+      modes = grantingModes (firstOf (laterRules same pair wanted)) pair;
     }
 
 -- of two labels in a table, by their bytes

@@ -86,9 +86,9 @@ searchShown (label.Refused n) = record { kind = 2; number = n; label = 0 }
 -- the label of a new object: kind 0 the creator's; 1 denied; 2 the folder's, and whether the new object transmutes; 3 refused. (02 does not number the kinds;
 -- denied and refused have those of a question)
 abbrev pub objectShown : ObjectLabel → Labelled
-objectShown new.Creator = record { kind = 0; number = 0; transmutes = false }
+objectShown new.CreatorLabel = record { kind = 0; number = 0; transmutes = false }
 objectShown new.Denied = record { kind = 1; number = 0; transmutes = false }
-objectShown (new.Folder transmutes) = record { kind = 2; number = 0; transmutes = transmutes }
+objectShown (new.FolderLabel transmutes) = record { kind = 2; number = 0; transmutes = transmutes }
 objectShown (new.Refused n) = record { kind = 3; number = n; transmutes = false }
 
 -- a label by its number, whose length is n: where it stands in the label store

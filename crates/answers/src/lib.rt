@@ -296,7 +296,7 @@ pub fn object_shown(answer: ObjectLabel) -> Labelled
     ensures { λ r. ⌜ r ≡ objectShown answer ⌝ }
 {
     match answer {
-        ObjectLabel::Creator => Labelled {
+        ObjectLabel::CreatorLabel => Labelled {
             kind: 0,
             number: 0,
             transmutes: false,
@@ -306,7 +306,7 @@ pub fn object_shown(answer: ObjectLabel) -> Labelled
             number: 0,
             transmutes: false,
         },
-        ObjectLabel::Folder(transmutes) => Labelled {
+        ObjectLabel::FolderLabel(transmutes) => Labelled {
             kind: 2,
             number: 0,
             transmutes,

@@ -377,13 +377,13 @@ read-option-call st option =
       ensures = refl;
     }
 
-abbrev new-object-call : (st : Store) (creator folder : List ℕ) (transmutes isFolder : Bool) → Called-new-object
-new-object-call st creator folder transmutes isFolder =
+abbrev new-object-call : (st : Store) (creator folder : List ℕ) (folderTransmutes isFolder : Bool) → Called-new-object
+new-object-call st creator folder folderTransmutes isFolder =
     record {
       lifetimes = ([], ([], ([], ([], ([], tt)))));
-      args = (ref (st .labels), (ref (st .entries), (ref (st .words), (ref creator, (ref folder, (transmutes, (isFolder, tt)))))));
+      args = (ref (st .labels), (ref (st .entries), (ref (st .words), (ref creator, (ref folder, (folderTransmutes, (isFolder, tt)))))));
       asked = tt;
-      result = objectShown (objectLabelOf st creator folder transmutes isFolder);
+      result = objectShown (objectLabelOf st creator folder folderTransmutes isFolder);
       last = (tt, (tt, (tt, (tt, (tt, (tt, (tt, tt)))))));
       ensures = refl;
     }
@@ -418,7 +418,7 @@ answered st (r.list-rule n out) = (_, a-listing (list-rule-call st n out))
 answered st (r.label n) = (_, a-label (label-call st n))
 answered st (r.write-option l out) = (_, an-option (write-option-call st l out))
 answered st (r.read-option option) = (_, a-peer (read-option-call st option))
-answered st (r.new-object creator folder transmutes isFolder) = (_, a-new-object (new-object-call st creator folder transmutes isFolder))
+answered st (r.new-object creator folder folderTransmutes isFolder) = (_, a-new-object (new-object-call st creator folder folderTransmutes isFolder))
 answered st (r.label-check n) = (_, a-check (label-check-call st n))
 
 wrote : (st : Store) (w : Write) → (reply : Reply) × (st′ : Store) × Writes st w reply st′

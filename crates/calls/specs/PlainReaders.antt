@@ -109,4 +109,4 @@ refusal-of (r.ask (r.label k)) = r.refusal damaged
 refusal-of (r.ask (r.label-check k)) = r.refusal damaged
 refusal-of (r.ask (r.write-option l out)) = r.listed (outputShown (listed.Refused (damaged .number))) out
 refusal-of (r.ask (r.read-option option)) = r.peer (peerShown (not-read (damaged .number)))
-refusal-of (r.ask (r.new-object creator folder transmutes isFolder)) = r.labelled (objectShown (object.Refused (damaged .number)))
+refusal-of (r.ask (r.new-object creator folder folderTransmutes isFolder)) = r.labelled (objectShown (object.Refused (damaged .number)))

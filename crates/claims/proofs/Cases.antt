@@ -16,7 +16,7 @@ use Rattle.lines.specs.Lines.{ruleBy, ruleOf, changeBy, changeOf}
 use Rattle.rules.specs.Rules.{withPair}
 use Rattle.store.specs.Pairs.{modesBetween}
 use Rattle.access.specs.Access.{effective, decide, answer}
-use Rattle.new_object.specs.NewObject.{labelFor, objectLabel}
+use Rattle.new_object.specs.NewObject.{objectLabelFor, objectLabel}
 use Rattle.cipso.specs.Cipso.{SaidMapping, mapping, categoriesOf, saidBy, mappingOf, withMapping, mappingWrite, saidJudged}
 use Rattle.lookups.specs.Lookups.{labelLookup}
 use Rattle.claims.specs.Cases.{maps, right, sameLookup, cases, furtherCases, creationCases}
@@ -72,5 +72,5 @@ unfolding all right first put sameBytes isBlank labelByte wellFormed faultOf fie
 further-right = and-true (right (maps at-the-ends Vault7 9 (63 ∷ 64 ∷ 65 ∷ 128 ∷ 129 ∷ 184 ∷ []) 6)) ∙ mapped at-the-ends of-each-word (63 ∷ 64 ∷ 65 ∷ 128 ∷ 129 ∷ 184 ∷ []) 6 says-ends after-ends
 
 pub creation-right : all right creationCases ≡ true
-unfolding all right first put sameBytes isBlank labelByte wellFormed fields bitOf allowedByte modesOf readModes ruleBy ruleOf isPair withPair modesBetween labelFor objectLabel
+unfolding all right first put sameBytes isBlank labelByte wellFormed fields bitOf allowedByte modesOf readModes ruleBy ruleOf isPair withPair modesBetween objectLabelFor objectLabel
 creation-right = refl

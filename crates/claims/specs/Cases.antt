@@ -54,7 +54,7 @@ abbrev pub sameLabelled : Labelled → Labelled → Bool
 sameLabelled a b = eqb (a .kind) (b .kind) && (eqb (a .number) (b .number) && sameTest (a .transmutes) (b .transmutes))
 
 unfoldable pub right : Case → Bool
-right (creates lines creator folder transmutes isFolder expected) = sameLabelled (objectShown (objectLabel (afterLines lines) creator folder transmutes isFolder)) expected
+right (creates lines creator folder folderTransmutes isFolder expected) = sameLabelled (objectShown (objectLabel (afterLines lines) creator folder folderTransmutes isFolder)) expected
 right (asks lines s o request expected) = sameShown (shown (answer (afterLines lines) s o request false)) expected
 right (changes line write s o modes) =
     sameBytes (modesText (pairModes (tableAfter (afterLines (line ∷ [])) (changeWrite write (afterLines (line ∷ [])))) s o)) modes

@@ -130,8 +130,8 @@ pub record NumbersOf02 : Type 0 where
   pub peer-refused : (n : ℕ) →
       (peerShown (option.not-read n) .refused ≡ true) × (peerShown (option.not-read n) .number ≡ n) × (peerShown (option.not-read n) .length ≡ 0)
       × (length (peerShown (option.not-read n) .bytes) ≡ 255) × ((i : ℕ) → getD (peerShown (option.not-read n) .bytes) i 0 ≡ 0)
-  pub new-object : (objectShown object.Creator ≡ record { kind = 0; number = 0; transmutes = false })
+  pub new-object : (objectShown object.CreatorLabel ≡ record { kind = 0; number = 0; transmutes = false })
       × (objectShown object.Denied ≡ record { kind = 1; number = 0; transmutes = false })
-      × ((new-transmutes : Bool) → objectShown (object.Folder new-transmutes) ≡ record { kind = 2; number = 0; transmutes = new-transmutes })
+      × ((new-transmutes : Bool) → objectShown (object.FolderLabel new-transmutes) ≡ record { kind = 2; number = 0; transmutes = new-transmutes })
       × ((n : ℕ) → objectShown (object.Refused n) ≡ record { kind = 3; number = n; transmutes = false })
   pub no-category : noCategories ≡ record { first = 0; second = 0; third = 0 }

@@ -59,7 +59,7 @@ use Rattle.run.specs.declared.Best.the-variants as best
 use Rattle.run.specs.Run as run
 use Rattle.program.specs.Program.{asked, answerTo}
 use Rattle.access.specs.Access.{isFound, effective, answer, answered, decide, byRequest, questionOf}
-use Rattle.new_object.specs.NewObject.{byRuleWithT, labelBy, labelFor, objectLabel, objectLabelOf}
+use Rattle.new_object.specs.NewObject.{byRuleWithT, objectLabelBy, objectLabelFor, objectLabel, objectLabelOf}
 use Rattle.new_object.specs.declared.ObjectLabel.{ObjectLabel}
 use Rattle.new_object.specs.declared.ObjectLabel.the-variants as object
 use Rattle.access.specs.SevenRules.{firstOf, rulesFor, sevenRules}
@@ -233,18 +233,18 @@ of-peer = refuses not-read peer-by (λ n. refl) from
     from (not-read m) n q = let z : m ≡ n = cc in ap not-read z
 
 abbrev object-by : ObjectLabel → First ℕ
-object-by object.Creator = none
+object-by object.CreatorLabel = none
 object-by object.Denied = none
-object-by (object.Folder x) = none
+object-by (object.FolderLabel x) = none
 object-by (object.Refused n) = by n
 
 of-object : (x : ObjectLabel) (faults : List (Fault ℕ)) → object-by x ≡ firstFault faults → Refuses x object.Refused faults
 of-object = refuses object.Refused object-by (λ n. refl) from
   where
     from : (x : ObjectLabel) (n : ℕ) → object-by x ≡ by n → x ≡ object.Refused n
-    from object.Creator n q = let z : _≡_ {A = ℕ} 0 1 = cc in absurd (omega arith)
+    from object.CreatorLabel n q = let z : _≡_ {A = ℕ} 0 1 = cc in absurd (omega arith)
     from object.Denied n q = let z : _≡_ {A = ℕ} 0 1 = cc in absurd (omega arith)
-    from (object.Folder x) n q = let z : _≡_ {A = ℕ} 0 1 = cc in absurd (omega arith)
+    from (object.FolderLabel x) n q = let z : _≡_ {A = ℕ} 0 1 = cc in absurd (omega arith)
     from (object.Refused m) n q = let z : m ≡ n = cc in ap object.Refused z
 
 abbrev answer-by : Answer → First Refusal
@@ -997,28 +997,28 @@ question-refused st s o request capable =
 -- ---- the label of a new object
 
 new-object-refused :
-    (st : Store) (creator folder : List ℕ) (transmutes isFolder : Bool) →
-    Refuses (objectLabelOf st creator folder transmutes isFolder) object.Refused (newObjectFaults st creator folder)
-unfolding objectLabelOf objectLabel labelFor
-new-object-refused st creator folder transmutes isFolder =
+    (st : Store) (creator folder : List ℕ) (folderTransmutes isFolder : Bool) →
+    Refuses (objectLabelOf st creator folder folderTransmutes isFolder) object.Refused (newObjectFaults st creator folder)
+unfolding objectLabelOf objectLabel objectLabelFor
+new-object-refused st creator folder folderTransmutes isFolder =
     of-object _ (newObjectFaults st creator folder)
     (state-first object-by (undamagedOf st) _ (object.Refused 0) _ refl (λ u. by-tests (wellFormed creator) (wellFormed folder)))
   where
     pair : PairModes
     pair = modesBetween (tableOf st) creator folder
 
-    by-test : (b : Bool) → object-by (cond b (object.Folder isFolder) object.Creator) ≡ none
+    by-test : (b : Bool) → object-by (cond b (object.FolderLabel isFolder) object.CreatorLabel) ≡ none
     by-test true = refl
     by-test false = refl
 
-    by-verdict : (v : Verdict) → object-by (labelBy v pair transmutes isFolder) ≡ none
-    by-verdict (verdict.Grants k) = by-test (transmutes && byRuleWithT k pair)
+    by-verdict : (v : Verdict) → object-by (objectLabelBy v pair folderTransmutes isFolder) ≡ none
+    by-verdict (verdict.Grants k) = by-test (folderTransmutes && byRuleWithT k pair)
     by-verdict (verdict.Denies x) = refl
     by-verdict verdict.Undecided = refl
 
     by-tests :
         (p q : Bool) →
-        object-by (cond (p && q) (labelBy (firstOf (rulesFor creator folder pair writeLetter)) pair transmutes isFolder) (object.Refused 3)) ≡ cond (not p || not q) (by 3) none
+        object-by (cond (p && q) (objectLabelBy (firstOf (rulesFor creator folder pair writeLetter)) pair folderTransmutes isFolder) (object.Refused 3)) ≡ cond (not p || not q) (by 3) none
     by-tests false q = refl
     by-tests true false = refl
     by-tests true true = by-verdict (firstOf (rulesFor creator folder pair writeLetter))

@@ -458,8 +458,8 @@ pub record FirstInOrder : Type 0 where
       (st : Store) (s o request : List ℕ) (capable : Bool) →
       Refuses (questionOf st s o request capable) a.Refused (questionFaults st s o request)
   pub new-object :
-      (st : Store) (creator folder : List ℕ) (transmutes isFolder : Bool) →
-      Refuses (objectLabelOf st creator folder transmutes isFolder) object.Refused (newObjectFaults st creator folder)
+      (st : Store) (creator folder : List ℕ) (folderTransmutes isFolder : Bool) →
+      Refuses (objectLabelOf st creator folder folderTransmutes isFolder) object.Refused (newObjectFaults st creator folder)
   pub question-line : (t : Table) (line : List ℕ) → Refuses (answerTo (answer t) line) a.Refused (questionLineFaults line)
   pub listing : (st : Store) (k : ℕ) (out : List ℕ) → Refuses (listAnswer st k out) l.Refused (listingFaults st k out)
   pub label-by-number : (st : Store) (k : ℕ) → Refuses (labelAnswer st k) d.Refused (labelByNumberFaults st k)

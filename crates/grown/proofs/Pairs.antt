@@ -34,8 +34,7 @@ use Rattle.access.specs.SevenRules.{rulesFor, firstOf, sevenRules}
 use Rattle.store.specs.Pairs.{ruleBetween, PairModes, has-modes, modesFound, modesBetween, modesSoFar}
 use Rattle.access.specs.Access.{effective, answered, decide, byRequest, answer}
 use Rattle.store.proofs.Pairs.{not-listed, not-subject, not-object}
-use Rattle.new_object.specs.NewObject.{objectLabel}
-use Rattle.new_object.proofs.WhichLabel.{pair-alone}
+use Rattle.new_object.proofs.WhichLabel.{labelled-by, pair-alone}
 use Rattle.grown.specs.Pairs.{SoundTable, Triple, ChangeText, newLabels, hasRule, hasRoom, isAccepted, SetsPair}
 use Rattle.grown.proofs.Sane.{subjectAt, objectAt, paired, subject-number, object-number, pair-front, one-label, Paired, rule-paired, change-paired}
 
@@ -169,16 +168,15 @@ module _ (t : Table) (s o : List ℕ) (m : ℕ) (taken : Taken s o) (sound : sou
   override-same = override-kept t (paired t s o m) sound (pair-front t s o taken) refl
 
   pub pair-sets : SetsPair t (paired t s o m) s o m
-  unfolding objectLabel
   pair-sets =
       record {
         modes = pair-set;
         judged-by = λ wanted. ap (λ (q : PairModes). rulesFor s o q wanted) pair-set;
         other-answers = λ x y request capable apart. answer-same t (paired t s o m) x y (others-kept x y apart) (override-same x) request capable;
         other-modes = others-kept;
-        labelled-by = λ transmutes isFolder p q. rw (p, q, pair-set);
-        other-new-objects = λ x y apart. pair-alone (paired t s o m) t x y (others-kept x y apart);
         override = override-same;
+        new-objects = labelled-by (paired t s o m) s o (has-modes m) pair-set;
+        other-new-objects = λ x y apart. pair-alone (paired t s o m) t x y (others-kept x y apart);
       }
 
 pub paired-sets : {t t′ : Table} {s o : List ℕ} {m : ℕ} → SoundTable t → Paired t t′ s o m → SetsPair t t′ s o m

@@ -16,8 +16,7 @@ use Rattle.store.specs.Judged.{Judged, is-skipped, is-refused, is-accepted}
 use Rattle.access.specs.SevenRules.{rulesFor, sevenRules}
 use Rattle.store.specs.Pairs.{PairModes, has-modes, no-rule, modesBetween}
 use Rattle.access.specs.Access.{effective, answer}
-use Rattle.new_object.specs.NewObject.{labelFor, objectLabel}
-use Rattle.new_object.specs.WhichLabel.{SameNewObjects}
+use Rattle.new_object.specs.WhichLabel.{LabelledBy, SameNewObjects}
 
 -- what a table has to be for this: every number in it names one of its labels, and no mode or category bit is unknown. Every grown table is so, and so is the
 -- table of every undamaged state
@@ -76,8 +75,9 @@ pub record SetsPair (t t′ : Table) (s o : List ℕ) (m : ℕ) : Type 0 where
   -- no other pair's answer changes, whoever asks for what; nor do its modes
   pub other-answers : (x y request : List ℕ) (capable : Bool) → (x ≡ s → y ≡ o → ⊥) → answer t′ x y request capable ≡ answer t x y request capable
   pub other-modes : (x y : List ℕ) → (x ≡ s → y ≡ o → ⊥) → modesBetween t′ x y ≡ modesBetween t x y
-  -- so it is with the label of a new object, of which the subject is the creator and the object the folder (02, Seven)
-  pub labelled-by : (transmutes isFolder : Bool) → wellFormed s ≡ true → wellFormed o ≡ true → objectLabel t′ s o transmutes isFolder ≡ labelFor s o (has-modes m) transmutes isFolder
-  pub other-new-objects : (x y : List ℕ) → (x ≡ s → y ≡ o → ⊥) → SameNewObjects t′ t x y
-  -- nor does anybody's override change
+  -- nor does anybody's override
   pub override : (x : List ℕ) (capable : Bool) → effective t′ (labelIn t′ x) capable ≡ effective t (labelIn t x) capable
+  -- the label of a new object, whose creator is the subject and whose folder the object (02, Seven), goes from now on by these modes; that of another pair
+  -- does not change
+  pub new-objects : LabelledBy t′ s o (has-modes m)
+  pub other-new-objects : (x y : List ℕ) → (x ≡ s → y ≡ o → ⊥) → SameNewObjects t′ t x y

@@ -103,10 +103,10 @@ module _ (st : Store) (u : undamagedOf st ≡ true) where
   peer-says option = rw u
 
   pub object-says :
-      (creator folder : List ℕ) (transmutes isFolder : Bool) →
-      r.labelled (objectShown (objectLabelOf st creator folder transmutes isFolder)) ≡ askSays (tableOf st) (r.new-object creator folder transmutes isFolder)
+      (creator folder : List ℕ) (folderTransmutes isFolder : Bool) →
+      r.labelled (objectShown (objectLabelOf st creator folder folderTransmutes isFolder)) ≡ askSays (tableOf st) (r.new-object creator folder folderTransmutes isFolder)
   unfolding objectLabelOf
-  object-says creator folder transmutes isFolder = rw u
+  object-says creator folder folderTransmutes isFolder = rw u
 
   pub check-says : (k : ℕ) → doneReply (labelAnswer st k) ≡ askSays (tableOf st) (r.label-check k)
   unfolding labelAnswer
@@ -173,9 +173,9 @@ module _ (st : Store) (u : undamagedOf st ≡ false) where
   unfolding peerGiven
   peer-refused option = rw u
 
-  pub object-refused : (creator folder : List ℕ) (transmutes isFolder : Bool) → objectLabelOf st creator folder transmutes isFolder ≡ object.Refused 0
+  pub object-refused : (creator folder : List ℕ) (folderTransmutes isFolder : Bool) → objectLabelOf st creator folder folderTransmutes isFolder ≡ object.Refused 0
   unfolding objectLabelOf
-  object-refused creator folder transmutes isFolder = rw u
+  object-refused creator folder folderTransmutes isFolder = rw u
 
   pub list-refused : (k : ℕ) (out : List ℕ) → (listAnswer st k out ≡ listed.Refused 0) × (listOut st k out ≡ out)
   unfolding listAnswer listOut

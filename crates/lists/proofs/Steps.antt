@@ -136,7 +136,7 @@ ask-reports t (by-level level set) rs = refl
 ask-reports t (list-rule k out) rs = refl
 ask-reports t (write-option l out) rs = refl
 ask-reports t (read-option option) rs = refl
-ask-reports t (new-object creator folder transmutes isFolder) rs = refl
+ask-reports t (new-object creator folder folderTransmutes isFolder) rs = refl
 ask-reports t (label k) rs = by-test (ltb k (length (t .labels)))
   where
     by-test : (b : Bool) → reports (cond b (label-is (labelNumbered t k)) (refusal noSuchNumber) ∷ rs) ≡ reports rs

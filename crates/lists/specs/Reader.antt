@@ -213,7 +213,7 @@ askSays t (label k) = cond (ltb k (length (t .labels))) (label-is (labelNumbered
 askSays t (label-check k) = cond (ltb k (length (t .labels))) done (refusal noSuchNumber)
 askSays t (write-option l out) = listed (outputShown (textAnswer (labelOption t l) out)) (textOut (labelOption t l) out)
 askSays t (read-option option) = peer (peerShown (peerOf t option))
-askSays t (new-object creator folder transmutes isFolder) = labelled (objectShown (objectLabel t creator folder transmutes isFolder))
+askSays t (new-object creator folder folderTransmutes isFolder) = labelled (objectShown (objectLabel t creator folder folderTransmutes isFolder))
 
 -- a line under way stays under way: it is judged at its end, against the table as it then is
 abbrev pub writeOn : Reader → Write → Reader

@@ -11,15 +11,14 @@ use Rattle.modes.specs.Modes.{has, writeLetter, transmuteLetter}
 use Rattle.store.specs.Table.{Table}
 use Rattle.store.specs.Pairs.{PairModes, has-modes, no-rule, modesBetween, modesSoFar}
 use Rattle.access.specs.SevenRules.{modesPass, Clause, firstOf}
-use Rattle.access.specs.Within.{markRules, laterRules, grantingModes, ruled, rulingOf}
+use Rattle.access.specs.Within.{markRules, grantingModes, ruled, rulingOf}
 use Rattle.access.specs.declared.Denial.{Denial}
 use Rattle.access.specs.declared.Verdict.{Verdict}
 use Rattle.access.specs.declared.Verdict.the-variants.{Grants, Denies, Undecided}
 use Rattle.access.specs.declared.Ruling.{Ruling}
-use Rattle.access.proofs.Laws.{after, first-then, ruled-same}
-use Rattle.new_object.specs.NewObject.{byRuleWithT, labelBy, labelFor}
-use Rattle.new_object.specs.Within.{labelGranting}
-use Rattle.new_object.specs.declared.ObjectLabel.the-variants.{Creator, Denied}
+use Rattle.access.proofs.Laws.{after, in-two-parts, ruled-same}
+use Rattle.new_object.specs.NewObject.{byRuleWithT, objectLabelBy, objectLabelFor}
+use Rattle.new_object.specs.declared.ObjectLabel.the-variants.{CreatorLabel, Denied}
 
 -- ---- rules 1 to 4 go by no rule of the table
 
@@ -43,62 +42,64 @@ none-by-six (c ∷ cs) e =
     by-test false six p q ih = ih
 
 -- where another rule granted, it is the creator's label
-pub by-another : (n : ℕ) (pair : PairModes) (transmutes isFolder : Bool) → eqb n 6 ≡ false → labelBy (Grants n) pair transmutes isFolder ≡ Creator
+pub by-another : (n : ℕ) (pair : PairModes) (folderTransmutes isFolder : Bool) → eqb n 6 ≡ false → objectLabelBy (Grants n) pair folderTransmutes isFolder ≡ CreatorLabel
 by-another n pair true isFolder e = rw e
 by-another n pair false isFolder e = refl
 
 -- ---- the label by the modes of the rule that granted
 
-with-t : (n : ℕ) (pair : PairModes) → has (grantingModes (Grants n) pair) transmuteLetter ≡ byRuleWithT n pair
+with-t : (n : ℕ) (pair : PairModes) → byRuleWithT n (has-modes (grantingModes (Grants n) pair)) ≡ byRuleWithT n pair
 with-t n pair = by-case (eqb n 6) pair
   where
-    by-case : (six : Bool) (p : PairModes) → has (cond six (modesSoFar p) 0) transmuteLetter ≡ (six && modesPass p (λ (m : ℕ). has m transmuteLetter))
+    by-case :
+        (six : Bool) (p : PairModes) →
+        (six && has (cond six (modesSoFar p) 0) transmuteLetter) ≡ (six && modesPass p (λ (m : ℕ). has m transmuteLetter))
     by-case true (has-modes m) = refl
     by-case true no-rule = refl
     by-case false p = refl
 
-pub granting-is : (v : Verdict) (pair : PairModes) (transmutes isFolder : Bool) → labelGranting v (grantingModes v pair) transmutes isFolder ≡ labelBy v pair transmutes isFolder
-granting-is (Grants n) pair transmutes isFolder = rw (with-t n pair)
-granting-is (Denies by) pair transmutes isFolder = refl
-granting-is Undecided pair transmutes isFolder = refl
+pub granting-is :
+    (v : Verdict) (pair : PairModes) (folderTransmutes isFolder : Bool) →
+    objectLabelBy v (has-modes (grantingModes v pair)) folderTransmutes isFolder ≡ objectLabelBy v pair folderTransmutes isFolder
+granting-is (Grants n) pair folderTransmutes isFolder = rw (with-t n pair)
+granting-is (Denies by) pair folderTransmutes isFolder = refl
+granting-is Undecided pair folderTransmutes isFolder = refl
 
 -- ---- the seven rules in their two parts
 
-module _ (t : Table) (creator folder : List ℕ) (transmutes isFolder : Bool) where
+module _ (t : Table) (creator folder : List ℕ) (folderTransmutes isFolder : Bool) where
   abbrev pair : PairModes
   pair = modesBetween t creator folder
 
   abbrev marks : Verdict
   marks = firstOf (markRules creator folder writeLetter)
 
-  pub in-parts : (v : Verdict) → marks ≡ v → labelFor creator folder pair transmutes isFolder ≡ labelBy (after v (rulingOf t creator folder writeLetter .verdict)) pair transmutes isFolder
-  unfolding labelFor ruled
-  in-parts v e =
-      ap (λ (w : Verdict). labelBy w pair transmutes isFolder)
-      (first-then (markRules creator folder writeLetter) (laterRules creator folder pair writeLetter) refl ∙ ap (λ (w : Verdict). after w (firstOf (laterRules creator folder pair writeLetter))) e)
+  pub in-parts : (v : Verdict) → marks ≡ v → objectLabelFor creator folder pair folderTransmutes isFolder ≡ objectLabelBy (after v (rulingOf t creator folder writeLetter .verdict)) pair folderTransmutes isFolder
+  unfolding objectLabelFor
+  in-parts v e = ap (λ (w : Verdict). objectLabelBy w pair folderTransmutes isFolder) (in-two-parts t creator folder writeLetter v e)
 
-  pub by-a-mark : (n : ℕ) → marks ≡ Grants n → labelFor creator folder pair transmutes isFolder ≡ Creator
+  pub by-a-mark : (n : ℕ) → marks ≡ Grants n → objectLabelFor creator folder pair folderTransmutes isFolder ≡ CreatorLabel
   unfolding all
   by-a-mark n e =
       in-parts (Grants n) e
-      ∙ by-another n pair transmutes isFolder (sym (ap bySix e) ∙ none-by-six (markRules creator folder writeLetter) refl)
+      ∙ by-another n pair folderTransmutes isFolder (sym (ap bySix e) ∙ none-by-six (markRules creator folder writeLetter) refl)
 
-  pub denied-by-a-mark : (by : Denial) → marks ≡ Denies by → labelFor creator folder pair transmutes isFolder ≡ Denied
+  pub denied-by-a-mark : (by : Denial) → marks ≡ Denies by → objectLabelFor creator folder pair folderTransmutes isFolder ≡ Denied
   denied-by-a-mark by e = in-parts (Denies by) e
 
-  pub by-one-label : marks ≡ Undecided → sameBytes creator folder ≡ true → labelFor creator folder pair transmutes isFolder ≡ Creator
+  pub by-one-label : marks ≡ Undecided → sameBytes creator folder ≡ true → objectLabelFor creator folder pair folderTransmutes isFolder ≡ CreatorLabel
   by-one-label e same =
       in-parts Undecided e
-      ∙ ap (λ (r : Ruling). labelBy (r .verdict) pair transmutes isFolder) (sym (ruled-same (sameBytes creator folder) pair writeLetter same))
-      ∙ by-another 5 pair transmutes isFolder refl
+      ∙ ap (λ (r : Ruling). objectLabelBy (r .verdict) pair folderTransmutes isFolder) (sym (ruled-same (sameBytes creator folder) pair writeLetter same))
+      ∙ by-another 5 pair folderTransmutes isFolder refl
 
   pub by-the-others :
       marks ≡ Undecided →
       (r : Ruling) →
       r ≡ rulingOf t creator folder writeLetter →
-      labelGranting (r .verdict) (r .modes) transmutes isFolder ≡ labelFor creator folder pair transmutes isFolder
+      objectLabelBy (r .verdict) (has-modes (r .modes)) folderTransmutes isFolder ≡ objectLabelFor creator folder pair folderTransmutes isFolder
   unfolding ruled
   by-the-others e r q =
-      ap (λ (z : Ruling). labelGranting (z .verdict) (z .modes) transmutes isFolder) q
-      ∙ granting-is (rulingOf t creator folder writeLetter .verdict) pair transmutes isFolder
+      ap (λ (z : Ruling). objectLabelBy (z .verdict) (has-modes (z .modes)) folderTransmutes isFolder) q
+      ∙ granting-is (rulingOf t creator folder writeLetter .verdict) pair folderTransmutes isFolder
       ∙ sym (in-parts Undecided e)

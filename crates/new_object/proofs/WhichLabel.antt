@@ -17,7 +17,7 @@ use Rattle.refusals.specs.declared.Refusal.{Refusal}
 use Rattle.alphabet.specs.Alphabet.{wellFormed, badByteOfTwo}
 use Rattle.modes.specs.Modes.{has, bitOf, allowedByte, modesOf, readModes, writeLetter, transmuteLetter}
 use Rattle.store.specs.Table.{Table, labelIn, pairIn}
-use Rattle.store.specs.Pairs.{ruleBetween, modesFound, modesBetween}
+use Rattle.store.specs.Pairs.{PairModes, ruleBetween, modesFound, modesBetween}
 use Rattle.store.specs.Layout.{Store, tableOf, undamagedOf}
 use Rattle.access.specs.SevenRules.{modesPass, firstOf, sevenRules}
 use Rattle.access.specs.Access.{effective, answered, answer, questionOf}
@@ -28,10 +28,10 @@ use Rattle.access.specs.declared.Verdict.the-variants.{Grants, Denies, Undecide
 use Rattle.access.specs.declared.Answer.{Answer}
 use Rattle.access.specs.declared.Answer.the-variants as answer
 use Rattle.access.proofs.Laws.{effective-not, answer-is}
-use Rattle.new_object.specs.NewObject.{labelBy, labelFor, objectLabel, objectLabelOf}
-use Rattle.new_object.specs.WhichLabel.{writeAsked, RuleHas, WhichLabel, SameNewObjects}
+use Rattle.new_object.specs.NewObject.{objectLabelBy, objectLabelFor, objectLabel, objectLabelOf}
+use Rattle.new_object.specs.WhichLabel.{writeAsked, RuleHas, WhichLabel, LabelledBy, SameNewObjects}
 use Rattle.new_object.specs.declared.ObjectLabel.{ObjectLabel}
-use Rattle.new_object.specs.declared.ObjectLabel.the-variants.{Creator, Denied, Folder, Refused}
+use Rattle.new_object.specs.declared.ObjectLabel.the-variants.{CreatorLabel, Denied, FolderLabel, Refused}
 
 -- ---- the rule of a pair has a letter exactly where the pair's modes have it
 
@@ -67,7 +67,7 @@ module _ (t : Table) (s o : List ℕ) (letter : ℕ) where
 
 -- ---- what the call answers, beside what the question for w does
 
--- a test that holds is of three that hold, and one that does not fails in one of them
+-- where three tests together hold, each does; where they do not, one of them fails
 three : (a b c : Bool) → (a && (b && c)) ≡ true → (a ≡ true) × (b ≡ true) × (c ≡ true)
 three a b c e =
     let h = and-both a (b && c) e in
@@ -81,27 +81,27 @@ one-of-three true true false e = inr (inr refl)
 one-of-three true true true e = absurd (no (sym e))
 
 -- refused with one number; denied; granted, with the folder's label or with the creator's
-pub data Beside (transmutes isFolder withT : Bool) : ObjectLabel → Answer → Type 0 where
-  refuses : (r : Refusal) → Beside transmutes isFolder withT (Refused (r .number)) (answer.Refused r)
-  denies : (by : Denial) → Beside transmutes isFolder withT Denied (answer.Denied by)
-  grants-folders : (rule : ℕ) → (transmutes ≡ true) × (rule ≡ 6) × (withT ≡ true) → Beside transmutes isFolder withT (Folder isFolder) (answer.Granted rule)
-  grants-creators : (rule : ℕ) → (transmutes ≡ false) ⊎ (rule ≢ 6) ⊎ (withT ≡ false) → Beside transmutes isFolder withT Creator (answer.Granted rule)
+pub data Beside (folderTransmutes isFolder withT : Bool) : ObjectLabel → Answer → Type 0 where
+  refuses : (r : Refusal) → Beside folderTransmutes isFolder withT (Refused (r .number)) (answer.Refused r)
+  denies : (by : Denial) → Beside folderTransmutes isFolder withT Denied (answer.Denied by)
+  grants-folders : (rule : ℕ) → (folderTransmutes ≡ true) × (rule ≡ 6) × (withT ≡ true) → Beside folderTransmutes isFolder withT (FolderLabel isFolder) (answer.Granted rule)
+  grants-creators : (rule : ℕ) → (folderTransmutes ≡ false) ⊎ (rule ≢ 6) ⊎ (withT ≡ false) → Beside folderTransmutes isFolder withT CreatorLabel (answer.Granted rule)
 
-module _ (st : Store) (creator folder : List ℕ) (transmutes isFolder : Bool) where
+module _ (st : Store) (creator folder : List ℕ) (folderTransmutes isFolder : Bool) where
   abbrev T : Table
   T = tableOf st
 
   abbrev withT : Bool
   withT = pairHas T creator folder transmuteLetter
 
-  by-verdict : (v : Verdict) → Beside transmutes isFolder withT (labelBy v (modesBetween T creator folder) transmutes isFolder) (answered false v)
-  by-verdict (Grants n) = by-test (transmutes && (eqb n 6 && withT)) refl
+  by-verdict : (v : Verdict) → Beside folderTransmutes isFolder withT (objectLabelBy v (modesBetween T creator folder) folderTransmutes isFolder) (answered false v)
+  by-verdict (Grants n) = by-test (folderTransmutes && (eqb n 6 && withT)) refl
     where
-      by-test : (b : Bool) → (transmutes && (eqb n 6 && withT)) ≡ b → Beside transmutes isFolder withT (cond b (Folder isFolder) Creator) (answer.Granted n)
-      by-test true e = let h = three transmutes (eqb n 6) withT e in grants-folders n (h .0, eqb-true n 6 (h .1), h .2)
+      by-test : (b : Bool) → (folderTransmutes && (eqb n 6 && withT)) ≡ b → Beside folderTransmutes isFolder withT (cond b (FolderLabel isFolder) CreatorLabel) (answer.Granted n)
+      by-test true e = let h = three folderTransmutes (eqb n 6) withT e in grants-folders n (h .0, eqb-true n 6 (h .1), h .2)
       by-test false e =
           grants-creators n
-          (⊎-elim (λ p. inl p) (λ q. ⊎-elim (λ p. inr (inl (eqb-false n 6 p))) (λ p. inr (inr p)) q) (one-of-three transmutes (eqb n 6) withT e))
+          (⊎-elim (λ p. inl p) (λ q. ⊎-elim (λ p. inr (inl (eqb-false n 6 p))) (λ p. inr (inr p)) q) (one-of-three folderTransmutes (eqb n 6) withT e))
   by-verdict (Denies by) = denies by
   by-verdict Undecided = denies AnyOther
 
@@ -116,16 +116,16 @@ module _ (st : Store) (creator folder : List ℕ) (transmutes isFolder : Bool) w
   not-formed p = rw p
 
   abbrev given : ObjectLabel
-  given = objectLabelOf st creator folder transmutes isFolder
+  given = objectLabelOf st creator folder folderTransmutes isFolder
 
   abbrev asked : Answer
   asked = writeAsked st creator folder
 
-  pub beside : Beside transmutes isFolder withT given asked
-  unfolding objectLabelOf objectLabel questionOf labelFor
+  pub beside : Beside folderTransmutes isFolder withT given asked
+  unfolding objectLabelOf objectLabel questionOf objectLabelFor
   beside = by-state (undamagedOf st) (wellFormed creator && wellFormed folder) refl refl
     where
-      by-state : (whole both : Bool) → undamagedOf st ≡ whole → (wellFormed creator && wellFormed folder) ≡ both → Beside transmutes isFolder withT given asked
+      by-state : (whole both : Bool) → undamagedOf st ≡ whole → (wellFormed creator && wellFormed folder) ≡ both → Beside folderTransmutes isFolder withT given asked
       by-state false both u p = rw u (refuses damaged)
       by-state true true u p =
           let h = and-both (wellFormed creator) (wellFormed folder) p in
@@ -138,8 +138,8 @@ module _ (st : Store) (creator folder : List ℕ) (transmutes isFolder : Bool) w
 abbrev kind : ObjectLabel → ℕ
 kind (Refused n) = 0
 kind Denied = 1
-kind (Folder b) = 2
-kind Creator = 3
+kind (FolderLabel b) = 2
+kind CreatorLabel = 3
 
 abbrev kind-asked : Answer → ℕ
 kind-asked (answer.Refused r) = 0
@@ -153,67 +153,75 @@ other a b p e = eqb-false (kind a) (kind b) p (ap kind e)
 other-asked : (a b : Answer) → eqb (kind-asked a) (kind-asked b) ≡ false → a ≡ b → ⊥
 other-asked a b p e = eqb-false (kind-asked a) (kind-asked b) p (ap kind-asked e)
 
-module _ (transmutes isFolder withT : Bool) where
-  is-denied : {n : ObjectLabel} {a : Answer} → Beside transmutes isFolder withT n a → (n ≡ Denied) ↔ ((by : Denial) × (a ≡ answer.Denied by))
-  is-denied (refuses r) = (λ e. absurd (other _ _ refl e), λ e. absurd (other-asked _ _ refl (e .1)))
-  is-denied (denies by) = (λ e. (by, refl), λ e. refl)
-  is-denied (grants-folders rule p) = (λ e. absurd (other _ _ refl e), λ e. absurd (other-asked _ _ refl (e .1)))
-  is-denied (grants-creators rule p) = (λ e. absurd (other _ _ refl e), λ e. absurd (other-asked _ _ refl (e .1)))
+-- where neither of two holds, each does exactly where the other does
+neither : {P Q : Type 0} → (P → ⊥) → (Q → ⊥) → P ↔ Q
+neither p q = (λ e. absurd (p e), λ e. absurd (q e))
 
-  is-refused : {n : ObjectLabel} {a : Answer} → Beside transmutes isFolder withT n a → (k : ℕ) → (n ≡ Refused k) ↔ ((r : Refusal) × (a ≡ answer.Refused r) × (r .number ≡ k))
+module _ (folderTransmutes isFolder withT : Bool) where
+  is-denied : {n : ObjectLabel} {a : Answer} → Beside folderTransmutes isFolder withT n a → (n ≡ Denied) ↔ ((by : Denial) × (a ≡ answer.Denied by))
+  is-denied (refuses r) = neither (other _ _ refl) (λ e. other-asked _ _ refl (e .1))
+  is-denied (denies by) = (λ e. (by, refl), λ e. refl)
+  is-denied (grants-folders rule p) = neither (other _ _ refl) (λ e. other-asked _ _ refl (e .1))
+  is-denied (grants-creators rule p) = neither (other _ _ refl) (λ e. other-asked _ _ refl (e .1))
+
+  is-refused : {n : ObjectLabel} {a : Answer} → Beside folderTransmutes isFolder withT n a → (k : ℕ) → (n ≡ Refused k) ↔ ((r : Refusal) × (a ≡ answer.Refused r) × (r .number ≡ k))
   is-refused (refuses r) k = (λ e. (r, refl, cc), λ e. let p = e .1 in let q = e .2 in cc)
-  is-refused (denies by) k = (λ e. absurd (other _ _ refl e), λ e. absurd (other-asked _ _ refl (e .1)))
-  is-refused (grants-folders rule p) k = (λ e. absurd (other _ _ refl e), λ e. absurd (other-asked _ _ refl (e .1)))
-  is-refused (grants-creators rule p) k = (λ e. absurd (other _ _ refl e), λ e. absurd (other-asked _ _ refl (e .1)))
+  is-refused (denies by) k = neither (other _ _ refl) (λ e. other-asked _ _ refl (e .1))
+  is-refused (grants-folders rule p) k = neither (other _ _ refl) (λ e. other-asked _ _ refl (e .1))
+  is-refused (grants-creators rule p) k = neither (other _ _ refl) (λ e. other-asked _ _ refl (e .1))
 
   module _ (RuleWithT : Type 0) (there : withT ≡ true → RuleWithT) (stands : RuleWithT → withT ≡ true) where
     is-folders :
         {n : ObjectLabel} {a : Answer} →
-        Beside transmutes isFolder withT n a →
+        Beside folderTransmutes isFolder withT n a →
         (b : Bool) →
-        (n ≡ Folder b) ↔ ((transmutes ≡ true) × (a ≡ answer.Granted 6) × RuleWithT × (b ≡ isFolder))
-    is-folders (refuses r) b = (λ e. absurd (other _ _ refl e), λ e. absurd (other-asked _ _ refl (e .1)))
-    is-folders (denies by) b = (λ e. absurd (other _ _ refl e), λ e. absurd (other-asked _ _ refl (e .1)))
-    is-folders (grants-folders rule p) b = (λ e. (p .0, ap answer.Granted (p .1), there (p .2), cc), λ e. sym (ap Folder (e .3)))
-    is-folders (grants-creators rule p) b = (
-      λ e. absurd (other _ _ refl e),
-      λ e.
-          ⊎-elim (λ q. absurd (no (sym q ∙ e .0)))
-          (⊎-elim (λ q. let z = e .1 in absurd (q cc)) (λ q. absurd (no (sym q ∙ stands (e .2))))) p,
-    )
+        (n ≡ FolderLabel b) ↔ ((folderTransmutes ≡ true) × (a ≡ answer.Granted 6) × RuleWithT × (b ≡ isFolder))
+    is-folders (refuses r) b = neither (other _ _ refl) (λ e. other-asked _ _ refl (e .1))
+    is-folders (denies by) b = neither (other _ _ refl) (λ e. other-asked _ _ refl (e .1))
+    is-folders (grants-folders rule p) b = (λ e. (p .0, ap answer.Granted (p .1), there (p .2), cc), λ e. sym (ap FolderLabel (e .3)))
+    is-folders (grants-creators rule p) b =
+        neither (other _ _ refl)
+        (λ e.
+        ⊎-elim (λ q. no (sym q ∙ e .0))
+        (⊎-elim (λ q. let z = e .1 in q cc) (λ q. no (sym q ∙ stands (e .2)))) p)
 
     is-creators :
         {n : ObjectLabel} {a : Answer} →
-        Beside transmutes isFolder withT n a →
-        (n ≡ Creator) ↔ ((rule : ℕ) × (a ≡ answer.Granted rule) × ((transmutes ≡ false) ⊎ (rule ≢ 6) ⊎ (RuleWithT → ⊥)))
-    is-creators (refuses r) = (λ e. absurd (other _ _ refl e), λ e. absurd (other-asked _ _ refl (e .1)))
-    is-creators (denies by) = (λ e. absurd (other _ _ refl e), λ e. absurd (other-asked _ _ refl (e .1)))
-    is-creators (grants-folders rule p) = (
-      λ e. absurd (other _ _ refl e),
-      λ e.
-          ⊎-elim (λ q. absurd (no (sym q ∙ p .0)))
-          (⊎-elim (λ q. let z = e .1 in let w = p .1 in absurd (q cc)) (λ q. absurd (q (there (p .2))))) (e .2),
-    )
+        Beside folderTransmutes isFolder withT n a →
+        (n ≡ CreatorLabel) ↔ ((rule : ℕ) × (a ≡ answer.Granted rule) × ((folderTransmutes ≡ false) ⊎ (rule ≢ 6) ⊎ (RuleWithT → ⊥)))
+    is-creators (refuses r) = neither (other _ _ refl) (λ e. other-asked _ _ refl (e .1))
+    is-creators (denies by) = neither (other _ _ refl) (λ e. other-asked _ _ refl (e .1))
+    is-creators (grants-folders rule p) =
+        neither (other _ _ refl)
+        (λ e.
+        ⊎-elim (λ q. no (sym q ∙ p .0))
+        (⊎-elim (λ q. let z = e .1 in let w = p .1 in q cc) (λ q. q (there (p .2)))) (e .2))
     is-creators (grants-creators rule p) =
         (λ e. (rule, refl, ⊎-elim (λ q. inl q) (⊎-elim (λ q. inr (inl q)) (λ q. inr (inr (λ h. no (sym q ∙ stands h))))) p), λ e. refl)
 
-pub which-label : (st : Store) (creator folder : List ℕ) (transmutes isFolder : Bool) → WhichLabel st creator folder transmutes isFolder
+pub which-label : (st : Store) (creator folder : List ℕ) (folderTransmutes isFolder : Bool) → WhichLabel st creator folder folderTransmutes isFolder
 unfolding modesOf bitOf
-which-label st creator folder transmutes isFolder =
-    let b = beside st creator folder transmutes isFolder in
+which-label st creator folder folderTransmutes isFolder =
+    let b = beside st creator folder folderTransmutes isFolder in
     let t = tableOf st in
     let w = pairHas t creator folder transmuteLetter in
+    let there = rule-has t creator folder transmuteLetter in
+    let stands = has-rule t creator folder transmuteLetter in
+    let folders = is-folders folderTransmutes isFolder w _ there stands b in
     record {
-      denied = is-denied transmutes isFolder w b;
-      refused = is-refused transmutes isFolder w b;
-      folders = is-folders transmutes isFolder w _ (rule-has t creator folder transmuteLetter) (has-rule t creator folder transmuteLetter) b;
-      creators = is-creators transmutes isFolder w _ (rule-has t creator folder transmuteLetter) (has-rule t creator folder transmuteLetter) b;
-      no-folder =
-          λ p e.
-          let q = is-folders transmutes isFolder w _ (rule-has t creator folder transmuteLetter) (has-rule t creator folder transmuteLetter) b true .0 e .3 in
-          no (sym p ∙ sym q);
+      denied = is-denied folderTransmutes isFolder w b;
+      refused = is-refused folderTransmutes isFolder w b;
+      folders = folders;
+      creators = is-creators folderTransmutes isFolder w _ there stands b;
+      no-folder = λ p e. no (sym p ∙ sym (folders true .0 e .3));
     }
+
+-- ---- the modes of the pair alone count
+
+pub labelled-by : (t : Table) (creator folder : List ℕ) (pair : PairModes) → modesBetween t creator folder ≡ pair → LabelledBy t creator folder pair
+unfolding objectLabel
+labelled-by t creator folder pair e p q folderTransmutes isFolder = rw (p, q, e)
 
 pub pair-alone : (t u : Table) (creator folder : List ℕ) → modesBetween t creator folder ≡ modesBetween u creator folder → SameNewObjects t u creator folder
 unfolding objectLabel
-pair-alone t u creator folder e transmutes isFolder = rw e
+pair-alone t u creator folder e folderTransmutes isFolder = rw e

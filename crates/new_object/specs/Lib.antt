@@ -1,3 +1,2 @@
 pub mod NewObject
 pub mod WhichLabel
-pub mod Within

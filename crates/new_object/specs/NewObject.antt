@@ -14,7 +14,7 @@ use Rattle.access.specs.SevenRules.{modesPass, rulesFor, firstOf}
 use Rattle.access.specs.declared.Verdict.{Verdict}
 use Rattle.access.specs.declared.Verdict.the-variants.{Grants, Denies, Undecided}
 use Rattle.new_object.specs.declared.ObjectLabel.{ObjectLabel}
-use Rattle.new_object.specs.declared.ObjectLabel.the-variants.{Creator, Denied, Folder, Refused}
+use Rattle.new_object.specs.declared.ObjectLabel.the-variants.{CreatorLabel, Denied, FolderLabel, Refused}
 
 -- 02: 'rule 6 granted the write by a rule with t'. Of the seven only 6 goes by the pair's rule; so where an earlier one granted, its t does not count
 -- 000: 'the Smack rule (more below) that permitted the write access to the directory includes the transmute ("t") mode'
@@ -25,23 +25,23 @@ byRuleWithT rule pair = eqb rule 6 && modesPass pair (λ (m : ℕ). has m transm
 -- 02: 'If the creator may not write to the folder by rules 1 to 7, say denied.' (They leave nothing undecided, since the seventh applies to every question)
 -- 02: 'The folder's label is given when the folder transmutes and rule 6 granted the write by a rule with t; a new folder then transmutes too. Otherwise
 -- it's the creator's label, and it doesn't transmute.'
-abbrev pub labelBy : Verdict → PairModes → Bool → Bool → ObjectLabel
-labelBy (Denies by) pair transmutes isFolder = Denied
-labelBy Undecided pair transmutes isFolder = Denied
-labelBy (Grants rule) pair transmutes isFolder = cond (transmutes && byRuleWithT rule pair) (Folder isFolder) Creator
+abbrev pub objectLabelBy : Verdict → PairModes → Bool → Bool → ObjectLabel
+objectLabelBy (Denies by) pair folderTransmutes isFolder = Denied
+objectLabelBy Undecided pair folderTransmutes isFolder = Denied
+objectLabelBy (Grants rule) pair folderTransmutes isFolder = cond (folderTransmutes && byRuleWithT rule pair) (FolderLabel isFolder) CreatorLabel
 
 -- the write is a request of w alone; 'override isn't considered here'
-unfoldable pub labelFor : List ℕ → List ℕ → PairModes → Bool → Bool → ObjectLabel
-labelFor creator folder pair transmutes isFolder = labelBy (firstOf (rulesFor creator folder pair writeLetter)) pair transmutes isFolder
+unfoldable pub objectLabelFor : List ℕ → List ℕ → PairModes → Bool → Bool → ObjectLabel
+objectLabelFor creator folder pair folderTransmutes isFolder = objectLabelBy (firstOf (rulesFor creator folder pair writeLetter)) pair folderTransmutes isFolder
 
 -- of a table: 3 a label is not well formed
 unfoldable pub objectLabel : Table → List ℕ → List ℕ → Bool → Bool → ObjectLabel
-objectLabel t creator folder transmutes isFolder =
+objectLabel t creator folder folderTransmutes isFolder =
     cond (wellFormed creator && wellFormed folder)
-    (labelFor creator folder (modesBetween t creator folder) transmutes isFolder)
+    (objectLabelFor creator folder (modesBetween t creator folder) folderTransmutes isFolder)
     (Refused (badLabel .number))
 
 -- of a lent state: 0 before every other where it is damaged
 unfoldable pub objectLabelOf : Store → List ℕ → List ℕ → Bool → Bool → ObjectLabel
-objectLabelOf st creator folder transmutes isFolder =
-    cond (undamagedOf st) (objectLabel (tableOf st) creator folder transmutes isFolder) (Refused (damaged .number))
+objectLabelOf st creator folder folderTransmutes isFolder =
+    cond (undamagedOf st) (objectLabel (tableOf st) creator folder folderTransmutes isFolder) (Refused (damaged .number))

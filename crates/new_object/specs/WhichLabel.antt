@@ -7,15 +7,17 @@ use mathlib.Core.Logic.{_↔_, _≢_, _⊎_}
 use Rattle.search.specs.Bytes.{ascii}
 use Rattle.search.specs.declared.Found.the-variants.{At}
 use Rattle.refusals.specs.declared.Refusal.{Refusal}
+use Rattle.alphabet.specs.Alphabet.{wellFormed}
 use Rattle.modes.specs.Modes.{has, modesOf}
 use Rattle.store.specs.Table.{Table, labelIn, pairIn, ruleNumbered}
+use Rattle.store.specs.Pairs.{PairModes}
 use Rattle.store.specs.Layout.{Store, tableOf}
 use Rattle.access.specs.Access.{questionOf}
 use Rattle.access.specs.declared.Denial.{Denial}
 use Rattle.access.specs.declared.Answer.{Answer}
 use Rattle.access.specs.declared.Answer.the-variants as answer
-use Rattle.new_object.specs.NewObject.{objectLabel, objectLabelOf}
-use Rattle.new_object.specs.declared.ObjectLabel.the-variants.{Creator, Denied, Folder, Refused}
+use Rattle.new_object.specs.NewObject.{objectLabelFor, objectLabel, objectLabelOf}
+use Rattle.new_object.specs.declared.ObjectLabel.the-variants.{CreatorLabel, Denied, FolderLabel, Refused}
 
 -- a question of the creator for w alone to the folder, without the capability
 abbrev pub writeAsked : Store → List ℕ → List ℕ → Answer
@@ -32,33 +34,39 @@ pub record RuleHas (t : Table) (s o : List ℕ) (letter : ℕ) : Type 0 where
   pub letter-there : has (ruleNumbered t rule-number .modes) letter ≡ true
 
 -- of any lent state, creator and folder; whether the folder transmutes, and whether the new object is a folder
-pub record WhichLabel (st : Store) (creator folder : List ℕ) (transmutes isFolder : Bool) : Type 0 where
+pub record WhichLabel (st : Store) (creator folder : List ℕ) (folderTransmutes isFolder : Bool) : Type 0 where
   -- denied exactly when the question for w is denied
   pub denied :
-      (objectLabelOf st creator folder transmutes isFolder ≡ Denied) ↔ ((by : Denial) × (writeAsked st creator folder ≡ answer.Denied by))
+      (objectLabelOf st creator folder folderTransmutes isFolder ≡ Denied) ↔ ((by : Denial) × (writeAsked st creator folder ≡ answer.Denied by))
   -- refused exactly when that question is, with its number
   pub refused :
       (n : ℕ) →
-      (objectLabelOf st creator folder transmutes isFolder ≡ Refused n) ↔ ((r : Refusal) × (writeAsked st creator folder ≡ answer.Refused r) × (r .number ≡ n))
+      (objectLabelOf st creator folder folderTransmutes isFolder ≡ Refused n) ↔ ((r : Refusal) × (writeAsked st creator folder ≡ answer.Refused r) × (r .number ≡ n))
   -- the folder's label exactly when the folder transmutes and rule 6 granted the w by a rule with t; and then the new object transmutes exactly when it is a
   -- folder
   pub folders :
       (new-transmutes : Bool) →
-      (objectLabelOf st creator folder transmutes isFolder ≡ Folder new-transmutes)
-      ↔ ((transmutes ≡ true)
+      (objectLabelOf st creator folder folderTransmutes isFolder ≡ FolderLabel new-transmutes)
+      ↔ ((folderTransmutes ≡ true)
       × (writeAsked st creator folder ≡ answer.Granted 6)
       × RuleHas (tableOf st) creator folder (modesOf (ascii "t"))
       × (new-transmutes ≡ isFolder))
   -- the creator's exactly when the w is granted otherwise: in a folder that does not transmute, by another rule than 6, or by a rule without t
   pub creators :
-      (objectLabelOf st creator folder transmutes isFolder ≡ Creator)
+      (objectLabelOf st creator folder folderTransmutes isFolder ≡ CreatorLabel)
       ↔ ((rule : ℕ)
       × (writeAsked st creator folder ≡ answer.Granted rule)
-      × ((transmutes ≡ false) ⊎ (rule ≢ 6) ⊎ (RuleHas (tableOf st) creator folder (modesOf (ascii "t")) → ⊥)))
+      × ((folderTransmutes ≡ false) ⊎ (rule ≢ 6) ⊎ (RuleHas (tableOf st) creator folder (modesOf (ascii "t")) → ⊥)))
   -- a new object that is no folder never transmutes
-  pub no-folder : isFolder ≡ false → objectLabelOf st creator folder transmutes isFolder ≡ Folder true → ⊥
+  pub no-folder : isFolder ≡ false → objectLabelOf st creator folder folderTransmutes isFolder ≡ FolderLabel true → ⊥
+
+-- of a table: the label of every new object that this creator makes in a folder with this label goes by these modes of the pair
+abbrev pub LabelledBy : Table → List ℕ → List ℕ → PairModes → Type 0
+LabelledBy t creator folder pair =
+    wellFormed creator ≡ true → wellFormed folder ≡ true → (folderTransmutes isFolder : Bool) →
+    objectLabel t creator folder folderTransmutes isFolder ≡ objectLabelFor creator folder pair folderTransmutes isFolder
 
 -- of two tables: the same label for every new object that this creator makes in a folder with this label
 abbrev pub SameNewObjects : Table → Table → List ℕ → List ℕ → Type 0
 SameNewObjects t u creator folder =
-    (transmutes isFolder : Bool) → objectLabel t creator folder transmutes isFolder ≡ objectLabel u creator folder transmutes isFolder
+    (folderTransmutes isFolder : Bool) → objectLabel t creator folder folderTransmutes isFolder ≡ objectLabel u creator folder folderTransmutes isFolder

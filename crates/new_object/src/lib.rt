@@ -7,30 +7,34 @@ ghost use Prim.Native.Nat.{ℕ};
 ghost use Rattle.store.specs.Table.{Table};
 ghost use Rattle.store.specs.Layout.{Store, lent, tableOf, Sizes};
 ghost use Rattle.store.specs.Within.{Counts};
-ghost use Rattle.store.specs.Pairs.{modesBetween};
-ghost use Rattle.new_object.specs.NewObject.{labelFor, objectLabelOf};
+ghost use Rattle.store.specs.Pairs.{has-modes, modesBetween};
+ghost use Rattle.new_object.specs.NewObject.{objectLabelBy, objectLabelFor, objectLabelOf};
 ghost use Rattle.new_object.specs.WhichLabel.{WhichLabel, SameNewObjects};
-ghost use Rattle.new_object.specs.Within.{labelGranting};
 
 // Which label it gets: the creator's; none, since the creator may not write to the folder; the folder's, and whether the new object transmutes; or refused,
 // with its number.
 pub enum ObjectLabel {
-    Creator,
+    CreatorLabel,
     Denied,
-    Folder(bool),
+    FolderLabel(bool),
     Refused(u8),
 }
 
-// By what the rules say, and the modes of the rule by which rule 6 granted.
-fn by_verdict(verdict: Verdict, granting: u8, transmutes: bool, is_folder: bool) -> ObjectLabel
-    ensures { λ r. ⌜ r ≡ labelGranting verdict granting transmutes «is_folder» ⌝ }
+// By what the rules say and, where rule 6 granted, the modes of its rule.
+fn by_verdict(
+    verdict: Verdict,
+    granting: u8,
+    folder_transmutes: bool,
+    is_folder: bool,
+) -> ObjectLabel
+    ensures { λ r. ⌜ r ≡ objectLabelBy verdict (has-modes granting) «folder_transmutes» «is_folder» ⌝ }
 {
     match verdict {
-        Verdict::Grants(_) => {
-            if transmutes & (granting & modes::TRANSMUTE != 0) {
-                return ObjectLabel::Folder(is_folder);
+        Verdict::Grants(rule) => {
+            if folder_transmutes & ((rule == 6) & (granting & modes::TRANSMUTE != 0)) {
+                return ObjectLabel::FolderLabel(is_folder);
             }
-            ObjectLabel::Creator
+            ObjectLabel::CreatorLabel
         }
         Verdict::Denies(_) => ObjectLabel::Denied,
         Verdict::Undecided => ObjectLabel::Denied,
@@ -45,18 +49,18 @@ fn by_rules(
     words: &[u64],
     creator: &[u8],
     folder: &[u8],
-    transmutes: bool,
+    folder_transmutes: bool,
     is_folder: bool,
 ) -> ObjectLabel
     requires { ⌜ Sizes (now labels) (now entries) (now words) × Counts (now words) ⌝ }
-    ensures { λ r. ⌜ r ≡ labelFor (now (creator .entry)) (now (folder .entry)) (modesBetween (tableOf (lent labels entries words)) (now (creator .entry)) (now (folder .entry))) transmutes «is_folder» ⌝ }
+    ensures { λ r. ⌜ r ≡ objectLabelFor (now (creator .entry)) (now (folder .entry)) (modesBetween (tableOf (lent labels entries words)) (now (creator .entry)) (now (folder .entry))) «folder_transmutes» «is_folder» ⌝ }
 {
     match access::by_marks(creator, folder, modes::WRITE) {
-        Verdict::Grants(_) => ObjectLabel::Creator,
+        Verdict::Grants(_) => ObjectLabel::CreatorLabel,
         Verdict::Denies(_) => ObjectLabel::Denied,
         Verdict::Undecided => {
             if search::same_bytes(creator, folder) {
-                return ObjectLabel::Creator;
+                return ObjectLabel::CreatorLabel;
             }
             let count = words[store::LABEL_COUNT] as usize;
             let s = places::find_label(labels, count, creator);
@@ -64,22 +68,22 @@ fn by_rules(
             let ruling = access::by_numbers(entries, words, false, s, o, modes::WRITE);
             let verdict = ruling.verdict;
             let granting = ruling.modes;
-            by_verdict(verdict, granting, transmutes, is_folder)
+            by_verdict(verdict, granting, folder_transmutes, is_folder)
         }
     }
 }
 
-// The label of a new object. `transmutes` says whether the folder transmutes, `is_folder` whether the new object is a folder itself.
+// The label of a new object. `folder_transmutes` says whether the folder transmutes, `is_folder` whether the new object is a folder itself.
 pub fn object_label(
     labels: &[u8],
     entries: &[u8],
     words: &[u64],
     creator: &[u8],
     folder: &[u8],
-    transmutes: bool,
+    folder_transmutes: bool,
     is_folder: bool,
 ) -> ObjectLabel
-    ensures { λ r. ⌜ r ≡ objectLabelOf (lent labels entries words) (now (creator .entry)) (now (folder .entry)) transmutes «is_folder» ⌝ }
+    ensures { λ r. ⌜ r ≡ objectLabelOf (lent labels entries words) (now (creator .entry)) (now (folder .entry)) «folder_transmutes» «is_folder» ⌝ }
 {
     if !damage::undamaged(labels, entries, words) {
         return ObjectLabel::Refused(refusals::DAMAGED.number);
@@ -96,7 +100,7 @@ pub fn object_label(
         words,
         creator,
         folder,
-        transmutes,
+        folder_transmutes,
         is_folder,
     )
 }
@@ -104,6 +108,6 @@ pub fn object_label(
 // The claim of when it is denied, the folder's or the creator's label, in 02's words: by the answer to a question for w, and the rule of the pair. And nothing
 // is looked at in a table but the modes of the pair: so not the override list, no mapping, and no other rule.
 pub fn which_label_a_new_object_gets()
-    ensures { λ _. ⌜ ((st : Store) (creator folder : List ℕ) (transmutes isFolder : Bool) → WhichLabel st creator folder transmutes isFolder) ⌝ }
+    ensures { λ _. ⌜ ((st : Store) (creator folder : List ℕ) (folderTransmutes isFolder : Bool) → WhichLabel st creator folder folderTransmutes isFolder) ⌝ }
     ensures { λ _. ⌜ ((t u : Table) (creator folder : List ℕ) → modesBetween t creator folder ≡ modesBetween u creator folder → SameNewObjects t u creator folder) ⌝ }
 {}

@@ -740,6 +740,9 @@ impl Generator<'_> {
 
     fn oddity(&mut self) {
         let Some(table) = self.table() else { return };
+        if self.machine.loader.line.len() != plain::LINE_LIMIT {
+            return;
+        }
         let labels = table.labels.len() as u64;
         match self.random.below(12) {
             // A label stored twice.

@@ -36,7 +36,7 @@ returns c =
     let e = c .before .before in
     let d = e .before .before in
     let a = S d .args in
-    sym (by-one-label (T d) (a .creator .now) (a .folder .now) (a .transmutes) (a .is-folder) (sym (d .by-marks .ensures) ∙ e .enum-told3 .given .1) (sym (c .before .same-bytes .ensures) ∙ c .if1 .taken))
+    sym (by-one-label (T d) (a .creator .now) (a .folder .now) (a .folder-transmutes) (a .is-folder) (sym (d .by-marks .ensures) ∙ e .enum-told3 .given .1) (sym (c .before .same-bytes .ensures) ∙ c .if1 .taken))
 
 shared-slice-read-count : tie.Need-shared-slice-read-count
 shared-slice-read-count c = search needs
@@ -59,13 +59,13 @@ returns-2 : tie.Need-returns-2
 returns-2 c =
     let d = c .before .before in
     let a = S d .args in
-    sym (by-a-mark (T d) (a .creator .now) (a .folder .now) (a .transmutes) (a .is-folder) _ (sym (d .by-marks .ensures) ∙ c .enum-told .given .1))
+    sym (by-a-mark (T d) (a .creator .now) (a .folder .now) (a .folder-transmutes) (a .is-folder) _ (sym (d .by-marks .ensures) ∙ c .enum-told .given .1))
 
 returns-3 : tie.Need-returns-3
 returns-3 c =
     let d = c .before .before in
     let a = S d .args in
-    sym (denied-by-a-mark (T d) (a .creator .now) (a .folder .now) (a .transmutes) (a .is-folder) _ (sym (d .by-marks .ensures) ∙ c .enum-told2 .given .1))
+    sym (denied-by-a-mark (T d) (a .creator .now) (a .folder .now) (a .folder-transmutes) (a .is-folder) _ (sym (d .by-marks .ensures) ∙ c .enum-told2 .given .1))
 
 returns-4 : tie.Need-returns-4
 returns-4 c =
@@ -75,7 +75,7 @@ returns-4 c =
     let d = e .before .before in
     let a = S d .args in
     c .by-verdict .ensures
-    ∙ by-the-others (T d) (a .creator .now) (a .folder .now) (a .transmutes) (a .is-folder) (sym (d .by-marks .ensures) ∙ e .enum-told3 .given .1) (n .by-numbers .result)
+    ∙ by-the-others (T d) (a .creator .now) (a .folder .now) (a .folder-transmutes) (a .is-folder) (sym (d .by-marks .ensures) ∙ e .enum-told3 .given .1) (n .by-numbers .result)
     (n .by-numbers .ensures
     ∙ ruled-by (a .labels .now) (a .entries .now) (a .words .now) (a .creator .now) (a .folder .now) _ _ _ _
     (sym (n .before .before .before .before .if1 .left) ∙ s .same-bytes .ensures)
