@@ -428,10 +428,10 @@ static bool packets(void)
 
 /* A file or a folder that a creator wants to make in a folder. A host that makes files gives it the label that is named here, and, where it says so, the mark
  * that a transmuting folder has. */
-static void create(const char *creator, const char *folder, bool transmutes, bool is_folder)
+static void create(const char *creator, const char *folder, bool folder_transmutes, bool is_folder)
 {
-    bq_labelled object = bq_new_object(TABLES, TEXT(creator), TEXT(folder), transmutes, is_folder);
-    printf("%s makes a %s in %s%s: ", creator, is_folder ? "folder" : "file", folder, transmutes ? " (transmutes)" : "");
+    bq_labelled object = bq_new_object(TABLES, TEXT(creator), TEXT(folder), folder_transmutes, is_folder);
+    printf("%s makes a %s in %s%s: ", creator, is_folder ? "folder" : "file", folder, folder_transmutes ? " (transmutes)" : "");
     switch (object.kind) {
     case BQ_CREATOR_LABEL:
         printf("label %s\n", creator);
@@ -447,8 +447,8 @@ static void create(const char *creator, const char *folder, bool transmutes, boo
     }
 }
 
-/* The recorder and the alarm make record files in one folder, Records, which transmutes. A file of the alarm's is one that the recorder can read only
- * where it gets the folder's label; and that wants t in the alarm's rule. */
+/* The recorder and the alarm make record files in one folder, Records, which transmutes. The recorder can read a file that the alarm made only where it has
+ * the folder's label; for that the alarm's rule needs t. */
 static bool shared_folder(void)
 {
     if (!done("fresh table", bq_fresh_table(TABLES)))

@@ -218,7 +218,7 @@ mod balqirven {
         fn bq_by_level(l: Bytes, ln: usize, e: Bytes, en: usize, w: *const u64, wn: usize, level: u64, set: Set) -> Lowest;
         fn bq_lowest_in_run(records: *const Record, n: usize, level: u64, set: Set) -> Lowest;
         fn bq_question(l: Bytes, ln: usize, e: Bytes, en: usize, w: *const u64, wn: usize, subject: Bytes, subject_n: usize, object: Bytes, object_n: usize, request: Bytes, request_n: usize, capable: bool) -> Decision;
-        fn bq_new_object(l: Bytes, ln: usize, e: Bytes, en: usize, w: *const u64, wn: usize, creator: Bytes, creator_n: usize, folder: Bytes, folder_n: usize, transmutes: bool, is_folder: bool) -> Labelled;
+        fn bq_new_object(l: Bytes, ln: usize, e: Bytes, en: usize, w: *const u64, wn: usize, creator: Bytes, creator_n: usize, folder: Bytes, folder_n: usize, folder_transmutes: bool, is_folder: bool) -> Labelled;
         fn bq_list_rule(l: Bytes, ln: usize, e: Bytes, en: usize, w: *const u64, wn: usize, k: usize, out: *mut u8, out_n: usize) -> Length;
         fn bq_label(l: Bytes, ln: usize, e: Bytes, en: usize, w: *const u64, wn: usize, k: usize) -> Part;
         fn bq_record_to_line(record: Bytes, record_n: usize, out: *mut u8, out_n: usize) -> Length;
@@ -385,9 +385,10 @@ mod balqirven {
             }
         }
 
-        /// The label of a new object that `creator` makes in a folder with the label `folder`, which transmutes or not.
-        pub fn new_object(&self, creator: &[u8], folder: &[u8], transmutes: bool, is_folder: bool) -> Result<NewObject, Refused> {
-            let object = call!(bq_new_object, read self, creator.as_ptr(), creator.len(), folder.as_ptr(), folder.len(), transmutes, is_folder);
+        /// The label of a new object that a process with the label `creator` makes in a folder with the label `folder`. `folder_transmutes`: the folder
+        /// does; `is_folder`: the new object is a folder itself.
+        pub fn new_object(&self, creator: &[u8], folder: &[u8], folder_transmutes: bool, is_folder: bool) -> Result<NewObject, Refused> {
+            let object = call!(bq_new_object, read self, creator.as_ptr(), creator.len(), folder.as_ptr(), folder.len(), folder_transmutes, is_folder);
             match object.kind {
                 CREATOR_LABEL => Ok(NewObject::CreatorLabel),
                 FOLDER_LABEL => Ok(NewObject::FolderLabel { transmutes: object.transmutes }),
@@ -768,19 +769,19 @@ fn packets() -> Option<()> {
 
 /// A file or a folder that a creator wants to make in a folder. A host that makes files gives it the label that is named here, and, where it says so, the
 /// mark that a transmuting folder has.
-fn create(t: &Tables, creator: &str, folder: &str, transmutes: bool, is_folder: bool) {
+fn create(t: &Tables, creator: &str, folder: &str, folder_transmutes: bool, is_folder: bool) {
     let mark = |transmutes| if transmutes { " (transmutes)" } else { "" };
-    let answer = match t.new_object(creator.as_bytes(), folder.as_bytes(), transmutes, is_folder) {
+    let answer = match t.new_object(creator.as_bytes(), folder.as_bytes(), folder_transmutes, is_folder) {
         Ok(NewObject::CreatorLabel) => format!("label {creator}"),
         Ok(NewObject::FolderLabel { transmutes }) => format!("label {folder}{}", mark(transmutes)),
         Ok(NewObject::Denied) => "denied".to_string(),
         Err(Refused { number, .. }) => format!("refused {number}: {}", in_words(number)),
     };
-    println!("{creator} makes a {} in {folder}{}: {answer}", if is_folder { "folder" } else { "file" }, mark(transmutes));
+    println!("{creator} makes a {} in {folder}{}: {answer}", if is_folder { "folder" } else { "file" }, mark(folder_transmutes));
 }
 
-/// The recorder and the alarm make record files in one folder, Records, which transmutes. A file of the alarm's is one that the recorder can read only where
-/// it gets the folder's label; and that wants t in the alarm's rule. None where there was no table.
+/// The recorder and the alarm make record files in one folder, Records, which transmutes. The recorder can read a file that the alarm made only where it has
+/// the folder's label; for that the alarm's rule needs t. None where there was no table.
 fn shared_folder() -> Option<()> {
     let t = &mut *fresh()?;
     done("change 'Recorder Records rwxt -'", t.change(b"Recorder Records rwxt -"));

@@ -69,7 +69,7 @@ extern "C" {
 /* The version of this interface. MINOR is raised where something is added (a call, a name, a refusal number) and an older host need not
  * change; MAJOR, with MINOR at 0 again, where a struct, a size, a parameter or what a call answers changes, so that each host has to be
  * looked at and compiled again. (Since version 4 a mapping write at level 250 gets 9. Since version 5 the bring-up letter b is retired: a line may still
- * have it and the report counts such lines, but no rule, listing or answer has it.) */
+ * have it and the report counts such lines, but no rule, listing or answer has it. Since 5.1 there is bq_new_object.) */
 #define BQ_VERSION_MAJOR 5
 #define BQ_VERSION_MINOR 1
 
@@ -233,8 +233,8 @@ typedef struct {
     size_t place;
 } bq_decision;
 
-/* Which label a new object gets: the creator's; or the folder's, and then whether the new object transmutes; or none, since the creator may not write to
- * the folder; refused, with its number. Denied and refused are the same kinds as in a question's answer, 1 and 3; but beside denied no rule is named, and
+/* Which label a new object gets: the creator's; none, since the creator may not write to the folder; the folder's, and then whether the new object
+ * transmutes; refused, with its number. Denied and refused are the same kinds as in a question's answer, 1 and 3; but beside denied no rule is named, and
  * `number` is 0. `transmutes` is false beside every kind but the folder's label. */
 enum { BQ_CREATOR_LABEL = 0, BQ_CREATION_DENIED = 1, BQ_FOLDER_LABEL = 2, BQ_CREATION_REFUSED = 3 };
 typedef struct {
@@ -337,16 +337,18 @@ bq_decision bq_question(const uint8_t *labels, size_t labels_len, const uint8_t 
 
 /* ---- the label of a new object */
 
-/* Which label does a new object get that `creator` makes in a folder with the label `folder`? `transmutes`: the folder transmutes (SMACK64TRANSMUTE);
- * `is_folder`: the new object is a folder itself. Denied exactly where a question of the creator for w alone to the folder, without the capability, is
- * denied: the override list and the capability are not considered. The folder's label exactly where the folder transmutes and rule 6 grants that w by a rule
- * that has t; then the new object transmutes where it is a folder. Otherwise the creator's label, and the new object does not transmute: so where creator
- * and folder have one label (rule 5), and in a folder `*` (rule 4), whatever rules there are. The answer names one of the two lent labels, and the host
- * has its bytes. Nothing changes, and neither label enters the table; which attributes a file gets is the host's affair.
- * Refusals: 0 3. */
+/* Which label does a new object get that a process with the label `creator` makes in a folder with the label `folder`? Then come, in this order, whether
+ * the folder transmutes (SMACK64TRANSMUTE) and whether the new object is a folder itself. Denied exactly where a question of the creator for w alone to the
+ * folder, without the capability, is denied: the capability and the override list are not considered. (Where override lets the creator write all the same, as
+ * bq_question says, this call names no label: which one the object then gets is the host's affair.) The folder's label exactly where the folder transmutes
+ * and rule 6 grants that w by a rule that has t; then the new object transmutes where it is a folder. Otherwise the creator's label, and the new object does
+ * not transmute: so where creator and folder have one label (rule 5), and in a folder `*` (rule 4), whatever rules there are. The answer names one of the
+ * two lent labels, and the host has its bytes. Labels that are not stored are judged like any other, and have no rules. Nothing changes, and neither label
+ * enters the table; which attributes a file gets is the host's affair.
+ * Refusals: 0; 3 for either label: bq_question for w with the same two labels is refused alike, and tells the place. */
 bq_labelled bq_new_object(const uint8_t *labels, size_t labels_len, const uint8_t *entries, size_t entries_len, const uint64_t *words,
                           size_t words_len, const uint8_t *creator, size_t creator_len, const uint8_t *folder, size_t folder_len,
-                          bool transmutes, bool is_folder);
+                          bool folder_transmutes, bool is_folder);
 
 /* ---- listing */
 

@@ -220,7 +220,7 @@ pub fn by_numbers(
 }
 
 // The first of the seven rules that applies decides. Where rules 1 to 4 do, no label is looked up, but for a denial that may be overridden. Otherwise each
-// label is looked up once, the object first where the subject was found, since for rule 5 it stands there. Who calls it has tested the store.
+// label is looked up once, the object first at the place where the subject was found, where it stands under rule 5. Who calls it has tested the store.
 fn decide(
     labels: &[u8],
     entries: &[u8],

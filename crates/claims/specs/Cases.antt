@@ -47,6 +47,7 @@ sameLookup (l.Mapped level set count) x cs n = eqb level x && (sameBytes (catego
 sameLookup l.Unmapped x cs n = false
 sameLookup (l.Refused k) x cs n = false
 
+-- whether two answers about a new object are the same
 abbrev pub sameTest : Bool → Bool → Bool
 sameTest a b = cond a b (not b)
 

@@ -19,6 +19,7 @@ use Rattle.store.specs.Table.{Table, withOnlycap, numberIn}
 use Rattle.store.specs.Judged.{is-refused, is-accepted}
 use Rattle.onlycap.specs.Onlycap.{different, labelsWith, withList, loneDash, onlycapFields, onlycapWrite}
 use Rattle.access.specs.Access.{isFound, onList, effective}
+use Rattle.store.specs.Pairs.{modesBetween}
 use Rattle.new_object.proofs.WhichLabel.{pair-alone}
 use Rattle.grown.specs.Pairs.{SoundTable}
 use Rattle.grown.proofs.Pairs.{modes-kept}
@@ -38,14 +39,15 @@ module _ (t : Table) (sound : SoundTable t) where
   none-set : SetsList t (withOnlycap t []) []
   unfolding effective
   none-set =
+      let kept : (x y : List ℕ) → modesBetween (withOnlycap t []) x y ≡ modesBetween t x y = λ x y. modes-kept t (withOnlycap t []) sound (front-same (t .labels)) x y (λ i j a b. refl) in
       record {
         override = λ x capable. refl;
         listed = appearances [];
         labels = entering t (withOnlycap t []) [] refl;
         rules = refl;
         mappings = refl;
-        modes = λ x y. modes-kept t (withOnlycap t []) sound (front-same (t .labels)) x y (λ i j a b. refl);
-        new-objects = λ x y. pair-alone (withOnlycap t []) t x y (modes-kept t (withOnlycap t []) sound (front-same (t .labels)) x y (λ i j a b. refl));
+        modes = kept;
+        new-objects = λ x y. pair-alone (withOnlycap t []) t x y (kept x y);
         look-ups = lookups-kept t (withOnlycap t []) sound (front-same (t .labels)) refl;
       }
 
@@ -97,6 +99,7 @@ module _ (t : Table) (sound : SoundTable t) where
     labels-set : SetsList t (withList t fs) fs
     unfolding effective
     labels-set =
+        let kept : (x y : List ℕ) → modesBetween (withList t fs) x y ≡ modesBetween t x y = λ x y. modes-kept t (withList t fs) sound (fold-front fs (t .labels)) x y (λ i j a b. refl) in
         record {
           override = λ x capable.
               ap (λ (b : Bool). capable && (b || onList (map (numberIn ls) ds) (first (sameBytes x) ls))) (some-listed ds first-there)
@@ -106,8 +109,8 @@ module _ (t : Table) (sound : SoundTable t) where
           labels = entering t (withList t fs) fs refl;
           rules = refl;
           mappings = refl;
-          modes = λ x y. modes-kept t (withList t fs) sound (fold-front fs (t .labels)) x y (λ i j a b. refl);
-          new-objects = λ x y. pair-alone (withList t fs) t x y (modes-kept t (withList t fs) sound (fold-front fs (t .labels)) x y (λ i j a b. refl));
+          modes = kept;
+          new-objects = λ x y. pair-alone (withList t fs) t x y (kept x y);
           look-ups = lookups-kept t (withList t fs) sound (fold-front fs (t .labels)) refl;
         }
 

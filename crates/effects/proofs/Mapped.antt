@@ -29,6 +29,7 @@ use Rattle.cipso.proofs.Laws.{said-known}
 use Rattle.lookups.specs.declared.Lookup.{Lookup}
 use Rattle.lookups.specs.declared.Lookup.the-variants.{Mapped, Unmapped, Refused}
 use Rattle.lookups.specs.Lookups.{mappedAs, lookedUp, lookupBy, labelLookup}
+use Rattle.store.specs.Pairs.{modesBetween}
 use Rattle.new_object.proofs.WhichLabel.{pair-alone}
 use Rattle.grown.specs.Pairs.{SoundTable}
 use Rattle.grown.proofs.Sane.{one-label, sound-parts}
@@ -167,6 +168,7 @@ module _ (t : Table) (sound : SoundTable t) (l : List ℕ) (level : ℕ) (s : Ca
   maps : Maps t t′ l level s
   unfolding labelLookup
   maps =
+      let kept : (x y : List ℕ) → modesBetween t′ x y ≡ modesBetween t x y = λ x y. modes-kept t t′ sound (enter-front (t .labels) l) x y (λ i j a b. refl) in
       record {
         found = rw (formed, enter-number (t .labels) l) (own-found (t .mappings) (numberFor t l) level s);
         others = λ x apart. ap (λ (r : Lookup). cond (wellFormed x) r (Refused (badLabelAt (badByte x)))) (others-kept x apart);
@@ -179,9 +181,9 @@ module _ (t : Table) (sound : SoundTable t) (l : List ℕ) (level : ℕ) (s : Ca
         onlycap = refl;
         answers = λ x y.
             answer-same t t′ x y
-            (modes-kept t t′ sound (enter-front (t .labels) l) x y (λ i j a b. refl))
+            (kept x y)
             (override-kept t t′ sound (enter-front (t .labels) l) refl x);
-        new-objects = λ x y. pair-alone t′ t x y (modes-kept t t′ sound (enter-front (t .labels) l) x y (λ i j a b. refl));
+        new-objects = λ x y. pair-alone t′ t x y (kept x y);
       }
     where
       counted : (f : Found) → (f ≢ Nothing) → countAfter f (length (t .mappings)) ≡ length (t .mappings)

@@ -16,7 +16,7 @@ use Rattle.access.specs.declared.Verdict.the-variants.{Grants, Denies, Undecide
 use Rattle.new_object.specs.declared.ObjectLabel.{ObjectLabel}
 use Rattle.new_object.specs.declared.ObjectLabel.the-variants.{CreatorLabel, Denied, FolderLabel, Refused}
 
--- 02: 'rule 6 granted the write by a rule with t'. Of the seven only 6 goes by the pair's rule; so where an earlier one granted, its t does not count
+-- 02: 'rule 6 granted the write by a rule with t'. Of the seven only 6 goes by the pair's rule; so where an earlier one granted, a t in the pair's rule does not count
 -- 000: 'the Smack rule (more below) that permitted the write access to the directory includes the transmute ("t") mode'
 abbrev pub byRuleWithT : ℕ → PairModes → Bool
 byRuleWithT rule pair = eqb rule 6 && modesPass pair (λ (m : ℕ). has m transmuteLetter)

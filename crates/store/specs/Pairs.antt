@@ -26,7 +26,7 @@ modesFound rules Nothing = no-rule
 unfoldable pub modesBetween : Table → List ℕ → List ℕ → PairModes
 modesBetween t s o = modesFound (t .rules) (ruleBetween t (labelIn t s) (labelIn t o))
 
--- the modes that a change starts from: those of the pair's rule, or none
+-- the modes of the pair's rule, or none; a change starts from these
 abbrev pub modesSoFar : PairModes → ℕ
 modesSoFar (has-modes m) = m
 modesSoFar no-rule = 0
