@@ -8426,6 +8426,133 @@ def newobjects_walk():
     s.store()
 
 
+def newobjects_lengths():
+    s = Script("newobjects_lengths", "02, Seven: labels of every length, and labels that differ in one byte or only in length: whole labels are compared, as creator and as folder.", True)
+    s.say("A creator and a folder of each length from 1 to 255 bytes by rule 6; one label for both; and a label that is another one in each of its last eight bytes.")
+    for n in range(1, 256):
+        label = b"L" * n
+        s.fresh()
+        s.change(label + b" Records wt -")
+        four(s, label, b"Records", *TRANSMUTED)
+        s.change(b"Recorder " + label + b" wt -")
+        four(s, b"Recorder", label, *TRANSMUTED)
+        s.newobject(label, label, 1, 1, "creator")
+        for k in range(max(0, n - 8), n):
+            near = label[:k] + b"M" + label[k + 1:]
+            s.newobject(near, b"Records", 1, 1, "denied")
+            s.newobject(b"Recorder", near, 1, 1, "denied")
+    s.say("The same of labels that are not stored: equal to themselves alone.")
+    s.fresh()
+    for n in range(1, 256):
+        label = b"U" * n
+        s.newobject(label, label, 1, 1, "creator")
+        s.newobject(label, label[:-1] + b"V", 1, 1, "denied")
+    s.say("A stored label of 64 and of 128 bytes more.")
+    for more in (64, 128):
+        for n in range(1, 256 - more):
+            s.fresh()
+            s.change(b"L" * (n + more) + b" Records wt -")
+            s.change(b"Recorder " + b"L" * (n + more) + b" wt -")
+            s.newobject(b"L" * n, b"Records", 1, 1, "denied")
+            s.newobject(b"Recorder", b"L" * n, 1, 1, "denied")
+    s.say("Two labels of 255 bytes that differ in one byte, at each place, with and without a rule.")
+    whole = b"L" * 255
+    for k in range(255):
+        near = whole[:k] + b"M" + whole[k + 1:]
+        s.fresh()
+        s.newobject(whole, near, 1, 1, "denied")
+        s.newobject(near, near, 1, 1, "creator")
+        s.change(whole + b" " + near + b" wt -")
+        s.newobject(whole, near, 1, 1, "folder 1")
+        s.newobject(near, whole, 1, 1, "denied")
+    s.say("One bad byte at each place of a label of 255 bytes, and at the end of a shorter one.")
+    s.fresh()
+    for k in range(255):
+        for bad in (b"/", b" ", b"\xff"):
+            label = whole[:k] + bad + whole[k + 1:]
+            for one in (label, label[:k + 1]):
+                s.newobject(one, b"Records", 1, 1, 3)
+                s.newobject(b"Records", one, 1, 1, 3)
+    s.store()
+
+
+def newobjects_places():
+    s = Script("newobjects_places", "02, Seven, and 01, refusal 0: tables of every number of labels, mappings and override labels; label numbers and rules at each place; damage at each.", True)
+    s.say("Each number of stored labels.")
+    for n in range(6, 65):
+        labels = FIVE + [b"F%d" % k for k in range(5, n)]
+        lend(s, labels, [(n - 1, 0, b"wt"), (0, n - 1, b"w")])
+        four(s, labels[n - 1], b"_", *TRANSMUTED)
+        four(s, b"_", labels[n - 1], "creator")
+    s.say("64 labels: a rule of two numbers is not that of a number 32 or 16 further on or back.")
+    labels = FIVE + [b"F%d" % k for k in range(5, 64)]
+    for i, j in ((5, 6), (5, 38), (37, 6), (31, 32), (32, 31), (63, 5), (6, 62), (21, 22)):
+        lend(s, labels, [(i, j, b"wt")])
+        s.newobject(labels[i], labels[j], 1, 1, "folder 1")
+        for x, y in ((i, j ^ 32), (i ^ 32, j), (i ^ 32, j ^ 32), (i ^ 16, j), (i, j ^ 16), (j, i)):
+            if (x, y) != (i, j) and 5 <= min(x, y) and x != y:
+                s.newobject(labels[x], labels[y], 1, 1, "denied")
+    s.say("The pair at two places of 256 rules: the first counts, also where the two are neighbours.")
+    for i, j in ((0, 1), (1, 2), (31, 32), (63, 64), (127, 128), (128, 129), (191, 192), (253, 254), (254, 255), (0, 255), (100, 200)):
+        for first, later in ((b"wt", b"w"), (b"w", b"wt"), (b"t", b"wt"), (b"", b"wt")):
+            rules = [(5 + k % 40, 50, b"wt") for k in range(256)]
+            rules[i], rules[j] = (60, 61, first), (60, 61, later)
+            lend(s, labels, rules)
+            four(s, b"F60", b"F61", *(says_new(b"F60", b"F61", first, *flags) for flags in FOUR))
+    s.say("The rule at each place whose creator's number is one more than its folder's.")
+    for k in range(256):
+        rules = [(5 + j % 40, 50, b"w") for j in range(256)]
+        rules[k] = (61, 60, b"wt")
+        lend(s, labels, rules)
+        s.newobject(b"F61", b"F60", 1, 1, "folder 1")
+        s.newobject(b"F60", b"F61", 1, 1, "denied")
+    s.say("The last two of 64 labels have 255 bytes, and the last of 256 rules is theirs.")
+    long = labels[:62] + [b"X" * 255, b"Y" * 255]
+    for i, j in ((62, 63), (63, 62), (63, 5), (5, 63)):
+        lend(s, long, [(6 + k % 50, 60, b"w") for k in range(255)] + [(i, j, b"wt")])
+        four(s, long[i], long[j], *TRANSMUTED)
+        s.newobject(long[j], long[i], 1, 1, "denied")
+    s.say("Each number of mappings, which are not looked at; also of the creator, at level 250 in a lent state.")
+    s.fresh()
+    s.change(b"Recorder Records wt -")
+    for k in range(33):
+        four(s, b"Recorder", b"Records", *TRANSMUTED)
+        if k < 32:
+            s.mapping(b"Recorder 9 1" if k == 0 else b"M%d 9 1" % k)
+    s.poke("entries", 800, b"\xfa")
+    four(s, b"Recorder", b"Records", *TRANSMUTED)
+    kinds = ((b"Recorder", b"Records"), (b"*", b"*"), (b"Recorder", b"*"), (b"Recorder", b"Recorder"), (b"-", b"Records"), (b"Recorder", b"Rec/ords"), (b"", b""))
+
+    def damaged():
+        for creator, folder in kinds:
+            s.newobject(creator, folder, 1, 1, 0)
+
+    s.say("Damage: a mapping's label number at each place, a bit that is no category, counts over 2^32, an override label at each place; beside labels that would be refused with 3.")
+    for k in range(32):
+        s.poke("entries", 768 + k, b"\xff")
+        damaged()
+        s.poke("entries", 768 + k, b"\x05")
+        s.poke("words", 68 + k, 1)
+        damaged()
+        s.poke("words", 68 + k, 0)
+    for index in range(4):
+        for value in (2 ** 32, 2 ** 32 + 1, 2 ** 32 + 5, 2 ** 40 + 1, 2 ** 56 + 1):
+            s.fresh()
+            s.change(b"Recorder Records wt -")
+            s.poke("words", index, value)
+            damaged()
+    for k in range(8):
+        s.fresh()
+        s.poke("entries", 832, bytes(k) + b"\xff")
+        s.poke("words", 3, k + 1)
+        damaged()
+    s.say("No label, and a rule.")
+    lend(s, FIVE, [(0, 0, b"wt")])
+    s.poke("words", 0, 0)
+    damaged()
+    s.store()
+
+
 def newobjects_kernel():
     s = Script("newobjects_kernel", "What a running kernel does with the label of a new object, sentence by sentence, and what 02, Seven, decides otherwise. P is the creating process's label, D the directory's.", True)
     s.say("Normally the creating process's label.")
@@ -8503,6 +8630,8 @@ def newobjects():
     newobjects_kept()
     newobjects_full()
     newobjects_walk()
+    newobjects_lengths()
+    newobjects_places()
     newobjects_kernel()
 
 

@@ -295,7 +295,7 @@ held-b field = joined-has 6 (bit-alone 64 refl refl) field _ ∙ any-same (λ (b
 -- ---- THE LETTERS as 01 and 02 say them
 
 pub letters-and-bits : LettersAndBits
-unfolding modesText allowedByte allowedTest bitOf all entries
+unfolding modesOf modesText allowedByte allowedTest bitOf all entries
 letters-and-bits =
     record {
       bits = letter-bit;

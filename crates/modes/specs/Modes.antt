@@ -132,8 +132,8 @@ pub record LettersAndBits : Type 0 where
   pub in-a-rule : modesText ruleLetters ≡ ascii "rwxat"
   pub in-a-request : modesText requestLetters ≡ ascii "rwxa"
   pub read-execute : modesText readExecute ≡ ascii "rx"
-  pub write-letter : modesText writeLetter ≡ ascii "w"
-  pub transmute-letter : modesText transmuteLetter ≡ ascii "t"
+  pub write-letter : modesOf (ascii "w") ≡ writeLetter
+  pub transmute-letter : modesOf (ascii "t") ≡ transmuteLetter
   pub known : (m : ℕ) → (knownModes m ≡ true) ↔ ((m < 64) × (m % 2 ≡ 0))
   pub stored : (m l : ℕ) → oneOf (ascii "rwxat") l ≡ true → has (storedModes m) (bitOf l) ≡ has m (bitOf l)
   pub stored-known : (m : ℕ) → knownModes (storedModes m) ≡ true
