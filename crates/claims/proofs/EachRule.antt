@@ -72,13 +72,14 @@ every-letter :
 every-letter wanted m h = (
   λ e l p q.
       let z : has wanted (bitOf l) ≡ (has wanted (bitOf l) && has m (bitOf l)) =
-          ap (λ (x : ℕ). has x (bitOf l)) (sym (eqb-true (bitAnd wanted m) wanted e)) ∙ common wanted m l p in
+      ap (λ (x : ℕ). has x (bitOf l)) (sym (eqb-true (bitAnd wanted m) wanted e)) ∙ common wanted m l p in
       and-both (has wanted (bitOf l)) (has m (bitOf l)) (sym z ∙ q) .1,
   λ f.
       eq-eqb (bitAnd wanted m) wanted
       (sym (made-is (bitAnd wanted m) (known-and wanted m h))
       ∙ same-made (bitAnd wanted m) wanted (λ l p. common wanted m l p ∙ both (has wanted (bitOf l)) (has m (bitOf l)) (f l p))
-      ∙ made-is wanted h))
+      ∙ made-is wanted h),
+)
   where
     both : (a b : Bool) → (a ≡ true → b ≡ true) → (a && b) ≡ a
     both true b g = g refl
