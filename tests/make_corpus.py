@@ -8492,6 +8492,11 @@ def newobjects_places():
         for x, y in ((i, j ^ 32), (i ^ 32, j), (i ^ 32, j ^ 32), (i ^ 16, j), (i, j ^ 16), (j, i)):
             if (x, y) != (i, j) and 5 <= min(x, y) and x != y:
                 s.newobject(labels[x], labels[y], 1, 1, "denied")
+                for other, said_ in ((b"w", "creator"), (b"rt", "denied")):
+                    lend(s, labels, [(x, y, other), (i, j, b"wt")])
+                    s.newobject(labels[i], labels[j], 1, 1, "folder 1")
+                    s.newobject(labels[x], labels[y], 1, 1, said_)
+                lend(s, labels, [(i, j, b"wt")])
     s.say("The pair at two places of 256 rules: the first counts, also where the two are neighbours.")
     for i, j in ((0, 1), (1, 2), (31, 32), (63, 64), (127, 128), (128, 129), (191, 192), (253, 254), (254, 255), (0, 255), (100, 200)):
         for first, later in ((b"wt", b"w"), (b"w", b"wt"), (b"t", b"wt"), (b"", b"wt")):
@@ -8546,6 +8551,11 @@ def newobjects_places():
         s.poke("entries", 832, bytes(k) + b"\xff")
         s.poke("words", 3, k + 1)
         damaged()
+    s.say("A mapping's label number alone is bad: no rule, no override label.")
+    s.fresh()
+    s.mapping(b"M 9 1")
+    s.poke("entries", 768, b"\xff")
+    damaged()
     s.say("No label, and a rule.")
     lend(s, FIVE, [(0, 0, b"wt")])
     s.poke("words", 0, 0)
