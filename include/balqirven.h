@@ -342,7 +342,8 @@ bq_decision bq_question(const uint8_t *labels, size_t labels_len, const uint8_t 
  * folder, without the capability, is denied: the capability and the override list are not considered. (Where override lets the creator write all the same, as
  * bq_question says, this call names no label: which one the object then gets is the host's affair.) The folder's label exactly where the folder transmutes
  * and rule 6 grants that w by a rule that has t; then the new object transmutes where it is a folder. Otherwise the creator's label, and the new object does
- * not transmute: so where creator and folder have one label (rule 5), and in a folder `*` (rule 4), whatever rules there are. The answer names one of the
+ * not transmute: so where creator and folder have one label (rule 5), and in a folder `*` (rule 4), whatever rules there are; but a creator `*` is denied
+ * everywhere (rule 1). The answer names one of the
  * two lent labels, and the host has its bytes. Labels that are not stored are judged like any other, and have no rules. Nothing changes, and neither label
  * enters the table; which attributes a file gets is the host's affair.
  * Refusals: 0; 3 for either label: bq_question for w with the same two labels is refused alike, and tells the place. */

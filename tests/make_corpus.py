@@ -8582,7 +8582,7 @@ def newobjects_kernel():
     s.say("Same label without a rule: keeps that label, but a new sub-directory does not get the mark. The creator's label, and it does not transmute.")
     four(s, b"D", b"D", "creator")
     four(s, b"P", b"P", "creator")
-    s.say("02 decides otherwise: only the rule list is looked at by the kernel, so that a rule of a label with itself gives the mark there. Here rule 5 granted the write, and not rule 6.")
+    s.say("02 decides otherwise: only the rule list is looked at by the kernel, so that a rule of a label with itself would give the mark there. Here rule 5 granted the write, and not rule 6.")
     lend(s, FIVE + [b"P", b"D"], [(5, 5, b"rwxat"), (6, 6, b"rwxat")])
     four(s, b"D", b"D", "creator")
     four(s, b"P", b"P", "creator")

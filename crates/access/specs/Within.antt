@@ -9,7 +9,7 @@ use Rattle.search.specs.Bytes.{sameBytes}
 use Rattle.search.specs.declared.Found.{Found}
 use Rattle.search.specs.declared.Found.the-variants.{At, Nothing}
 use Rattle.store.specs.Table.{Table}
-use Rattle.store.specs.Pairs.{PairModes, no-rule, ruleBetween, modesFound, modesBetween, modesSoFar}
+use Rattle.store.specs.Pairs.{PairModes, no-rule, ruleBetween, modesFound, modesBetween, modesOrNone}
 use Rattle.access.specs.SevenRules.{Clause, clause, rule6, rule7, rulesFor, firstOf}
 use Rattle.access.specs.declared.Verdict.{Verdict}
 use Rattle.access.specs.declared.Verdict.the-variants.{Grants, Denies, Undecided}
@@ -32,7 +32,7 @@ sameLabel s o Nothing Nothing = sameBytes s o
 
 -- the modes of the rule that granted: those of the pair's rule where 6 did, and none where another of the seven decided
 abbrev pub grantingModes : Verdict → PairModes → ℕ
-grantingModes (Grants n) pair = cond (eqb n 6) (modesSoFar pair) 0
+grantingModes (Grants n) pair = cond (eqb n 6) (modesOrNone pair) 0
 grantingModes (Denies by) pair = 0
 grantingModes Undecided pair = 0
 

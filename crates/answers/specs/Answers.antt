@@ -19,7 +19,7 @@ use Rattle.lookups.specs.declared.Lookup.the-variants as lookup
 use Rattle.lookups.specs.declared.Label.{Label}
 use Rattle.lookups.specs.declared.Label.the-variants as label
 use Rattle.new_object.specs.declared.ObjectLabel.{ObjectLabel}
-use Rattle.new_object.specs.declared.ObjectLabel.the-variants as new
+use Rattle.new_object.specs.declared.ObjectLabel.the-variants as object-label
 use Rattle.output.specs.declared.Output.{Output}
 use Rattle.output.specs.declared.Output.the-variants as output
 use Rattle.reports.specs.declared.Loader.{Loader}
@@ -86,10 +86,10 @@ searchShown (label.Refused n) = record { kind = 2; number = n; label = 0 }
 -- the label of a new object: kind 0 the creator's; 1 denied; 2 the folder's, and whether the new object transmutes; 3 refused. (02 does not number the kinds;
 -- denied and refused have those of a question)
 abbrev pub objectShown : ObjectLabel → Labelled
-objectShown new.CreatorLabel = record { kind = 0; number = 0; transmutes = false }
-objectShown new.Denied = record { kind = 1; number = 0; transmutes = false }
-objectShown (new.FolderLabel transmutes) = record { kind = 2; number = 0; transmutes = transmutes }
-objectShown (new.Refused n) = record { kind = 3; number = n; transmutes = false }
+objectShown object-label.CreatorLabel = record { kind = 0; number = 0; transmutes = false }
+objectShown object-label.Denied = record { kind = 1; number = 0; transmutes = false }
+objectShown (object-label.FolderLabel transmutes) = record { kind = 2; number = 0; transmutes = transmutes }
+objectShown (object-label.Refused n) = record { kind = 3; number = n; transmutes = false }
 
 -- a label by its number, whose length is n: where it stands in the label store
 abbrev pub partShown : ℕ → ℕ → Done → Part

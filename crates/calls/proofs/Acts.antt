@@ -18,7 +18,7 @@ use Rattle.lines.specs.Lines.{Said, skipped, refused, rule, change, ruleOf, cha
 use Rattle.writes.specs.Writes.{judged, changed}
 use Rattle.store.specs.Judged.{Judged, is-skipped, is-refused, is-accepted, tableAfter}
 use Rattle.rules.specs.Rules.{pairLabels, pairRule, withPair}
-use Rattle.store.specs.Pairs.{modesBetween, modesSoFar}
+use Rattle.store.specs.Pairs.{modesBetween, modesOrNone}
 use Rattle.revoke.specs.Revoke.{revokeWrite, withoutModes}
 use Rattle.onlycap.proofs.Laws.{by-case}
 use Rattle.cipso.specs.Cipso as cipso
@@ -174,7 +174,7 @@ not-skipped t (r.change text) = by-said (changeOf text) (only-change text)
     by-said (refused n) z = tt
     by-said (rule s o m) z = absurd z
     by-said (change s o a d) z =
-        by-tests (ltb 64 (length (pairLabels t s o))) (noPlace (pairRule t s o) (length (t .rules)) 256) (withPair t s o (changed (modesSoFar (modesBetween t s o)) a d))
+        by-tests (ltb 64 (length (pairLabels t s o))) (noPlace (pairRule t s o) (length (t .rules)) 256) (withPair t s o (changed (modesOrNone (modesBetween t s o)) a d))
 not-skipped t (r.revoke l) = by-tests (ltb 600 (length l)) (wellFormed l)
   where
     by-tests : (a b : Bool) → NotSkipped (cond a (is-refused tooLong) (cond b (is-accepted (withoutModes t (labelIn t l))) (is-refused (badLabelAt (badByte l)))))

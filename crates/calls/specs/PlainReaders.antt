@@ -13,7 +13,7 @@ use Rattle.lines.specs.Lines.{ruleOf}
 use Rattle.writes.specs.Writes.{judged, changed}
 use Rattle.store.specs.Judged.{is-skipped, is-refused, is-accepted}
 use Rattle.cipso_option.specs.Option.{not-read, peerShown}
-use Rattle.new_object.specs.declared.ObjectLabel.the-variants as object
+use Rattle.new_object.specs.declared.ObjectLabel.the-variants as object-label
 use Rattle.answers.specs.Answers.{shown, lookupShown, searchShown, outputShown, objectShown}
 use Rattle.access.specs.declared.Answer.the-variants as answer
 use Rattle.lookups.specs.declared.Lookup.the-variants as lookup
@@ -23,7 +23,7 @@ use Rattle.load.specs.Loader.{Load}
 use Rattle.lists.specs.Reader as r
 use Rattle.lists.specs.Reader.{startOn, Write, Call, Reply, judgeWrite, afterAll, saysAll, Event, byte, stop, wrote, events}
 use Rattle.grown.specs.Grown.{Grown}
-use Rattle.store.specs.Pairs.{modesBetween, modesSoFar}
+use Rattle.store.specs.Pairs.{modesBetween, modesOrNone}
 use Rattle.grown.specs.Pairs.{Triple, ChangeText, hasRoom, SetsPair}
 use Rattle.effects.specs.Effects.{KeepsPlaces, Revokes, SetsFields, Maps}
 use Rattle.effects.specs.MappingText.{MappingText}
@@ -55,7 +55,7 @@ abbrev pub Sets : Table → Table → Write → Type 0
 Sets t t₁ (r.change text) =
     (s : List ℕ) × (o : List ℕ) × (allow : ℕ) × (deny : ℕ)
     × ChangeText text s o allow deny
-    × SetsPair t t₁ s o (changed (modesSoFar (modesBetween t s o)) allow deny)
+    × SetsPair t t₁ s o (changed (modesOrNone (modesBetween t s o)) allow deny)
     × KeepsPlaces t t₁ s o
 Sets t t₁ (r.revoke l) = Revokes t t₁ l
 Sets t t₁ (r.onlycap text) = SetsFields t t₁ (fields text)
@@ -109,4 +109,4 @@ refusal-of (r.ask (r.label k)) = r.refusal damaged
 refusal-of (r.ask (r.label-check k)) = r.refusal damaged
 refusal-of (r.ask (r.write-option l out)) = r.listed (outputShown (listed.Refused (damaged .number))) out
 refusal-of (r.ask (r.read-option option)) = r.peer (peerShown (not-read (damaged .number)))
-refusal-of (r.ask (r.new-object creator folder folderTransmutes isFolder)) = r.labelled (objectShown (object.Refused (damaged .number)))
+refusal-of (r.ask (r.new-object creator folder folderTransmutes isFolder)) = r.labelled (objectShown (object-label.Refused (damaged .number)))

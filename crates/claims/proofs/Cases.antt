@@ -19,7 +19,7 @@ use Rattle.access.specs.Access.{effective, decide, answer}
 use Rattle.new_object.specs.NewObject.{objectLabelFor, objectLabel}
 use Rattle.cipso.specs.Cipso.{SaidMapping, mapping, categoriesOf, saidBy, mappingOf, withMapping, mappingWrite, saidJudged}
 use Rattle.lookups.specs.Lookups.{labelLookup}
-use Rattle.claims.specs.Cases.{maps, right, sameLookup, cases, furtherCases, creationCases}
+use Rattle.claims.specs.Cases.{maps, right, sameLookup, cases, furtherCases, newObjectCases}
 
 abbrev Vault7 : List ℕ
 Vault7 = ascii "Vault7"
@@ -71,6 +71,6 @@ pub further-right : all right furtherCases ≡ true
 unfolding all right first put sameBytes isBlank labelByte wellFormed faultOf fields bitOf allowedByte modesOf readModes modesText ruleBy ruleOf changeBy changeOf isPair withPair modesBetween effective decide answer
 further-right = and-true (right (maps at-the-ends Vault7 9 (63 ∷ 64 ∷ 65 ∷ 128 ∷ 129 ∷ 184 ∷ []) 6)) ∙ mapped at-the-ends of-each-word (63 ∷ 64 ∷ 65 ∷ 128 ∷ 129 ∷ 184 ∷ []) 6 says-ends after-ends
 
-pub creation-right : all right creationCases ≡ true
+pub creation-right : all right newObjectCases ≡ true
 unfolding all right first put sameBytes isBlank labelByte wellFormed fields bitOf allowedByte modesOf readModes ruleBy ruleOf isPair withPair modesBetween objectLabelFor objectLabel
 creation-right = refl

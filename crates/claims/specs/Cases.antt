@@ -10,7 +10,7 @@ use Rattle.store.specs.Table.{Table, fresh}
 use Rattle.lines.specs.Lines.{ruleOf}
 use Rattle.writes.specs.Writes.{judged, changeWrite}
 use Rattle.store.specs.Judged.{tableAfter}
-use Rattle.store.specs.Pairs.{modesBetween, modesSoFar}
+use Rattle.store.specs.Pairs.{modesBetween, modesOrNone}
 use Rattle.access.specs.Access.{answer}
 use Rattle.new_object.specs.NewObject.{objectLabel}
 use Rattle.answers.specs.Answers.{shown, objectShown}
@@ -37,7 +37,7 @@ afterLines lines = foldl (λ (t : Table) (line : List ℕ). tableAfter t (judged
 
 -- the modes of a pair's rule
 abbrev pub pairModes : Table → List ℕ → List ℕ → ℕ
-pairModes t s o = modesSoFar (modesBetween t s o)
+pairModes t s o = modesOrNone (modesBetween t s o)
 
 abbrev pub sameShown : Shown → Shown → Bool
 sameShown a b = eqb (a .kind) (b .kind) && (eqb (a .number) (b .number) && eqb (a .place) (b .place))
@@ -47,12 +47,13 @@ sameLookup (l.Mapped level set count) x cs n = eqb level x && (sameBytes (catego
 sameLookup l.Unmapped x cs n = false
 sameLookup (l.Refused k) x cs n = false
 
--- whether two answers about a new object are the same
-abbrev pub sameTest : Bool → Bool → Bool
-sameTest a b = cond a b (not b)
+-- whether two tests say the same
+abbrev pub sameTruth : Bool → Bool → Bool
+sameTruth a b = cond a b (not b)
 
+-- whether two answers about a new object are the same
 abbrev pub sameLabelled : Labelled → Labelled → Bool
-sameLabelled a b = eqb (a .kind) (b .kind) && (eqb (a .number) (b .number) && sameTest (a .transmutes) (b .transmutes))
+sameLabelled a b = eqb (a .kind) (b .kind) && (eqb (a .number) (b .number) && sameTruth (a .transmutes) (b .transmutes))
 
 unfoldable pub right : Case → Bool
 right (creates lines creator folder folderTransmutes isFolder expected) = sameLabelled (objectShown (objectLabel (afterLines lines) creator folder folderTransmutes isFolder)) expected
@@ -149,8 +150,8 @@ creationRefused n = record { kind = 3; number = n; transmutes = false }
 -- a rule with w and t, a folder that transmutes or not, a file or a folder; w without t, t without w, other letters, none, no rule; the turned pair, another
 -- creator and another folder, alike in their first 23 bytes; one label (rule 5), stored or not; the folder * (rule 4) and _; the creators * (rule 1) and ^
 -- (rule 2 grants no w); labels that are not well formed
-abbrev pub creationCases : List Case
-creationCases =
+abbrev pub newObjectCases : List Case
+newObjectCases =
     creates (ascii "Recorder Records wt" ∷ []) (ascii "Recorder") (ascii "Records") true false (folderLabel false)
     ∷ creates (ascii "Recorder Records wt" ∷ []) (ascii "Recorder") (ascii "Records") true true (folderLabel true)
     ∷ creates (ascii "Recorder Records wt" ∷ []) (ascii "Recorder") (ascii "Records") false false creatorLabel

@@ -1,5 +1,5 @@
--- 01, Questions: each of the seven rules as 01 says it, with the labels and the letters as text; and what the tests mean that they are made of. Assumes
--- nothing.
+-- 01, Questions: each of the seven rules as 01 says it, with the labels and the letters as text; that a question is judged by these, in this order; and what
+-- the tests mean that they are made of. Assumes nothing.
 use Prim.Native.Nat.{ℕ}
 use mathlib.Core.Path.{_≡_}
 use mathlib.Core.Bool.{true, false, not, _&&_}

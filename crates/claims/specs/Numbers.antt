@@ -23,7 +23,7 @@ use Rattle.rule_text.specs.RuleText.{longestRule}
 use Rattle.fixed_load.specs.Records.{recordLabel, labelPlace, recordSize}
 use Rattle.access.specs.declared.Denial.the-variants.{StarSubject, AnyOther}
 use Rattle.access.specs.declared.Answer.the-variants as answer
-use Rattle.new_object.specs.declared.ObjectLabel.the-variants as object
+use Rattle.new_object.specs.declared.ObjectLabel.the-variants as object-label
 use Rattle.lookups.specs.declared.Lookup.the-variants as lookup
 use Rattle.lookups.specs.declared.Label.the-variants as label
 use Rattle.output.specs.declared.Output.the-variants as output
@@ -34,7 +34,7 @@ use Rattle.reports.specs.declared.Loader.{Loader}
 use Rattle.load.specs.declared.Fed.the-variants as fed
 use Rattle.load.specs.declared.Ended.the-variants as ended
 use Rattle.answers.specs.Answers.{shown, writeShown, revokeShown, pieceShown, endShown, lookupShown, searchShown, outputShown, objectShown}
-use Rattle.store.specs.Pairs.{no-rule, modesSoFar}
+use Rattle.store.specs.Pairs.{no-rule, modesOrNone}
 
 -- the refusals and the limits, in 01's order; the last, of a listed rule, by 02, Six: five letters
 abbrev pub refusals : List Refusal
@@ -53,7 +53,7 @@ pub record NumbersOf01 : Type 0 where
   pub fresh-table :
       fresh
       ≡ record { labels = ascii "_" ∷ ascii "^" ∷ ascii "*" ∷ ascii "?" ∷ ascii "@" ∷ []; rules = []; mappings = []; onlycap = [] }
-  pub from-none : modesSoFar no-rule ≡ 0
+  pub from-none : modesOrNone no-rule ≡ 0
   -- a fresh loader has kept nothing and counted nothing, and an end call that is not refused leaves one
   pub fresh-loader : freshLoader ≡ record { kept = 0; report = record { lines = 0; accepted = 0; skipped = 0; refused = 0; first = 0; reason = 0; place = 0; bringup = 0 } }
   pub after-the-end : (s : Load) → ready s ≡ true → endAfter s .loader ≡ freshLoader
@@ -130,8 +130,8 @@ pub record NumbersOf02 : Type 0 where
   pub peer-refused : (n : ℕ) →
       (peerShown (option.not-read n) .refused ≡ true) × (peerShown (option.not-read n) .number ≡ n) × (peerShown (option.not-read n) .length ≡ 0)
       × (length (peerShown (option.not-read n) .bytes) ≡ 255) × ((i : ℕ) → getD (peerShown (option.not-read n) .bytes) i 0 ≡ 0)
-  pub new-object : (objectShown object.CreatorLabel ≡ record { kind = 0; number = 0; transmutes = false })
-      × (objectShown object.Denied ≡ record { kind = 1; number = 0; transmutes = false })
-      × ((new-transmutes : Bool) → objectShown (object.FolderLabel new-transmutes) ≡ record { kind = 2; number = 0; transmutes = new-transmutes })
-      × ((n : ℕ) → objectShown (object.Refused n) ≡ record { kind = 3; number = n; transmutes = false })
+  pub new-object : (objectShown object-label.CreatorLabel ≡ record { kind = 0; number = 0; transmutes = false })
+      × (objectShown object-label.Denied ≡ record { kind = 1; number = 0; transmutes = false })
+      × ((new-transmutes : Bool) → objectShown (object-label.FolderLabel new-transmutes) ≡ record { kind = 2; number = 0; transmutes = new-transmutes })
+      × ((n : ℕ) → objectShown (object-label.Refused n) ≡ record { kind = 3; number = n; transmutes = false })
   pub no-category : noCategories ≡ record { first = 0; second = 0; third = 0 }

@@ -12,7 +12,7 @@ ghost use Rattle.lists.specs.Reader.{Call, Reply, events, reports};
 ghost use Rattle.calls.specs.Calls.{Fresh, Runs};
 ghost use Rattle.calls.specs.PlainReaders.{PlainReaders, refusal-of};
 ghost use Rattle.lists.specs.Tables.{TablesFollow};
-ghost use Rattle.claims.specs.Cases.{right, cases, furtherCases, creationCases};
+ghost use Rattle.claims.specs.Cases.{right, cases, furtherCases, newObjectCases};
 ghost use Rattle.claims.specs.EachRule.{EachRule};
 ghost use Rattle.claims.specs.Examples.{ExamplesOf01, ExamplesOf02};
 ghost use Rattle.claims.specs.Exported.{ExportedCalls};
@@ -76,7 +76,7 @@ pub fn bytes_and_letters()
 pub fn either_side_of_a_limit()
     ensures { λ _. ⌜ all right cases ≡ true ⌝ }
     ensures { λ _. ⌜ all right furtherCases ≡ true ⌝ }
-    ensures { λ _. ⌜ all right creationCases ≡ true ⌝ }
+    ensures { λ _. ⌜ all right newObjectCases ≡ true ⌝ }
 {}
 
 // 01's numbers, as they stand there: the refusals, the limits, and what a host gets for each case of an answer.
@@ -106,7 +106,7 @@ pub fn what_a_line_counts()
     ensures { λ _. ⌜ LineCounts ⌝ }
 {}
 
-// Each of the seven rules as 01 says it, with the labels and the letters as text.
+// Each of the seven rules as 01 says it, with the labels and the letters as text; and that a question is judged by these, in this order.
 pub fn each_rule_of_01()
     ensures { λ _. ⌜ EachRule ⌝ }
 {}

@@ -18,7 +18,7 @@ use Rattle.search.proofs.Laws.{no, and-both, same-refl, first-is, put-at, put-o
 use Rattle.refusals.specs.Refusals.{labelsFull, rulesFull}
 use Rattle.store.specs.declared.Rule.{Rule}
 use Rattle.store.specs.Table.{Table, labelIn, enter, numberIn, isPair, noPlace}
-use Rattle.store.specs.Pairs.{ruleBetween, modesFound, modesBetween, modesSoFar}
+use Rattle.store.specs.Pairs.{ruleBetween, modesFound, modesBetween, modesOrNone}
 use Rattle.store.specs.Judged.{is-refused, is-accepted}
 use Rattle.store.proofs.Pairs.{enter-front}
 use Rattle.rules.specs.Rules.{pairLabels, pairRule, withPair}
@@ -157,4 +157,4 @@ pub rule-keeps : (t t′ : Table) (s o : List ℕ) (m : ℕ) → judged t (rule 
 rule-keeps t t′ s o m e = pair-keeps t s o m t′ e
 
 pub change-keeps : (t t′ : Table) (s o : List ℕ) (a d : ℕ) → judged t (change s o a d) ≡ is-accepted t′ → KeepsPlaces t t′ s o
-change-keeps t t′ s o a d e = pair-keeps t s o (changed (modesSoFar (modesBetween t s o)) a d) t′ e
+change-keeps t t′ s o a d e = pair-keeps t s o (changed (modesOrNone (modesBetween t s o)) a d) t′ e

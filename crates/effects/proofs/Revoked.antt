@@ -23,7 +23,7 @@ use Rattle.store.specs.Judged.{Judged, is-skipped, is-refused, is-accepted, onS
 use Rattle.revoke.specs.declared.Revoked.the-variants.{Count}
 use Rattle.revoke.specs.Revoke.{hasSubject, howMany, revokedRule, withoutModes, subjectCount, revokeWrite, countOf, revokeCount, revokeAnswer}
 use Rattle.access.specs.Access.{effective, answer}
-use Rattle.new_object.proofs.WhichLabel.{labelled-by, pair-alone}
+use Rattle.new_object.proofs.WhichLabel.{goes-by-modes, pair-alone}
 use Rattle.grown.specs.Sane.{LabelsOnce}
 use Rattle.grown.specs.Pairs.{SoundTable}
 use Rattle.grown.proofs.Pairs.{undamaged-sound}
@@ -151,7 +151,7 @@ module _ (t : Table) (l : List ℕ) where
           own = λ o. by-object (labelIn t o);
           others = other;
           other-answers = λ x y request capable apart. answer-same t t′ x y (other x y apart) (λ c. refl) request capable;
-          own-new-objects = λ o. labelled-by t′ l o _ (by-object (labelIn t o));
+          own-new-objects = λ o. goes-by-modes t′ l o _ (by-object (labelIn t o));
           other-new-objects = λ x y apart. pair-alone t′ t x y (other x y apart);
           as-many = length-map (t .rules) (revokedRule n);
           subjects = place-part n (λ r. r .subject) (same-subject n) (t .rules);
@@ -170,7 +170,7 @@ module _ (t : Table) (l : List ℕ) where
         own = λ o. unknown (labelIn t o);
         others = λ x y apart. refl;
         other-answers = λ x y request capable apart. refl;
-        own-new-objects = λ o. labelled-by t l o _ (unknown (labelIn t o));
+        own-new-objects = λ o. goes-by-modes t l o _ (unknown (labelIn t o));
         other-new-objects = λ x y apart folderTransmutes isFolder. refl;
         as-many = refl;
         subjects = λ k. refl;

@@ -19,7 +19,7 @@ use Rattle.store.specs.Pairs.{PairModes, has-modes, no-rule, ruleBetween, modes
 use Rattle.lookups.specs.declared.Lookup.the-variants.{Mapped, Unmapped}
 use Rattle.lookups.specs.Lookups.{labelLookup}
 use Rattle.access.specs.Access.{effective, answer}
-use Rattle.new_object.specs.WhichLabel.{LabelledBy, SameNewObjects}
+use Rattle.new_object.specs.WhichLabel.{GoesByModes, SameNewObjects}
 use Rattle.grown.specs.Pairs.{hasRule}
 use Rattle.effects.specs.Labels.{among, FirstAppearances, Enter}
 
@@ -37,7 +37,7 @@ pub record Revokes (t t′ : Table) (l : List ℕ) : Type 0 where
   pub own : (o : List ℕ) → modesBetween t′ l o ≡ cleared (modesBetween t l o)
   pub others : (x y : List ℕ) → x ≢ l → modesBetween t′ x y ≡ modesBetween t x y
   pub other-answers : (x y request : List ℕ) (capable : Bool) → x ≢ l → answer t′ x y request capable ≡ answer t x y request capable
-  pub own-new-objects : (o : List ℕ) → LabelledBy t′ l o (cleared (modesBetween t l o))
+  pub own-new-objects : (o : List ℕ) → GoesByModes t′ l o (cleared (modesBetween t l o))
   pub other-new-objects : (x y : List ℕ) → x ≢ l → SameNewObjects t′ t x y
   -- every rule keeps its place, its subject and its object; it loses its modes where its subject is the label's number, and stays whole elsewhere
   pub as-many : length (t′ .rules) ≡ length (t .rules)

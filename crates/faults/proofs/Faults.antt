@@ -29,7 +29,7 @@ use Rattle.store.specs.declared.Mapping.{Mapping}
 use Rattle.store.specs.declared.Done.{Done}
 use Rattle.store.specs.declared.Done.the-variants as d
 use Rattle.store.specs.Table.{Table, fresh, labelIn, mappingIn, names, ruleNumbered, noPlace, withOnlycap, soundRule, soundMapping, soundTable}
-use Rattle.store.specs.Pairs.{PairModes, modesFound, modesBetween, modesSoFar}
+use Rattle.store.specs.Pairs.{PairModes, modesFound, modesBetween, modesOrNone}
 use Rattle.store.specs.Layout.{Store, tableOf, fullSizes, undamagedOf, labelAt, ruleAt, mappingAt}
 use Rattle.store.specs.Judged.{Judged, is-skipped, is-refused, is-accepted, doneOf, onState, freshWrite, freshAnswer}
 use Rattle.store.proofs.Laws.{undamaged-is}
@@ -61,7 +61,7 @@ use Rattle.program.specs.Program.{asked, answerTo}
 use Rattle.access.specs.Access.{isFound, effective, answer, answered, decide, byRequest, questionOf}
 use Rattle.new_object.specs.NewObject.{byRuleWithT, objectLabelBy, objectLabelFor, objectLabel, objectLabelOf}
 use Rattle.new_object.specs.declared.ObjectLabel.{ObjectLabel}
-use Rattle.new_object.specs.declared.ObjectLabel.the-variants as object
+use Rattle.new_object.specs.declared.ObjectLabel.the-variants as object-label
 use Rattle.access.specs.SevenRules.{firstOf, rulesFor, sevenRules}
 use Rattle.access.specs.declared.Verdict.{Verdict}
 use Rattle.access.specs.declared.Verdict.the-variants as verdict
@@ -233,19 +233,19 @@ of-peer = refuses not-read peer-by (λ n. refl) from
     from (not-read m) n q = let z : m ≡ n = cc in ap not-read z
 
 abbrev object-by : ObjectLabel → First ℕ
-object-by object.CreatorLabel = none
-object-by object.Denied = none
-object-by (object.FolderLabel x) = none
-object-by (object.Refused n) = by n
+object-by object-label.CreatorLabel = none
+object-by object-label.Denied = none
+object-by (object-label.FolderLabel x) = none
+object-by (object-label.Refused n) = by n
 
-of-object : (x : ObjectLabel) (faults : List (Fault ℕ)) → object-by x ≡ firstFault faults → Refuses x object.Refused faults
-of-object = refuses object.Refused object-by (λ n. refl) from
+of-object : (x : ObjectLabel) (faults : List (Fault ℕ)) → object-by x ≡ firstFault faults → Refuses x object-label.Refused faults
+of-object = refuses object-label.Refused object-by (λ n. refl) from
   where
-    from : (x : ObjectLabel) (n : ℕ) → object-by x ≡ by n → x ≡ object.Refused n
-    from object.CreatorLabel n q = let z : _≡_ {A = ℕ} 0 1 = cc in absurd (omega arith)
-    from object.Denied n q = let z : _≡_ {A = ℕ} 0 1 = cc in absurd (omega arith)
-    from (object.FolderLabel x) n q = let z : _≡_ {A = ℕ} 0 1 = cc in absurd (omega arith)
-    from (object.Refused m) n q = let z : m ≡ n = cc in ap object.Refused z
+    from : (x : ObjectLabel) (n : ℕ) → object-by x ≡ by n → x ≡ object-label.Refused n
+    from object-label.CreatorLabel n q = let z : _≡_ {A = ℕ} 0 1 = cc in absurd (omega arith)
+    from object-label.Denied n q = let z : _≡_ {A = ℕ} 0 1 = cc in absurd (omega arith)
+    from (object-label.FolderLabel x) n q = let z : _≡_ {A = ℕ} 0 1 = cc in absurd (omega arith)
+    from (object-label.Refused m) n q = let z : m ≡ n = cc in ap object-label.Refused z
 
 abbrev answer-by : Answer → First Refusal
 answer-by (a.Granted x) = none
@@ -424,7 +424,7 @@ module _ (t : Table) (few-labels : length (t .labels) ≤ 64) (few-rules : lengt
           sameBytes s o ≡ b →
           judged-by (judged t (cond b (refused sameLabels) (change s o (modesOf x) (modesOf y)))) ≡ cond b (by sameLabels) (firstFault (pairFaults t s o))
       by-same true q = refl
-      by-same false q = pair-first s o (changed (modesSoFar (modesBetween t s o)) (modesOf x) (modesOf y)) q
+      by-same false q = pair-first s o (changed (modesOrNone (modesBetween t s o)) (modesOf x) (modesOf y)) q
 
       by-tests :
           (a b c d : Bool) →
@@ -998,16 +998,16 @@ question-refused st s o request capable =
 
 new-object-refused :
     (st : Store) (creator folder : List ℕ) (folderTransmutes isFolder : Bool) →
-    Refuses (objectLabelOf st creator folder folderTransmutes isFolder) object.Refused (newObjectFaults st creator folder)
+    Refuses (objectLabelOf st creator folder folderTransmutes isFolder) object-label.Refused (newObjectFaults st creator folder)
 unfolding objectLabelOf objectLabel objectLabelFor
 new-object-refused st creator folder folderTransmutes isFolder =
     of-object _ (newObjectFaults st creator folder)
-    (state-first object-by (undamagedOf st) _ (object.Refused 0) _ refl (λ u. by-tests (wellFormed creator) (wellFormed folder)))
+    (state-first object-by (undamagedOf st) _ (object-label.Refused 0) _ refl (λ u. by-tests (wellFormed creator) (wellFormed folder)))
   where
     pair : PairModes
     pair = modesBetween (tableOf st) creator folder
 
-    by-test : (b : Bool) → object-by (cond b (object.FolderLabel isFolder) object.CreatorLabel) ≡ none
+    by-test : (b : Bool) → object-by (cond b (object-label.FolderLabel isFolder) object-label.CreatorLabel) ≡ none
     by-test true = refl
     by-test false = refl
 
@@ -1018,7 +1018,7 @@ new-object-refused st creator folder folderTransmutes isFolder =
 
     by-tests :
         (p q : Bool) →
-        object-by (cond (p && q) (objectLabelBy (firstOf (rulesFor creator folder pair writeLetter)) pair folderTransmutes isFolder) (object.Refused 3)) ≡ cond (not p || not q) (by 3) none
+        object-by (cond (p && q) (objectLabelBy (firstOf (rulesFor creator folder pair writeLetter)) pair folderTransmutes isFolder) (object-label.Refused 3)) ≡ cond (not p || not q) (by 3) none
     by-tests false q = refl
     by-tests true false = refl
     by-tests true true = by-verdict (firstOf (rulesFor creator folder pair writeLetter))

@@ -47,7 +47,7 @@ use Rattle.run.specs.Run.{runOf}
 use Rattle.access.specs.Access.{isFound, answer, questionOf}
 use Rattle.access.specs.declared.Answer.the-variants as a
 use Rattle.new_object.specs.NewObject.{objectLabelOf}
-use Rattle.new_object.specs.declared.ObjectLabel.the-variants as object
+use Rattle.new_object.specs.declared.ObjectLabel.the-variants as object-label
 use Rattle.listing.specs.Listing.{ruleText, listAnswer, labelAnswer}
 use Rattle.output.specs.Output.{textAnswer}
 use Rattle.output.specs.declared.Output.the-variants as l
@@ -459,7 +459,7 @@ pub record FirstInOrder : Type 0 where
       Refuses (questionOf st s o request capable) a.Refused (questionFaults st s o request)
   pub new-object :
       (st : Store) (creator folder : List ℕ) (folderTransmutes isFolder : Bool) →
-      Refuses (objectLabelOf st creator folder folderTransmutes isFolder) object.Refused (newObjectFaults st creator folder)
+      Refuses (objectLabelOf st creator folder folderTransmutes isFolder) object-label.Refused (newObjectFaults st creator folder)
   pub question-line : (t : Table) (line : List ℕ) → Refuses (answerTo (answer t) line) a.Refused (questionLineFaults line)
   pub listing : (st : Store) (k : ℕ) (out : List ℕ) → Refuses (listAnswer st k out) l.Refused (listingFaults st k out)
   pub label-by-number : (st : Store) (k : ℕ) → Refuses (labelAnswer st k) d.Refused (labelByNumberFaults st k)

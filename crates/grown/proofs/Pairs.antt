@@ -31,10 +31,10 @@ use Rattle.lines.proofs.Laws.{Taken, Sound, rule-sound, change-sound}
 use Rattle.writes.specs.Writes.{judged, changed}
 use Rattle.store.specs.Judged.{Judged, is-skipped, is-refused, is-accepted, tableAfter}
 use Rattle.access.specs.SevenRules.{rulesFor, firstOf, sevenRules}
-use Rattle.store.specs.Pairs.{ruleBetween, PairModes, has-modes, modesFound, modesBetween, modesSoFar}
+use Rattle.store.specs.Pairs.{ruleBetween, PairModes, has-modes, modesFound, modesBetween, modesOrNone}
 use Rattle.access.specs.Access.{effective, answered, decide, byRequest, answer}
 use Rattle.store.proofs.Pairs.{not-listed, not-subject, not-object}
-use Rattle.new_object.proofs.WhichLabel.{labelled-by, pair-alone}
+use Rattle.new_object.proofs.WhichLabel.{goes-by-modes, pair-alone}
 use Rattle.grown.specs.Pairs.{SoundTable, Triple, ChangeText, newLabels, hasRule, hasRoom, isAccepted, SetsPair}
 use Rattle.grown.proofs.Sane.{subjectAt, objectAt, paired, subject-number, object-number, pair-front, one-label, Paired, rule-paired, change-paired}
 
@@ -175,7 +175,7 @@ module _ (t : Table) (s o : List ℕ) (m : ℕ) (taken : Taken s o) (sound : sou
         other-answers = λ x y request capable apart. answer-same t (paired t s o m) x y (others-kept x y apart) (override-same x) request capable;
         other-modes = others-kept;
         override = override-same;
-        new-objects = labelled-by (paired t s o m) s o (has-modes m) pair-set;
+        new-objects = goes-by-modes (paired t s o m) s o (has-modes m) pair-set;
         other-new-objects = λ x y apart. pair-alone (paired t s o m) t x y (others-kept x y apart);
       }
 
@@ -437,7 +437,7 @@ triple-sets t text s o m h w room =
     (accepted-as t (judged t (ruleOf text)) (ap (λ (x : Said). isAccepted (judged t x)) (triple-rule w) ∙ rule-accepted t s o m (triple-apart w) ∙ room))
 
 -- ANY ACCEPTED CHANGE
-modes-so-far : (rules : List Rule) (f : Found) → modesOfRule f rules ≡ modesSoFar (modesFound rules f)
+modes-so-far : (rules : List Rule) (f : Found) → modesOfRule f rules ≡ modesOrNone (modesFound rules f)
 modes-so-far rules (At k) = refl
 modes-so-far rules Nothing = refl
 
@@ -446,7 +446,7 @@ pub change-sets :
     SoundTable t →
     changeOf text ≡ change s o a d →
     judged t (changeOf text) ≡ is-accepted t′ →
-    SetsPair t t′ s o (changed (modesSoFar (modesBetween t s o)) a d)
+    SetsPair t t′ s o (changed (modesOrNone (modesBetween t s o)) a d)
 change-sets t t′ text s o a d h e q =
-    subst (λ (m : ℕ). SetsPair t t′ s o (changed m a d)) (modes-so-far (t .rules) (pairIn t (subjectAt t s o) (objectAt t s o)) ∙ ap modesSoFar (pair-read t s o h))
+    subst (λ (m : ℕ). SetsPair t t′ s o (changed m a d)) (modes-so-far (t .rules) (pairIn t (subjectAt t s o) (objectAt t s o)) ∙ ap modesOrNone (pair-read t s o h))
     (paired-sets h (change-paired t t′ s o a d h (subst Sound e (change-sound text)) (ap (judged t) (sym e) ∙ q)))

@@ -1,5 +1,6 @@
 -- Demand 2, second half: 'Loading a well-formed triple of two different labels, within the line length and with room for it, sets that
--- pair's modes and changes no other pair's answer.' Each part of that sentence by a name. Assumes nothing.
+-- pair's modes and changes no other pair's answer.' Each part of that sentence by a name; and what it does to the label of a new object (02, Seven). Assumes
+-- nothing.
 use Prim.Native.Nat.{ℕ, _+_, _≤_}
 use mathlib.Core.Bool.{Bool, true, false, _&&_, _||_}
 use mathlib.Core.Path.{_≡_}
@@ -16,7 +17,7 @@ use Rattle.store.specs.Judged.{Judged, is-skipped, is-refused, is-accepted}
 use Rattle.access.specs.SevenRules.{rulesFor, sevenRules}
 use Rattle.store.specs.Pairs.{PairModes, has-modes, no-rule, modesBetween}
 use Rattle.access.specs.Access.{effective, answer}
-use Rattle.new_object.specs.WhichLabel.{LabelledBy, SameNewObjects}
+use Rattle.new_object.specs.WhichLabel.{GoesByModes, SameNewObjects}
 
 -- what a table has to be for this: every number in it names one of its labels, and no mode or category bit is unknown. Every grown table is so, and so is the
 -- table of every undamaged state
@@ -79,5 +80,5 @@ pub record SetsPair (t t′ : Table) (s o : List ℕ) (m : ℕ) : Type 0 where
   pub override : (x : List ℕ) (capable : Bool) → effective t′ (labelIn t′ x) capable ≡ effective t (labelIn t x) capable
   -- the label of a new object, whose creator is the subject and whose folder the object (02, Seven), goes from now on by these modes; that of another pair
   -- does not change
-  pub new-objects : LabelledBy t′ s o (has-modes m)
+  pub new-objects : GoesByModes t′ s o (has-modes m)
   pub other-new-objects : (x y : List ℕ) → (x ≡ s → y ≡ o → ⊥) → SameNewObjects t′ t x y

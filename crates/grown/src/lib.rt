@@ -11,7 +11,7 @@ ghost use Rattle.store.specs.Layout.{Store, tableOf, undamagedOf};
 ghost use Rattle.lines.specs.Lines.{rule, change, ruleOf, changeOf};
 ghost use Rattle.writes.specs.Writes.{judged, changed};
 ghost use Rattle.store.specs.Judged.{is-accepted, tableAfter};
-ghost use Rattle.store.specs.Pairs.{modesBetween, modesSoFar};
+ghost use Rattle.store.specs.Pairs.{modesBetween, modesOrNone};
 ghost use Rattle.access.specs.Access.{effective};
 ghost use Rattle.rule_text.specs.RuleText.{longestRule};
 ghost use Rattle.listing.specs.Listing.{listing};
@@ -70,7 +70,7 @@ pub fn what_a_change_says()
 // An accepted change leaves its pair with (old modes or allow) without deny, and changes no other pair's answer either.
 pub fn accepted_change_sets_its_pair()
     ensures { λ _. ⌜ ((t t′ : Table) (text s o : List ℕ) (allow deny : ℕ) → SoundTable t → changeOf text ≡ change s o allow deny →
-        judged t (changeOf text) ≡ is-accepted t′ → SetsPair t t′ s o (changed (modesSoFar (modesBetween t s o)) allow deny)) ⌝ }
+        judged t (changeOf text) ≡ is-accepted t′ → SetsPair t t′ s o (changed (modesOrNone (modesBetween t s o)) allow deny)) ⌝ }
 {}
 
 // Demand 2, last sentence: a listing of the rules, loaded into a fresh table, gives the same rules in the same order.

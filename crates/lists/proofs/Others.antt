@@ -24,7 +24,7 @@ use Rattle.cipso_option.specs.Option.{optionGiven, optionAnswer, optionOut, not
 use Rattle.output.specs.declared.Output.the-variants as listed
 use Rattle.access.specs.Access.{questionOf}
 use Rattle.new_object.specs.NewObject.{objectLabelOf}
-use Rattle.new_object.specs.declared.ObjectLabel.the-variants as object
+use Rattle.new_object.specs.declared.ObjectLabel.the-variants as object-label
 use Rattle.answers.specs.Answers.{shown}
 use Rattle.access.specs.declared.Answer.the-variants as a
 use Rattle.load.specs.Loader.{Load, load}
@@ -173,7 +173,7 @@ module _ (st : Store) (u : undamagedOf st ≡ false) where
   unfolding peerGiven
   peer-refused option = rw u
 
-  pub object-refused : (creator folder : List ℕ) (folderTransmutes isFolder : Bool) → objectLabelOf st creator folder folderTransmutes isFolder ≡ object.Refused 0
+  pub object-refused : (creator folder : List ℕ) (folderTransmutes isFolder : Bool) → objectLabelOf st creator folder folderTransmutes isFolder ≡ object-label.Refused 0
   unfolding objectLabelOf
   object-refused creator folder folderTransmutes isFolder = rw u
 

@@ -5,9 +5,9 @@ use Prim.Native.Nat.{ℕ, zero, suc, _+_, _-_, _*_, _/_, _%_, _^_, _<_, _≤_}
 use native.Mathlib.Nat.{zero-mul, one-mul, mod-lt}
 use native.Mathlib.Omega.{arith}
 use lib.Dec.{eqb}
-use lib.Pow.{pow-pos}
-use lib.Bits.{bitAnd, bitOr, bitXor, and-high, and-shr, and-mod, or-shr, or-mod, xor-shr, xor-mod}
-use borrow.Author.Tests.{eqb-true, ne-eqb}
+use lib.Pow.{pow-pos, pow-add}
+use lib.Bits.{bitAnd, bitOr, bitXor, and-comm, and-high, and-shr, and-mod, or-shr, or-mod, xor-shr, xor-mod}
+use borrow.Author.Tests.{eqb-true, eq-eqb, ne-eqb}
 use Rattle.search.specs.Bytes.{ascii}
 use Rattle.search.proofs.Laws.{no}
 use Rattle.modes.specs.Modes.{has, oneOf}
@@ -56,6 +56,18 @@ module _ (k a b : ℕ) where
       rw (has-digit k (bitXor a b), has-digit k b, xor-shr a b k, xor-mod (a / 2 ^ k) (b / 2 ^ k) 1)
       (digits (λ (x y : ℕ). eqb x 1 ≡ true → eqb (bitXor x y) 1 ≡ not (eqb y 1)) (λ z. absurd (no z)) (λ z. absurd (no z)) (λ z. refl) (λ z. refl)
       (digit k a) (digit k b) (digit-lt k a) (digit-lt k b) (sym (has-digit k a) ∙ e))
+
+-- a set has all of one letter's bit exactly where it has the letter
+one-of : (x q : ℕ) → x < 2 → 0 < q → eqb (x * q) q ≡ not (eqb (x * q) 0)
+one-of zero q h p = rw (zero-mul q) (ne-eqb 0 q (λ e. omega arith))
+one-of (suc zero) q h p = rw (one-mul q, eq-eqb q q refl, ne-eqb q 0 (λ e. omega arith))
+one-of (suc (suc x)) q h p = absurd (omega arith)
+
+single-is : (k : ℕ) → single k ≡ 2 ^ k
+single-is k = let z : 2 ^ (1 + k) ≡ 2 * 2 ^ k = pow-add 2 1 k in omega (arith, z)
+
+pub all-of-one : (k n : ℕ) → eqb (bitAnd (single k) n) (single k) ≡ has n (single k)
+all-of-one k n = rw (and-comm (single k) n, and-high n 1 k, single-is k) (one-of (digit k n) (2 ^ k) (digit-lt k n) (pow-pos k))
 
 -- ---- laws of three sets: two ways to join and meet them are one where they are so of digits
 

@@ -29,7 +29,7 @@ use Rattle.access.specs.declared.Answer.{Answer}
 use Rattle.access.specs.declared.Answer.the-variants as answer
 use Rattle.access.proofs.Laws.{effective-not, answer-is}
 use Rattle.new_object.specs.NewObject.{objectLabelBy, objectLabelFor, objectLabel, objectLabelOf}
-use Rattle.new_object.specs.WhichLabel.{writeAsked, RuleHas, WhichLabel, LabelledBy, SameNewObjects}
+use Rattle.new_object.specs.WhichLabel.{writeAsked, RuleHas, WhichLabel, GoesByModes, SameNewObjects}
 use Rattle.new_object.specs.declared.ObjectLabel.{ObjectLabel}
 use Rattle.new_object.specs.declared.ObjectLabel.the-variants.{CreatorLabel, Denied, FolderLabel, Refused}
 
@@ -211,16 +211,16 @@ which-label st creator folder folderTransmutes isFolder =
     record {
       denied = is-denied folderTransmutes isFolder w b;
       refused = is-refused folderTransmutes isFolder w b;
-      folders = folders;
-      creators = is-creators folderTransmutes isFolder w _ there stands b;
-      no-folder = λ p e. no (sym p ∙ sym (folders true .0 e .3));
+      folder-label = folders;
+      creator-label = is-creators folderTransmutes isFolder w _ there stands b;
+      file-never-transmutes = λ p e. no (sym p ∙ sym (folders true .0 e .3));
     }
 
 -- ---- the modes of the pair alone count
 
-pub labelled-by : (t : Table) (creator folder : List ℕ) (pair : PairModes) → modesBetween t creator folder ≡ pair → LabelledBy t creator folder pair
+pub goes-by-modes : (t : Table) (creator folder : List ℕ) (pair : PairModes) → modesBetween t creator folder ≡ pair → GoesByModes t creator folder pair
 unfolding objectLabel
-labelled-by t creator folder pair e p q folderTransmutes isFolder = rw (p, q, e)
+goes-by-modes t creator folder pair e p q folderTransmutes isFolder = rw (p, q, e)
 
 pub pair-alone : (t u : Table) (creator folder : List ℕ) → modesBetween t creator folder ≡ modesBetween u creator folder → SameNewObjects t u creator folder
 unfolding objectLabel

@@ -7,9 +7,9 @@ ghost use Prim.Native.Nat.{ℕ};
 ghost use Rattle.store.specs.Table.{Table};
 ghost use Rattle.store.specs.Layout.{Store, lent, tableOf, Sizes};
 ghost use Rattle.store.specs.Within.{Counts};
-ghost use Rattle.store.specs.Pairs.{has-modes, modesBetween};
+ghost use Rattle.store.specs.Pairs.{PairModes, has-modes, modesBetween};
 ghost use Rattle.new_object.specs.NewObject.{objectLabelBy, objectLabelFor, objectLabelOf};
-ghost use Rattle.new_object.specs.WhichLabel.{WhichLabel, SameNewObjects};
+ghost use Rattle.new_object.specs.WhichLabel.{WhichLabel, byLabelsAndModes, SameNewObjects};
 
 // Which label it gets: the creator's; none, since the creator may not write to the folder; the folder's, and whether the new object transmutes; or refused,
 // with its number.
@@ -105,9 +105,10 @@ pub fn object_label(
     )
 }
 
-// The claim of when it is denied, the folder's or the creator's label, in 02's words: by the answer to a question for w, and the rule of the pair. And nothing
-// is looked at in a table but the modes of the pair: so not the override list, no mapping, and no other rule.
+// The claim of when it is denied, the folder's or the creator's label, in 02's words: by the answer to a question for w, and the rule of the pair. And of a
+// table nothing counts but the modes of the pair: so not the override list, no mapping, and no other rule; what they make of it is told by the two labels.
 pub fn which_label_a_new_object_gets()
     ensures { λ _. ⌜ ((st : Store) (creator folder : List ℕ) (folderTransmutes isFolder : Bool) → WhichLabel st creator folder folderTransmutes isFolder) ⌝ }
     ensures { λ _. ⌜ ((t u : Table) (creator folder : List ℕ) → modesBetween t creator folder ≡ modesBetween u creator folder → SameNewObjects t u creator folder) ⌝ }
+    ensures { λ _. ⌜ ((creator folder : List ℕ) (pair : PairModes) (folderTransmutes isFolder : Bool) → objectLabelFor creator folder pair folderTransmutes isFolder ≡ byLabelsAndModes creator folder pair folderTransmutes isFolder) ⌝ }
 {}

@@ -12,7 +12,7 @@ use Rattle.search.specs.declared.Found.the-variants.{At, Nothing}
 use Rattle.search.proofs.Laws.{same-sym}
 use Rattle.refusals.specs.Refusals.{labelsFull, rulesFull}
 use Rattle.store.specs.Table.{Table, labelIn, enter, noPlace, soundTable}
-use Rattle.store.specs.Pairs.{modesFound, modesBetween, modesSoFar}
+use Rattle.store.specs.Pairs.{modesFound, modesBetween, modesOrNone}
 use Rattle.store.specs.Judged.{is-refused, is-accepted}
 use Rattle.store.proofs.Pairs.{enter-number, enter-other, enter-length, between-read}
 use Rattle.rules.specs.Rules.{pairLabels, pairRule, withPair, pairJudged}
@@ -58,10 +58,10 @@ module _ (t : Table) (s o : List ℕ) (different : sameBytes s o ≡ false) wher
         by-tests false false = refl
 
     -- the modes that a change starts from
-    pub modes-read : modesOfRule (ruleOfPair t (labelIn t s) (labelIn t o)) (t .rules) ≡ modesSoFar (modesBetween t s o)
+    pub modes-read : modesOfRule (ruleOfPair t (labelIn t s) (labelIn t o)) (t .rules) ≡ modesOrNone (modesBetween t s o)
     unfolding modesBetween
     modes-read = ap (λ (f : Found). modesOfRule f (t .rules)) (sym rule-read) ∙ by-case (pairRule t s o)
       where
-        by-case : (f : Found) → modesOfRule f (t .rules) ≡ modesSoFar (modesFound (t .rules) f)
+        by-case : (f : Found) → modesOfRule f (t .rules) ≡ modesOrNone (modesFound (t .rules) f)
         by-case (At k) = refl
         by-case Nothing = refl

@@ -27,6 +27,6 @@ unfoldable pub modesBetween : Table → List ℕ → List ℕ → PairModes
 modesBetween t s o = modesFound (t .rules) (ruleBetween t (labelIn t s) (labelIn t o))
 
 -- the modes of the pair's rule, or none; a change starts from these
-abbrev pub modesSoFar : PairModes → ℕ
-modesSoFar (has-modes m) = m
-modesSoFar no-rule = 0
+abbrev pub modesOrNone : PairModes → ℕ
+modesOrNone (has-modes m) = m
+modesOrNone no-rule = 0
