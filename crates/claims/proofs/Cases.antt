@@ -71,6 +71,6 @@ pub further-right : all right furtherCases ≡ true
 unfolding all right first put sameBytes isBlank labelByte wellFormed faultOf fields bitOf allowedByte modesOf readModes modesText ruleBy ruleOf changeBy changeOf isPair withPair modesBetween effective decide answer
 further-right = and-true (right (maps at-the-ends Vault7 9 (63 ∷ 64 ∷ 65 ∷ 128 ∷ 129 ∷ 184 ∷ []) 6)) ∙ mapped at-the-ends of-each-word (63 ∷ 64 ∷ 65 ∷ 128 ∷ 129 ∷ 184 ∷ []) 6 says-ends after-ends
 
-pub creation-right : all right newObjectCases ≡ true
+pub new-objects-right : all right newObjectCases ≡ true
 unfolding all right first put sameBytes isBlank labelByte wellFormed fields bitOf allowedByte modesOf readModes ruleBy ruleOf isPair withPair modesBetween objectLabelFor objectLabel
-creation-right = refl
+new-objects-right = refl

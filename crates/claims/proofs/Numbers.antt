@@ -28,6 +28,7 @@ numbers-of-01 =
       sizes = refl;
       fresh-table = refl;
       from-none = refl;
+      from-its-own = λ m. refl;
       fresh-loader = refl;
       after-the-end = after-the-end;
       levels = λ n. refl;

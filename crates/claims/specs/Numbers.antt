@@ -34,7 +34,7 @@ use Rattle.reports.specs.declared.Loader.{Loader}
 use Rattle.load.specs.declared.Fed.the-variants as fed
 use Rattle.load.specs.declared.Ended.the-variants as ended
 use Rattle.answers.specs.Answers.{shown, writeShown, revokeShown, pieceShown, endShown, lookupShown, searchShown, outputShown, objectShown}
-use Rattle.store.specs.Pairs.{no-rule, modesOrNone}
+use Rattle.store.specs.Pairs.{has-modes, no-rule, modesOrNone}
 
 -- the refusals and the limits, in 01's order; the last, of a listed rule, by 02, Six: five letters
 abbrev pub refusals : List Refusal
@@ -49,11 +49,12 @@ limits = labelLongest ∷ labelLimit ∷ ruleLimit ∷ mappingLimit ∷ onlycapL
 pub record NumbersOf01 : Type 0 where
   pub refused-by : refusals ≡ map refusal.plain (0 ∷ 1 ∷ 2 ∷ 3 ∷ 4 ∷ 5 ∷ 6 ∷ 7 ∷ 8 ∷ 9 ∷ 10 ∷ 11 ∷ 12 ∷ 13 ∷ [])
   pub sizes : limits ≡ 255 ∷ 64 ∷ 256 ∷ 32 ∷ 8 ∷ 600 ∷ 255 ∷ 4294967295 ∷ 518 ∷ []
-  -- a fresh table has the five labels and nothing else; a change of a pair that has no rule starts from no letter
+  -- a fresh table has the five labels and nothing else; a change of a pair that has no rule starts from no letter, and of one that has a rule from its modes
   pub fresh-table :
       fresh
       ≡ record { labels = ascii "_" ∷ ascii "^" ∷ ascii "*" ∷ ascii "?" ∷ ascii "@" ∷ []; rules = []; mappings = []; onlycap = [] }
   pub from-none : modesOrNone no-rule ≡ 0
+  pub from-its-own : (m : ℕ) → modesOrNone (has-modes m) ≡ m
   -- a fresh loader has kept nothing and counted nothing, and an end call that is not refused leaves one
   pub fresh-loader : freshLoader ≡ record { kept = 0; report = record { lines = 0; accepted = 0; skipped = 0; refused = 0; first = 0; reason = 0; place = 0; bringup = 0 } }
   pub after-the-end : (s : Load) → ready s ≡ true → endAfter s .loader ≡ freshLoader

@@ -292,6 +292,17 @@ held-b : (field : List ℕ) → hasBringUp (modesOf field) ≡ any (oneOf (ascii
 unfolding modesOf bitOf all
 held-b field = joined-has 6 (bit-alone 64 refl refl) field _ ∙ any-same (λ (b : ℕ). eqb (bitOf b) 64) (oneOf (ascii "bB")) is-b field
 
+-- a field whose bytes are allowed is read as what it has
+read-as :
+    (allowed : ℕ) (dashes : Bool) (field : List ℕ) (m : ℕ) →
+    (readModes allowed dashes field ≡ Modes m) ↔ ((all (allowedByte allowed dashes) field ≡ true) × (modesOf field ≡ m))
+unfolding readModes
+read-as allowed dashes field m = by-test (all (allowedByte allowed dashes) field)
+  where
+    by-test : (b : Bool) → (cond b (Modes (modesOf field)) Bad ≡ Modes m) ↔ ((b ≡ true) × (modesOf field ≡ m))
+    by-test true = (λ e. (refl, cc), λ e. ap Modes (e .1))
+    by-test false = (λ e. let z : _≡_ {A = ℕ} 0 1 = cc in absurd (omega arith), λ e. absurd (no (e .0)))
+
 -- ---- THE LETTERS as 01 and 02 say them
 
 pub letters-and-bits : LettersAndBits
@@ -302,6 +313,7 @@ letters-and-bits =
       line-bytes = allowed-is lineLetters true (ascii "rwxatbRWXATB-") refl;
       change-bytes = allowed-is changeLetters true (ascii "rwxatRWXAT-") refl;
       request-bytes = allowed-is requestLetters false (ascii "rwxaRWXA") refl;
+      read-as = read-as;
       read = field-has;
       no-other = field-read;
       written = λ m. refl;

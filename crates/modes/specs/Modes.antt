@@ -118,14 +118,17 @@ any p (b ∷ bs) = p b || any p bs
 abbrev pub oneOf : List ℕ → ℕ → Bool
 oneOf text b = any (eqb b) text
 
--- so it is of all 256 bytes; each place allows its letters in either case, and a dash in a line and in a change; a field has a letter exactly where
--- one of its bytes is that letter, and nothing else; modes are written as their letters in the order r w x a t, or as a dash; which letters the sets named
+-- so it is of all 256 bytes; each place allows its letters in either case, and a dash in a line and in a change; a field is read
+-- exactly where each of its bytes is allowed, and then as what it has: a letter exactly where one of its bytes is that letter, and nothing else; modes are written as their letters in the order r w x a t, or as a dash; which letters the sets named
 -- above are; which modes a table may store; and what is stored of a line's letters: each one but b, and no other
 pub record LettersAndBits : Type 0 where
   pub bits : (b : ℕ) → b < 256 → LetterBit b (bitOf b)
   pub line-bytes : (b : ℕ) → b < 256 → allowedByte lineLetters true b ≡ oneOf (ascii "rwxatbRWXATB-") b
   pub change-bytes : (b : ℕ) → b < 256 → allowedByte changeLetters true b ≡ oneOf (ascii "rwxatRWXAT-") b
   pub request-bytes : (b : ℕ) → b < 256 → allowedByte requestLetters false b ≡ oneOf (ascii "rwxaRWXA") b
+  pub read-as :
+      (allowed : ℕ) (dashes : Bool) (field : List ℕ) (m : ℕ) →
+      (readModes allowed dashes field ≡ Modes m) ↔ ((all (allowedByte allowed dashes) field ≡ true) × (modesOf field ≡ m))
   pub read : (field : List ℕ) (l : ℕ) → oneOf (ascii "rwxatb") l ≡ true → has (modesOf field) (bitOf l) ≡ any (λ (b : ℕ). eqb (bitOf b) (bitOf l)) field
   pub no-other : (field : List ℕ) → (modesOf field < 128) × (modesOf field % 2 ≡ 0)
   pub written : (m : ℕ) → modesText m ≡ cond (eqb m 0) (ascii "-") (those (λ (l : ℕ). has m (bitOf l)) (ascii "rwxat"))
