@@ -8625,6 +8625,119 @@ def newobjects_kernel():
     s.store()
 
 
+def newobjects_odd():
+    s = Script("newobjects_odd", "02, Seven, and 01, refusal 0: lent tables where a search or the damage test could end too early, and what is no damage; nothing is written, whatever is answered.", True)
+    two = FIVE + [b"Alarm", b"Records"]
+
+    def unchanged(name, creator, folder, *answers):
+        """The four answers between two dumps, which are the same."""
+        s.dump(name)
+        four(s, creator, folder, *answers)
+        s.dump(name)
+
+    s.say("A stored label that is empty or ill formed ends no search for a label.")
+    for odd in (b"", b" ", b"-", b"\xff"):
+        lend(s, FIVE + [odd, b"Alarm", b"Records"], [(6, 7, b"wt")])
+        four(s, b"Alarm", b"Records", *TRANSMUTED)
+    s.say("A rule of zeros, or without modes, ends no search for a rule.")
+    for before in ((0, 0, b""), (5, 5, b""), (6, 6, b""), (6, 5, b"")):
+        lend(s, two, [before, (5, 6, b"wt")])
+        four(s, b"Alarm", b"Records", *TRANSMUTED)
+    s.say("The t of another rule does not count: of the creator with itself, of the folder with itself, of the turned pair, behind the count.")
+    for other in ((5, 5, b"wt"), (6, 6, b"wt"), (6, 5, b"wt")):
+        for rules in ([other, (5, 6, b"w")], [(5, 6, b"w"), other]):
+            lend(s, two, rules)
+            four(s, b"Alarm", b"Records", "creator")
+    for modes, answers in ((b"w", ("creator",)), (b"", ("denied",))):
+        lend(s, two, [(5, 6, modes), (5, 6, b"wt")])
+        s.poke("words", 1, 1)
+        four(s, b"Alarm", b"Records", *answers)
+    s.say("The pair at places of tables with other numbers of rules; then there twice, the second last.")
+    for count in (2, 3, 31, 32, 33, 63, 64, 65, 126, 127, 128, 129, 130, 191, 192, 193, 253, 254, 255, 256):
+        for k in sorted({0, 1, 31, 32, 63, 64, 100, 127, 128, 191, 192, count // 2, count - 2, count - 1}):
+            if k >= count:
+                continue
+            rules = [(6, 5, b"r")] * count
+            rules[k] = (5, 6, b"wt")
+            lend(s, two, rules)
+            s.newobject(b"Alarm", b"Records", 1, 1, "folder 1")
+            s.newobject(b"Records", b"Alarm", 1, 1, "denied")
+            if k < count - 1:
+                rules[-1] = (5, 6, b"w")
+                lend(s, two, rules)
+                s.newobject(b"Alarm", b"Records", 1, 1, "folder 1")
+    s.say("The turned pair beside it.")
+    for k in (0, 1, 30, 62, 126, 127, 253, 254):
+        lend(s, two, [(5, 5, b"")] * k + [(6, 5, b"r"), (5, 6, b"wt")])
+        four(s, b"Alarm", b"Records", *TRANSMUTED)
+    s.say("Under five labels the rules count as in any table.")
+    for count in (1, 2, 3, 4):
+        lend(s, FIVE, [(count - 1, 0, b"wt"), (0, count - 1, b"w")], count)
+        unchanged("under five: %d" % count, FIVE[count - 1], b"_", *([says_new(FIVE[count - 1], b"_", b"wt", *flags) for flags in FOUR]))
+    s.say("No label at all: a mapping's number, an override label's or a rule's names none, 0 too; without them nothing is damaged.")
+    for index in (1, 2, 3):
+        s.fresh()
+        s.poke("words", 0, 0)
+        four(s, b"A", b"A", "creator")
+        s.poke("words", index, 1)
+        for creator, folder in ((b"A", b"A"), (b"A", b"*"), (b"*", b"A"), (b"_", b"A"), (b"", b"A")):
+            four(s, creator, folder, 0)
+    s.say("A number just too high, of a mapping or an override label: with rules or none, in tables of each kind of size.")
+    for labels in (5, 6, 7, 31, 32, 63):
+        names = two + [b"F%d" % k for k in range(7, 64)]
+        for rules in ([], [(0, 1, b"wt")], [(0, 1, b"wt")] * 256):
+            for index, at in ((2, 768), (3, 832)):
+                for count in (1, 8, 32 if index == 2 else 8):
+                    lend(s, names[:labels], rules)
+                    s.poke("words", index, count)
+                    s.poke("entries", at + count - 1, bytes([labels]))
+                    s.newobject(b"_", b"^", 1, 1, 0)
+                    s.newobject(b"A", b"A", 1, 1, 0)
+                    s.poke("entries", at + count - 1, bytes([labels - 1]))
+                    s.newobject(b"_", b"^", 1, 1, "folder 1" if rules else "denied")
+    s.say("Full mappings and an override label that names none; a full list and a mapping that names none.")
+    for full_, at, one, other in ((2, 32, 3, 832), (3, 8, 2, 768)):
+        s.fresh()
+        s.poke("words", full_, at)
+        s.poke("words", one, 1)
+        four(s, b"A", b"A", "creator")
+        s.poke("entries", other, b"\x05")
+        four(s, b"A", b"A", 0)
+    s.say("No damage: a mapping or an override label twice; the highest and lowest bits of a set that are categories; bytes behind the labels that are counted.")
+    lend(s, two, [(5, 6, b"wt")])
+    s.poke("words", 2, 2)
+    s.poke("entries", 768, b"\x05\x05")
+    unchanged("a mapping twice", b"Alarm", b"Records", *TRANSMUTED)
+    s.poke("words", 3, 2)
+    s.poke("entries", 832, b"\x05\x05")
+    unchanged("an override label twice", b"Alarm", b"Records", *TRANSMUTED)
+    for n in (1, 63, 64, 65, 127, 128, 129, 183, 184):
+        s.poke_set(0, category(n))
+        four(s, b"Alarm", b"Records", *TRANSMUTED)
+    s.fresh()
+    s.poke("labels", 1280, b"\xff")
+    four(s, b"_", b"_", "creator")
+    four(s, b"_", b"^", "denied")
+    s.say("Nothing is written: with a label or a pair twice, with lists of each kind, and in tables of each kind of size.")
+    for labels in (two, two + [b"Alarm"], two + [b"Records", b"Alarm"], two + [b"F%d" % k for k in range(7, 63)], two + [b"F%d" % k for k in range(7, 64)]):
+        for rules in ([(5, 6, b"wt")], [(5, 6, b"wt"), (5, 6, b"w")], [(5, 6, b"wt")] + [(6, 5, b"r")] * 254, [(5, 6, b"wt")] + [(6, 5, b"r")] * 255):
+            for overrides in (b"", b"\x05", b"\x06", b"\x05\x06" * 4):
+                for mappings in (0, 1, 31, 32):
+                    lend(s, labels, rules, None, overrides)
+                    s.poke("words", 2, mappings)
+                    name = "%d labels, %d rules, %d listed, %d mapped, %s" % (len(labels), len(rules), len(overrides), mappings, h(labels[-1] + overrides))
+                    s.dump(name)
+                    s.newobject(b"Alarm", b"Records", 1, 1, "folder 1")
+                    s.newobject(b"Alarm", b"Records", 1, 0, "folder 0")
+                    s.newobject(b"Alarm", b"Records", 0, 1, "creator")
+                    s.newobject(b"Records", b"Alarm", 1, 1, "denied")
+                    s.newobject(b"Unseen", b"Unseen2", 1, 1, "denied")
+                    s.newobject(b"Unseen", b"*", 1, 1, "creator")
+                    s.newobject(b"Unseen", b"", 1, 1, 3)
+                    s.dump(name)
+    s.store()
+
+
 def newobjects():
     newobjects_sentences()
     newobjects_modes()
@@ -8642,6 +8755,7 @@ def newobjects():
     newobjects_walk()
     newobjects_lengths()
     newobjects_places()
+    newobjects_odd()
     newobjects_kernel()
 
 
