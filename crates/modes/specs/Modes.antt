@@ -118,9 +118,10 @@ any p (b ∷ bs) = p b || any p bs
 abbrev pub oneOf : List ℕ → ℕ → Bool
 oneOf text b = any (eqb b) text
 
--- so it is of all 256 bytes; each place allows its letters in either case, and a dash in a line and in a change; a field is read
--- exactly where each of its bytes is allowed, and then as what it has: a letter exactly where one of its bytes is that letter, and nothing else; modes are written as their letters in the order r w x a t, or as a dash; which letters the sets named
--- above are; which modes a table may store; and what is stored of a line's letters: each one but b, and no other
+-- so it is of all 256 bytes; each place allows its letters in either case, and a dash in a line and in a change; a field is read exactly where each of its
+-- bytes is allowed, and then as what it has: a letter exactly where one of its bytes is that letter, and nothing else; modes are written as their letters
+-- in the order r w x a t, or as a dash; which letters the sets named above are; which modes a table may store; and what is stored of a line's letters: each
+-- one but b, and no other
 pub record LettersAndBits : Type 0 where
   pub bits : (b : ℕ) → b < 256 → LetterBit b (bitOf b)
   pub line-bytes : (b : ℕ) → b < 256 → allowedByte lineLetters true b ≡ oneOf (ascii "rwxatbRWXATB-") b

@@ -36,14 +36,14 @@ use Rattle.new_object.specs.declared.ObjectLabel.the-variants.{CreatorLa
 -- ---- the rule of a pair has a letter exactly where the pair's modes have it
 
 module _ (t : Table) (s o : List ℕ) (letter : ℕ) where
-  abbrev pub pairHas : Bool
-  pairHas = modesPass (modesBetween t s o) (λ (m : ℕ). has m letter)
+  abbrev pub hasBetween : Bool
+  hasBetween = modesPass (modesBetween t s o) (λ (m : ℕ). has m letter)
 
-  pub has-rule : RuleHas t s o letter → pairHas ≡ true
+  pub has-rule : RuleHas t s o letter → hasBetween ≡ true
   unfolding modesBetween
   has-rule h = rw (h .subject, h .object, h .rule) (h .letter-there)
 
-  pub rule-has : pairHas ≡ true → RuleHas t s o letter
+  pub rule-has : hasBetween ≡ true → RuleHas t s o letter
   unfolding modesBetween
   rule-has e = by-labels (labelIn t s) (labelIn t o) refl refl e
     where
@@ -92,7 +92,7 @@ module _ (st : Store) (creator folder : List ℕ) (folderTransmutes isFolder : B
   T = tableOf st
 
   abbrev withT : Bool
-  withT = pairHas T creator folder transmuteLetter
+  withT = hasBetween T creator folder transmuteLetter
 
   by-verdict : (v : Verdict) → Beside folderTransmutes isFolder withT (objectLabelBy v (modesBetween T creator folder) folderTransmutes isFolder) (answered false v)
   by-verdict (Grants n) = by-test (folderTransmutes && (eqb n 6 && withT)) refl
@@ -204,7 +204,7 @@ unfolding modesOf bitOf
 which-label st creator folder folderTransmutes isFolder =
     let b = beside st creator folder folderTransmutes isFolder in
     let t = tableOf st in
-    let w = pairHas t creator folder transmuteLetter in
+    let w = hasBetween t creator folder transmuteLetter in
     let there = rule-has t creator folder transmuteLetter in
     let stands = has-rule t creator folder transmuteLetter in
     let folders = is-folders folderTransmutes isFolder w _ there stands b in
