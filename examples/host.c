@@ -2,7 +2,7 @@
  * lines still have the retired letter b, turns a file of old records into rules and back, labels packets that another side reads, and labels the files that
  * the recorder and the alarm make in one folder. (examples/packet.c sends a packet.)
  *
- *   gcc -O2 -Iinclude examples/host.c target/staticlib/libhost.a -o host && ./host examples/store_north.rules examples/old_logger.records
+ *   gcc -O2 -Iinclude examples/host.c target/staticlib/libbalqirven.a -o host && ./host examples/store_north.rules examples/old_logger.records
  *
  * examples/host.rs is the same in Rust; both write examples/host.expected. */
 #include "balqirven.h"

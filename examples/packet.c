@@ -1,6 +1,6 @@
 /* Sends a packet with a label over the loopback and reads the label of the packet that came. It is run by hand, as root, on Linux:
  *
- *   gcc -O2 -Iinclude examples/packet.c target/staticlib/libhost.a -o packet && ./packet LABEL [MAPPING]
+ *   gcc -O2 -Iinclude examples/packet.c target/staticlib/libbalqirven.a -o packet && ./packet LABEL [MAPPING]
  *
  * MAPPING is a mapping write, for instance `./packet Archive 'Archive 9 1 63'`; without one the label goes as its own bits, at level 250. To see the
  * packet, run beside it: tshark -i lo -V -f 'udp and ip[0] > 0x45'

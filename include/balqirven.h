@@ -1,6 +1,6 @@
 /* Balqirven: Smack labels, access rules and CIPSO mappings in memory that the host lends.
  *
- * Link target/staticlib/libhost.a (rt staticlib host). x86-64 only. The archive holds no version of its own: build it and take this header
+ * Link target/staticlib/libbalqirven.a (rt staticlib balqirven). x86-64 only. The archive holds no version of its own: build it and take this header
  * from one commit.
  *
  * What is lent. The tables stand in three parts of fixed size, the line of rule text under way in a fourth. A part goes to a call as a pointer

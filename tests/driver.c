@@ -1,7 +1,7 @@
 /* Runs a call script over the static library: one call a line from standard input, one answer a line to standard output, in the forms of
  * tests/second/FORMAT.md, so that `second script` and this program can be compared byte for byte.
  *
- *   gcc -O2 -o driver tests/driver.c target/staticlib/libhost.a
+ *   gcc -O2 -o driver tests/driver.c target/staticlib/libbalqirven.a
  *   driver               every lent part is memory of its own, of exactly its size, so that valgrind sees one byte too far
  *   driver guard-end     every lent part ends at the end of a page, and the page behind it can neither be read nor written
  *   driver guard-front   every lent part begins at the beginning of a page, and the page before it can neither be read nor written

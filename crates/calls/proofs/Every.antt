@@ -14,66 +14,66 @@ use borrow.Fn.Run.{Over}
 use borrow.Fn.Plain.{Known}
 use borrow.Fn.World.{World}
 use Rattle.numbers.specs.declared.CategorySet.{CategorySet}
-use Rattle.host.proofs.bq_piece.Kinds as piece-kinds
-use Rattle.host.proofs.bq_piece.Reads as piece-reads
-use Rattle.host.proofs.bq_piece.Symbol as piece-symbol
-use Rattle.host.proofs.bq_piece.Met as piece-met
-use Rattle.host.proofs.bq_end.Kinds as end-kinds
-use Rattle.host.proofs.bq_end.Reads as end-reads
-use Rattle.host.proofs.bq_end.Symbol as end-symbol
-use Rattle.host.proofs.bq_end.Met as end-met
-use Rattle.host.proofs.bq_question.Kinds as question-kinds
-use Rattle.host.proofs.bq_question.Reads as question-reads
-use Rattle.host.proofs.bq_question.Symbol as question-symbol
-use Rattle.host.proofs.bq_question.Met as question-met
-use Rattle.host.proofs.bq_change.Kinds as change-kinds
-use Rattle.host.proofs.bq_change.Reads as change-reads
-use Rattle.host.proofs.bq_change.Symbol as change-symbol
-use Rattle.host.proofs.bq_change.Met as change-met
-use Rattle.host.proofs.bq_revoke.Kinds as revoke-kinds
-use Rattle.host.proofs.bq_revoke.Reads as revoke-reads
-use Rattle.host.proofs.bq_revoke.Symbol as revoke-symbol
-use Rattle.host.proofs.bq_revoke.Met as revoke-met
-use Rattle.host.proofs.bq_onlycap.Kinds as onlycap-kinds
-use Rattle.host.proofs.bq_onlycap.Reads as onlycap-reads
-use Rattle.host.proofs.bq_onlycap.Symbol as onlycap-symbol
-use Rattle.host.proofs.bq_onlycap.Met as onlycap-met
-use Rattle.host.proofs.bq_mapping.Kinds as mapping-kinds
-use Rattle.host.proofs.bq_mapping.Reads as mapping-reads
-use Rattle.host.proofs.bq_mapping.Symbol as mapping-symbol
-use Rattle.host.proofs.bq_mapping.Met as mapping-met
-use Rattle.host.proofs.bq_by_label.Kinds as by-label-kinds
-use Rattle.host.proofs.bq_by_label.Reads as by-label-reads
-use Rattle.host.proofs.bq_by_label.Symbol as by-label-symbol
-use Rattle.host.proofs.bq_by_label.Met as by-label-met
-use Rattle.host.proofs.bq_by_level.Kinds as by-level-kinds
-use Rattle.host.proofs.bq_by_level.Reads as by-level-reads
-use Rattle.host.proofs.bq_by_level.Symbol as by-level-symbol
-use Rattle.host.proofs.bq_by_level.Met as by-level-met
-use Rattle.host.proofs.bq_list_rule.Kinds as list-rule-kinds
-use Rattle.host.proofs.bq_list_rule.Reads as list-rule-reads
-use Rattle.host.proofs.bq_list_rule.Symbol as list-rule-symbol
-use Rattle.host.proofs.bq_list_rule.Met as list-rule-met
-use Rattle.host.proofs.bq_label_check.Kinds as label-check-kinds
-use Rattle.host.proofs.bq_label_check.Reads as label-check-reads
-use Rattle.host.proofs.bq_label_check.Symbol as label-check-symbol
-use Rattle.host.proofs.bq_label_check.Met as label-check-met
-use Rattle.host.proofs.bq_write_option.Kinds as write-option-kinds
-use Rattle.host.proofs.bq_write_option.Reads as write-option-reads
-use Rattle.host.proofs.bq_write_option.Symbol as write-option-symbol
-use Rattle.host.proofs.bq_write_option.Met as write-option-met
-use Rattle.host.proofs.bq_read_option.Kinds as read-option-kinds
-use Rattle.host.proofs.bq_read_option.Reads as read-option-reads
-use Rattle.host.proofs.bq_read_option.Symbol as read-option-symbol
-use Rattle.host.proofs.bq_read_option.Met as read-option-met
-use Rattle.host.proofs.bq_new_object.Kinds as new-object-kinds
-use Rattle.host.proofs.bq_new_object.Reads as new-object-reads
-use Rattle.host.proofs.bq_new_object.Symbol as new-object-symbol
-use Rattle.host.proofs.bq_new_object.Met as new-object-met
-use Rattle.host.proofs.bq_label.Kinds as label-kinds
-use Rattle.host.proofs.bq_label.Reads as label-reads
-use Rattle.host.proofs.bq_label.Symbol as label-symbol
-use Rattle.host.proofs.bq_label.Met as label-met
+use Rattle.balqirven.proofs.bq_piece.Kinds as piece-kinds
+use Rattle.balqirven.proofs.bq_piece.Reads as piece-reads
+use Rattle.balqirven.proofs.bq_piece.Symbol as piece-symbol
+use Rattle.balqirven.proofs.bq_piece.Met as piece-met
+use Rattle.balqirven.proofs.bq_end.Kinds as end-kinds
+use Rattle.balqirven.proofs.bq_end.Reads as end-reads
+use Rattle.balqirven.proofs.bq_end.Symbol as end-symbol
+use Rattle.balqirven.proofs.bq_end.Met as end-met
+use Rattle.balqirven.proofs.bq_question.Kinds as question-kinds
+use Rattle.balqirven.proofs.bq_question.Reads as question-reads
+use Rattle.balqirven.proofs.bq_question.Symbol as question-symbol
+use Rattle.balqirven.proofs.bq_question.Met as question-met
+use Rattle.balqirven.proofs.bq_change.Kinds as change-kinds
+use Rattle.balqirven.proofs.bq_change.Reads as change-reads
+use Rattle.balqirven.proofs.bq_change.Symbol as change-symbol
+use Rattle.balqirven.proofs.bq_change.Met as change-met
+use Rattle.balqirven.proofs.bq_revoke.Kinds as revoke-kinds
+use Rattle.balqirven.proofs.bq_revoke.Reads as revoke-reads
+use Rattle.balqirven.proofs.bq_revoke.Symbol as revoke-symbol
+use Rattle.balqirven.proofs.bq_revoke.Met as revoke-met
+use Rattle.balqirven.proofs.bq_onlycap.Kinds as onlycap-kinds
+use Rattle.balqirven.proofs.bq_onlycap.Reads as onlycap-reads
+use Rattle.balqirven.proofs.bq_onlycap.Symbol as onlycap-symbol
+use Rattle.balqirven.proofs.bq_onlycap.Met as onlycap-met
+use Rattle.balqirven.proofs.bq_mapping.Kinds as mapping-kinds
+use Rattle.balqirven.proofs.bq_mapping.Reads as mapping-reads
+use Rattle.balqirven.proofs.bq_mapping.Symbol as mapping-symbol
+use Rattle.balqirven.proofs.bq_mapping.Met as mapping-met
+use Rattle.balqirven.proofs.bq_by_label.Kinds as by-label-kinds
+use Rattle.balqirven.proofs.bq_by_label.Reads as by-label-reads
+use Rattle.balqirven.proofs.bq_by_label.Symbol as by-label-symbol
+use Rattle.balqirven.proofs.bq_by_label.Met as by-label-met
+use Rattle.balqirven.proofs.bq_by_level.Kinds as by-level-kinds
+use Rattle.balqirven.proofs.bq_by_level.Reads as by-level-reads
+use Rattle.balqirven.proofs.bq_by_level.Symbol as by-level-symbol
+use Rattle.balqirven.proofs.bq_by_level.Met as by-level-met
+use Rattle.balqirven.proofs.bq_list_rule.Kinds as list-rule-kinds
+use Rattle.balqirven.proofs.bq_list_rule.Reads as list-rule-reads
+use Rattle.balqirven.proofs.bq_list_rule.Symbol as list-rule-symbol
+use Rattle.balqirven.proofs.bq_list_rule.Met as list-rule-met
+use Rattle.balqirven.proofs.bq_label_check.Kinds as label-check-kinds
+use Rattle.balqirven.proofs.bq_label_check.Reads as label-check-reads
+use Rattle.balqirven.proofs.bq_label_check.Symbol as label-check-symbol
+use Rattle.balqirven.proofs.bq_label_check.Met as label-check-met
+use Rattle.balqirven.proofs.bq_write_option.Kinds as write-option-kinds
+use Rattle.balqirven.proofs.bq_write_option.Reads as write-option-reads
+use Rattle.balqirven.proofs.bq_write_option.Symbol as write-option-symbol
+use Rattle.balqirven.proofs.bq_write_option.Met as write-option-met
+use Rattle.balqirven.proofs.bq_read_option.Kinds as read-option-kinds
+use Rattle.balqirven.proofs.bq_read_option.Reads as read-option-reads
+use Rattle.balqirven.proofs.bq_read_option.Symbol as read-option-symbol
+use Rattle.balqirven.proofs.bq_read_option.Met as read-option-met
+use Rattle.balqirven.proofs.bq_new_object.Kinds as new-object-kinds
+use Rattle.balqirven.proofs.bq_new_object.Reads as new-object-reads
+use Rattle.balqirven.proofs.bq_new_object.Symbol as new-object-symbol
+use Rattle.balqirven.proofs.bq_new_object.Met as new-object-met
+use Rattle.balqirven.proofs.bq_label.Kinds as label-kinds
+use Rattle.balqirven.proofs.bq_label.Reads as label-reads
+use Rattle.balqirven.proofs.bq_label.Symbol as label-symbol
+use Rattle.balqirven.proofs.bq_label.Met as label-met
 use Rattle.store.specs.declared.Done.{Done}
 use Rattle.store.specs.declared.Done.the-variants as d
 use Rattle.store.specs.Layout.{Store, store}
@@ -94,7 +94,7 @@ use Rattle.load.specs.declared.Ended.the-variants as e
 use Rattle.load.specs.Loader.{Load, load, ready, stepPiece, stepEnd, pieceAnswer, pieceAfter, endAnswer, endAfter}
 use Rattle.answers.specs.Answers.{writeShown, revokeShown, pieceShown, endShown, outputShown, lookupShown, searchShown, partShown}
 use Rattle.listing.proofs.Laws.{label-done, label-is, label-refused}
-use Rattle.host.proofs.Laws.{label-stands}
+use Rattle.balqirven.proofs.Laws.{label-stands}
 use Rattle.lists.specs.Called.{Called}
 use Rattle.lists.specs.Reader as r
 use Rattle.lists.specs.Reader.{Ask, Write, Call, Reply}

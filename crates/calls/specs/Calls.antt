@@ -1,4 +1,4 @@
--- A list of calls of the functions that crates/host exports, which are what a C or Rust program links, as their caller knows it. Nothing here says what a
+-- A list of calls of the functions that crates/balqirven exports, which are what a C or Rust program links, as their caller knows it. Nothing here says what a
 -- function does: that comes from each function's own `Reads`, which Rattle makes of its `requires` and `ensures`. Assumes nothing.
 use Prim.Native.Nat.{ℕ}
 use mathlib.Core.Path.{_≡_}
@@ -6,36 +6,36 @@ use mathlib.Core.Bool.{true, cond}
 use mathlib.Core.List.{List, [], _∷_}
 use lib.ListN.{length, take, drop}
 use denote.Ref.{now}
-use Rattle.host.proofs.bq_piece.Kinds as piece-kinds
-use Rattle.host.proofs.bq_piece.Reads as piece-reads
-use Rattle.host.proofs.bq_end.Kinds as end-kinds
-use Rattle.host.proofs.bq_end.Reads as end-reads
-use Rattle.host.proofs.bq_question.Kinds as question-kinds
-use Rattle.host.proofs.bq_question.Reads as question-reads
-use Rattle.host.proofs.bq_change.Kinds as change-kinds
-use Rattle.host.proofs.bq_change.Reads as change-reads
-use Rattle.host.proofs.bq_revoke.Kinds as revoke-kinds
-use Rattle.host.proofs.bq_revoke.Reads as revoke-reads
-use Rattle.host.proofs.bq_onlycap.Kinds as onlycap-kinds
-use Rattle.host.proofs.bq_onlycap.Reads as onlycap-reads
-use Rattle.host.proofs.bq_mapping.Kinds as mapping-kinds
-use Rattle.host.proofs.bq_mapping.Reads as mapping-reads
-use Rattle.host.proofs.bq_by_label.Kinds as by-label-kinds
-use Rattle.host.proofs.bq_by_label.Reads as by-label-reads
-use Rattle.host.proofs.bq_by_level.Kinds as by-level-kinds
-use Rattle.host.proofs.bq_by_level.Reads as by-level-reads
-use Rattle.host.proofs.bq_list_rule.Kinds as list-rule-kinds
-use Rattle.host.proofs.bq_list_rule.Reads as list-rule-reads
-use Rattle.host.proofs.bq_label_check.Kinds as label-check-kinds
-use Rattle.host.proofs.bq_label_check.Reads as label-check-reads
-use Rattle.host.proofs.bq_label.Kinds as label-kinds
-use Rattle.host.proofs.bq_label.Reads as label-reads
-use Rattle.host.proofs.bq_write_option.Kinds as write-option-kinds
-use Rattle.host.proofs.bq_write_option.Reads as write-option-reads
-use Rattle.host.proofs.bq_read_option.Kinds as read-option-kinds
-use Rattle.host.proofs.bq_read_option.Reads as read-option-reads
-use Rattle.host.proofs.bq_new_object.Kinds as new-object-kinds
-use Rattle.host.proofs.bq_new_object.Reads as new-object-reads
+use Rattle.balqirven.proofs.bq_piece.Kinds as piece-kinds
+use Rattle.balqirven.proofs.bq_piece.Reads as piece-reads
+use Rattle.balqirven.proofs.bq_end.Kinds as end-kinds
+use Rattle.balqirven.proofs.bq_end.Reads as end-reads
+use Rattle.balqirven.proofs.bq_question.Kinds as question-kinds
+use Rattle.balqirven.proofs.bq_question.Reads as question-reads
+use Rattle.balqirven.proofs.bq_change.Kinds as change-kinds
+use Rattle.balqirven.proofs.bq_change.Reads as change-reads
+use Rattle.balqirven.proofs.bq_revoke.Kinds as revoke-kinds
+use Rattle.balqirven.proofs.bq_revoke.Reads as revoke-reads
+use Rattle.balqirven.proofs.bq_onlycap.Kinds as onlycap-kinds
+use Rattle.balqirven.proofs.bq_onlycap.Reads as onlycap-reads
+use Rattle.balqirven.proofs.bq_mapping.Kinds as mapping-kinds
+use Rattle.balqirven.proofs.bq_mapping.Reads as mapping-reads
+use Rattle.balqirven.proofs.bq_by_label.Kinds as by-label-kinds
+use Rattle.balqirven.proofs.bq_by_label.Reads as by-label-reads
+use Rattle.balqirven.proofs.bq_by_level.Kinds as by-level-kinds
+use Rattle.balqirven.proofs.bq_by_level.Reads as by-level-reads
+use Rattle.balqirven.proofs.bq_list_rule.Kinds as list-rule-kinds
+use Rattle.balqirven.proofs.bq_list_rule.Reads as list-rule-reads
+use Rattle.balqirven.proofs.bq_label_check.Kinds as label-check-kinds
+use Rattle.balqirven.proofs.bq_label_check.Reads as label-check-reads
+use Rattle.balqirven.proofs.bq_label.Kinds as label-kinds
+use Rattle.balqirven.proofs.bq_label.Reads as label-reads
+use Rattle.balqirven.proofs.bq_write_option.Kinds as write-option-kinds
+use Rattle.balqirven.proofs.bq_write_option.Reads as write-option-reads
+use Rattle.balqirven.proofs.bq_read_option.Kinds as read-option-kinds
+use Rattle.balqirven.proofs.bq_read_option.Reads as read-option-reads
+use Rattle.balqirven.proofs.bq_new_object.Kinds as new-object-kinds
+use Rattle.balqirven.proofs.bq_new_object.Reads as new-object-reads
 use Rattle.refusals.specs.Refusals.{plain}
 use Rattle.alphabet.specs.Alphabet.{lineLimit}
 use Rattle.store.specs.Layout.{Store, store, undamagedOf}

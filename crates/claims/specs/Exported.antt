@@ -1,4 +1,4 @@
--- What a C or Rust program that links the library relies on: of each exported function of the crate host, that it asks nothing of its caller,
+-- What a C or Rust program that links the library relies on: of each exported function of the crate balqirven, that it asks nothing of its caller,
 -- and what it answers and leaves. Nothing here says what a function does by itself: `Asked` and `Learnt` are what Rattle makes of that
 -- function's own `requires` and `ensures`. So an exported contract that said less would no longer give what stands here. Assumes nothing.
 use mathlib.Core.Path.{_≡_, refl}
@@ -11,47 +11,47 @@ use denote.Triple.Clauses.{Ended, Lasts, AtExit, atExit}
 use borrow.Fn.Claims.{AllOf}
 use borrow.Fn.World.{World, Pr, In, Bounds}
 use borrow.Fn.Read.{Read, r-top, r-last, all-models, no-know}
-use Rattle.host.proofs.bq_fresh_table as fresh-table
-use Rattle.host.proofs.bq_fresh_table.Reads as fresh-table-reads
-use Rattle.host.proofs.bq_fresh_loader as fresh-loader
-use Rattle.host.proofs.bq_fresh_loader.Reads as fresh-loader-reads
-use Rattle.host.proofs.bq_piece as piece
-use Rattle.host.proofs.bq_piece.Reads as piece-reads
-use Rattle.host.proofs.bq_end as end
-use Rattle.host.proofs.bq_end.Reads as end-reads
-use Rattle.host.proofs.bq_change as change
-use Rattle.host.proofs.bq_change.Reads as change-reads
-use Rattle.host.proofs.bq_revoke as revoke
-use Rattle.host.proofs.bq_revoke.Reads as revoke-reads
-use Rattle.host.proofs.bq_onlycap as onlycap
-use Rattle.host.proofs.bq_onlycap.Reads as onlycap-reads
-use Rattle.host.proofs.bq_mapping as mapping
-use Rattle.host.proofs.bq_mapping.Reads as mapping-reads
-use Rattle.host.proofs.bq_by_label as by-label
-use Rattle.host.proofs.bq_by_label.Reads as by-label-reads
-use Rattle.host.proofs.bq_by_level as by-level
-use Rattle.host.proofs.bq_by_level.Reads as by-level-reads
-use Rattle.host.proofs.bq_lowest_of as lowest-of
-use Rattle.host.proofs.bq_lowest_of.Reads as lowest-of-reads
-use Rattle.host.proofs.bq_lowest_in_run as lowest-in-run
-use Rattle.host.proofs.bq_question as question
-use Rattle.host.proofs.bq_question.Reads as question-reads
-use Rattle.host.proofs.bq_new_object as new-object
-use Rattle.host.proofs.bq_new_object.Reads as new-object-reads
-use Rattle.host.proofs.bq_list_rule as list-rule
-use Rattle.host.proofs.bq_list_rule.Reads as list-rule-reads
-use Rattle.host.proofs.bq_label_check as label-check
-use Rattle.host.proofs.bq_label_check.Reads as label-check-reads
-use Rattle.host.proofs.bq_label as label
-use Rattle.host.proofs.bq_label.Reads as label-reads
-use Rattle.host.proofs.bq_record_to_line as record-to-line
-use Rattle.host.proofs.bq_record_to_line.Reads as record-to-line-reads
-use Rattle.host.proofs.bq_write_option as write-option
-use Rattle.host.proofs.bq_write_option.Reads as write-option-reads
-use Rattle.host.proofs.bq_read_option as read-option
-use Rattle.host.proofs.bq_read_option.Reads as read-option-reads
-use Rattle.host.proofs.bq_line_to_record as line-to-record
-use Rattle.host.proofs.bq_line_to_record.Reads as line-to-record-reads
+use Rattle.balqirven.proofs.bq_fresh_table as fresh-table
+use Rattle.balqirven.proofs.bq_fresh_table.Reads as fresh-table-reads
+use Rattle.balqirven.proofs.bq_fresh_loader as fresh-loader
+use Rattle.balqirven.proofs.bq_fresh_loader.Reads as fresh-loader-reads
+use Rattle.balqirven.proofs.bq_piece as piece
+use Rattle.balqirven.proofs.bq_piece.Reads as piece-reads
+use Rattle.balqirven.proofs.bq_end as end
+use Rattle.balqirven.proofs.bq_end.Reads as end-reads
+use Rattle.balqirven.proofs.bq_change as change
+use Rattle.balqirven.proofs.bq_change.Reads as change-reads
+use Rattle.balqirven.proofs.bq_revoke as revoke
+use Rattle.balqirven.proofs.bq_revoke.Reads as revoke-reads
+use Rattle.balqirven.proofs.bq_onlycap as onlycap
+use Rattle.balqirven.proofs.bq_onlycap.Reads as onlycap-reads
+use Rattle.balqirven.proofs.bq_mapping as mapping
+use Rattle.balqirven.proofs.bq_mapping.Reads as mapping-reads
+use Rattle.balqirven.proofs.bq_by_label as by-label
+use Rattle.balqirven.proofs.bq_by_label.Reads as by-label-reads
+use Rattle.balqirven.proofs.bq_by_level as by-level
+use Rattle.balqirven.proofs.bq_by_level.Reads as by-level-reads
+use Rattle.balqirven.proofs.bq_lowest_of as lowest-of
+use Rattle.balqirven.proofs.bq_lowest_of.Reads as lowest-of-reads
+use Rattle.balqirven.proofs.bq_lowest_in_run as lowest-in-run
+use Rattle.balqirven.proofs.bq_question as question
+use Rattle.balqirven.proofs.bq_question.Reads as question-reads
+use Rattle.balqirven.proofs.bq_new_object as new-object
+use Rattle.balqirven.proofs.bq_new_object.Reads as new-object-reads
+use Rattle.balqirven.proofs.bq_list_rule as list-rule
+use Rattle.balqirven.proofs.bq_list_rule.Reads as list-rule-reads
+use Rattle.balqirven.proofs.bq_label_check as label-check
+use Rattle.balqirven.proofs.bq_label_check.Reads as label-check-reads
+use Rattle.balqirven.proofs.bq_label as label
+use Rattle.balqirven.proofs.bq_label.Reads as label-reads
+use Rattle.balqirven.proofs.bq_record_to_line as record-to-line
+use Rattle.balqirven.proofs.bq_record_to_line.Reads as record-to-line-reads
+use Rattle.balqirven.proofs.bq_write_option as write-option
+use Rattle.balqirven.proofs.bq_write_option.Reads as write-option-reads
+use Rattle.balqirven.proofs.bq_read_option as read-option
+use Rattle.balqirven.proofs.bq_read_option.Reads as read-option-reads
+use Rattle.balqirven.proofs.bq_line_to_record as line-to-record
+use Rattle.balqirven.proofs.bq_line_to_record.Reads as line-to-record-reads
 use Rattle.listing.proofs.label_by_number as label-part
 use Rattle.listing.proofs.label_by_number.Reads as label-part-reads
 use Rattle.store.specs.Layout.{store}

@@ -22,7 +22,7 @@ ghost use Rattle.claims.specs.ReportCounts.{LineCounts};
 ghost use Rattle.claims.specs.Unchanged.{NothingChanges};
 ghost use Rattle.claims.specs.RunSearch.{SearchesTheRun};
 
-// Demand 1, that every input is met with an answer: of every exported function of the crate host, out of its own contract, it asks nothing of its
+// Demand 1, that every input is met with an answer: of every exported function of the crate balqirven, out of its own contract, it asks nothing of its
 // caller, and its answer and what it leaves in each lent slice are what the definitions say.
 pub fn demand_1_every_call_answers()
     ensures { λ _. ⌜ ExportedCalls ⌝ }
