@@ -1,20 +1,21 @@
 /* Balqirven: Smack labels, access rules and CIPSO mappings in memory that the host lends.
  *
- * Link target/staticlib/libbalqirven.a (rt staticlib balqirven). x86-64 only. The archive holds no version of its own: build it and take this header
- * from one commit.
+ * Link libbalqirven.a (rt staticlib balqirven makes target/staticlib/libbalqirven.a; ./install PREFIX puts it, a shared library and this header under PREFIX).
+ * x86-64 only. The archive holds no version of its own: build it and take this header from one commit.
  *
  * What is lent. The tables stand in three parts of fixed size, the line of rule text under way in a fourth. A part goes to a call as a pointer
  * and a length in elements. A part of another size is no error of the host's: the call answers refusal 0 and changes nothing. Three things
  * are the host's duty, since no callee can test them:
  *   - a pointer is not NULL, also where its length is 0, and that many elements can be read there (and written, where the call takes it
- *     without const); a pointer to 64-bit words is a multiple of 8;
+ *     without const); a pointer to 64-bit words or to records is a multiple of 8;
  *   - parts and buffers that one call gets do not overlap, unless it gets both with const: so nothing is turned in place;
  *   - nobody else writes a part during a call.
  * No call keeps a pointer. No call allocates, prints, or waits.
  *
  * What comes back. Each answer is a struct. Where `refused` is true, or `kind` says so, `number` is one of the refusal numbers below, and
  * the tables, the line, the loader and every lent buffer are as they were. Otherwise `number` is 0, but for a question, where it is the
- * rule's number. What a field of an answer does not speak of is 0.
+ * rule's number. What a field of an answer does not speak of is 0. Each call lists its refusals in the order in which they are judged: the
+ * first that holds is given.
  *
  * Where the bad byte is. bq_written, bq_counted, bq_mapped, bq_decision and bq_report have a `place`: beside 3, where the first bad byte of the first
  * bad label stands, as an index from 0. In a line or a write of fields it counts from the first byte of that line or write, blanks too; where the
@@ -24,8 +25,8 @@
  * where it would be; beside every other number, and where nothing is refused, `place` is 0 and says nothing. bq_length, bq_peer and bq_labelled have no
  * place: the two calls of old records, the two of the packet option and the label of a new object tell none.
  *
- *    0  BQ_DAMAGED                the lent state has a part not of its full size, a count or length over its limit, a number that names
- *                                 no stored label, or an unknown mode or category bit. It comes before every other number. The mode bit
+ *    0  BQ_DAMAGED                the lent state has a part not of its full size, a count over its limit (or `kept` of the loader), a number
+ *                                 that names no stored label, or an unknown mode or category bit. It comes before every other number. The mode bit
  *                                 that stored b before version 5 is unknown now: where a state of then has it in a rule, make a fresh
  *                                 table and load its rule text again, in which a b is a placeholder
  *    1  BQ_TOO_LONG               a line or a write has over 600 bytes, a mapping write over 1,000
@@ -329,8 +330,8 @@ bq_lowest bq_lowest_of(const uint64_t *run_labels, size_t run_labels_len, const 
 
 /* ---- questions */
 
-/* May subject have the access that request asks for, one or more of r w x a, either case, to object? `capable`: the asker has the override capability. Nothing changes.
- * Refusals: 0 3 8. */
+/* May subject have the access that request asks for, one or more of r w x a, either case, to object? `capable`: the asker has the override
+ * capability. Nothing changes. Refusals: 0 3 8. */
 bq_decision bq_question(const uint8_t *labels, size_t labels_len, const uint8_t *entries, size_t entries_len, const uint64_t *words,
                         size_t words_len, const uint8_t *subject, size_t subject_len, const uint8_t *object, size_t object_len,
                         const uint8_t *request, size_t request_len, bool capable);
@@ -343,9 +344,8 @@ bq_decision bq_question(const uint8_t *labels, size_t labels_len, const uint8_t 
  * bq_question says, this call names no label: which one the object then gets is the host's affair.) The folder's label exactly where the folder transmutes
  * and rule 6 grants that w by a rule that has t; then the new object transmutes where it is a folder. Otherwise the creator's label, and the new object does
  * not transmute: so where creator and folder have one label (rule 5), and in a folder `*` (rule 4), whatever rules there are; but a creator `*` is denied
- * everywhere (rule 1). The answer names one of the
- * two lent labels, and the host has its bytes. Labels that are not stored are judged like any other, and have no rules. Nothing changes, and neither label
- * enters the table; which attributes a file gets is the host's affair.
+ * everywhere (rule 1). The answer names one of the two lent labels, and the host has its bytes. Labels that are not stored are judged like any other, and have no
+ * rules. Nothing changes, and neither label enters the table; which attributes a file gets is the host's affair.
  * Refusals: 0; 3 for either label: bq_question for w with the same two labels is refused alike, and tells the place. */
 bq_labelled bq_new_object(const uint8_t *labels, size_t labels_len, const uint8_t *entries, size_t entries_len, const uint64_t *words,
                           size_t words_len, const uint8_t *creator, size_t creator_len, const uint8_t *folder, size_t folder_len,

@@ -5,6 +5,7 @@
  *   driver               every lent part is memory of its own, of exactly its size, so that valgrind sees one byte too far
  *   driver guard-end     every lent part ends at the end of a page, and the page behind it can neither be read nor written
  *   driver guard-front   every lent part begins at the beginning of a page, and the page before it can neither be read nor written
+ *   driver read-only     as guard-end; and while a call only reads the tables and the line, their pages cannot be written
  *
  * Beyond FORMAT.md the driver tests what a second implementation cannot show. Each of these words in an answer is a fault of the library:
  *   astray    a label's part does not lie where label k's place in the lent store is
@@ -29,6 +30,7 @@
 /* ---- memory of exactly its size */
 
 static enum { EXACT, GUARD_END, GUARD_FRONT } guard;
+static bool read_only_parts;
 
 static void no_memory(void) {
     fprintf(stderr, "driver: no memory\n");
@@ -67,18 +69,22 @@ static void *lend(size_t bytes) {
     return memory;
 }
 
+/* The slot that holds this; none where it was not lent under a guard. */
+static struct slot *slot_of(void *memory) {
+    for (struct slot *slot = slots; memory != NULL && slot < slots + slot_count; slot++) {
+        /* a part of size 0 may lie at the very end */
+        if ((uint8_t *)memory >= slot->pages && (uint8_t *)memory <= slot->pages + slot->room) return slot;
+    }
+    return NULL;
+}
+
 static void back(void *memory) {
     if (guard == EXACT) {
         free(memory);
         return;
     }
-    for (struct slot *slot = slots; memory != NULL && slot < slots + slot_count; slot++) {
-        /* a part of size 0 may lie at the very end */
-        if ((uint8_t *)memory >= slot->pages && (uint8_t *)memory <= slot->pages + slot->room) {
-            slot->taken = false;
-            return;
-        }
-    }
+    struct slot *slot = slot_of(memory);
+    if (slot != NULL) slot->taken = false;
 }
 
 /* ---- output */
@@ -761,11 +767,32 @@ static bool call(const char *at, const char *end) {
     return false;
 }
 
+/* Whether the call is lent the tables and the line only to read, or not at all. */
+static bool only_reads(word name) {
+    static const char *const reading[] = {"bylabel",      "bylevel",      "run",         "question",   "list",     "label",
+                                          "recordtoline", "linetorecord", "writeoption", "readoption", "newobject"};
+    for (size_t i = 0; i < sizeof reading / sizeof *reading; i++) {
+        if (is(name, reading[i])) return true;
+    }
+    return false;
+}
+
+static void let_write(bool yes) {
+    void *parts[] = {labels, entries, words, line_part};
+    for (size_t i = 0; i < sizeof parts / sizeof *parts; i++) {
+        struct slot *slot = slot_of(parts[i]);
+        if (slot == NULL || mprotect(slot->pages, slot->room, yes ? PROT_READ | PROT_WRITE : PROT_READ) != 0) no_memory();
+    }
+}
+
 static void do_line(const char *at, const char *end) {
     const char *p = at;
     word first = next_word(&p, end);
     if (first.length == 0 || first.text[0] == '#') return;
+    bool guarded = read_only_parts && only_reads(first);
+    if (guarded) let_write(false);
     if (!call(at, end)) put("bad line");
+    if (guarded) let_write(true);
     put("\n");
 }
 
@@ -776,8 +803,11 @@ int main(int count, char **arguments) {
         guard = GUARD_END;
     } else if (count == 2 && strcmp(arguments[1], "guard-front") == 0) {
         guard = GUARD_FRONT;
+    } else if (count == 2 && strcmp(arguments[1], "read-only") == 0) {
+        guard = GUARD_END;
+        read_only_parts = true;
     } else if (count != 1) {
-        fprintf(stderr, "usage: driver [guard-end | guard-front]\n");
+        fprintf(stderr, "usage: driver [guard-end | guard-front | read-only]\n");
         return 2;
     }
     size_t room = 1 << 20, start = 0, stop = 0;

@@ -132,14 +132,14 @@ impl Refusal {
             BadLabel => "a label is not well formed",
             BadAccess => "an access byte is not allowed where it stands",
             SameLabels => "subject and object are the same label",
-            LabelsFull => "there is no room for its new labels",
-            RulesFull => "there is no room for one more rule",
-            BadRequest => "the request is empty or has something other than the letters r, w, x and a",
-            BadLevelOrCategory => "a level is not 0 to 255 (in a mapping: or is 250), or a category not 1 to 184, each in at most 3 digits",
-            MappingsFull => "there is no room for one more mapping",
-            TooManyOverrides => "an override list has over 8 different labels",
-            OutputTooShort => "the output is too short",
-            NoSuchNumber => "no rule or label has that number",
+            LabelsFull => "the table has no room for the new labels",
+            RulesFull => "the table has no room for one more rule",
+            BadRequest => "the request is empty or has something else than the letters r, w, x and a",
+            BadLevelOrCategory => "a level or a category is wrong: levels are 0 to 255 (in a mapping not 250), categories 1 to 184, each in 1 to 3 digits",
+            MappingsFull => "the table has no room for one more mapping",
+            TooManyOverrides => "the override list has over 8 different labels",
+            OutputTooShort => "the buffer that was lent for the output is too short",
+            NoSuchNumber => "the rules, or the labels, end before that number",
             BadRecord => "it does not have 53 bytes, or a label place is all spaces, has another byte after a space or does not end in a space",
             NotInARecord => "a label has over 23 bytes; no old record holds that, and a label is never cut",
             BadOption => "it is not laid out as one packet option with one tag of type 1 and nothing behind it",
@@ -171,7 +171,7 @@ impl fmt::Display for Refusal {
 /// assert_eq!(refused, Refused { refusal: Refusal::BadLabel, place: None });
 ///
 /// let error: Box<dyn std::error::Error> = table.mapping("Alarm 250").unwrap_err().into();
-/// assert!(error.to_string().starts_with("refused 9: a level is not 0 to 255"));
+/// assert!(error.to_string().starts_with("refused 9: a level or a category is wrong"));
 /// ```
 #[derive(Clone, Copy, Debug, PartialEq, Eq, Hash)]
 pub struct Refused {

@@ -1,0 +1,237 @@
+//! The library and the second implementation in one process: random calls, random cuts and random damaged states, and after each call the answer and
+//! every lent byte are compared.
+//!
+//!   in_process CALLS SEED FILE
+//!
+//! makes CALLS calls of the library, the same for the same seed. Exit status 1 where there is a difference; the list of calls that shows it, made short, is
+//! then in FILE, in the form of tests/second/FORMAT.md. tests/compare_in_process builds it and runs it.
+//!
+//! The calls come in scripts. A script starts from fresh memory and has a seed of its own, so it can be made again. One process makes the calls; the
+//! process that started it stays behind to find out, should the first one come to an end that it must not, which call was the last.
+
+#[path = "../../../bindings/rust/src/header.rs"]
+#[allow(non_camel_case_types)]
+mod header;
+
+mod both;
+mod lent;
+mod processes;
+mod quick;
+mod reduce;
+
+use std::fs;
+use std::process::exit;
+
+use second::random::{self, Kind};
+use second::script::{Call, Machine};
+
+use both::{Counts, NAMES};
+use lent::{Lent, Place};
+use quick::{May, Quick};
+
+/// The kinds of scripts in turn.
+const KINDS: [Kind; 12] = [
+    Kind::Every,
+    Kind::Searches,
+    Kind::Every,
+    Kind::Places,
+    Kind::Categories,
+    Kind::Every,
+    Kind::Options,
+    Kind::Bringup,
+    Kind::Every,
+    Kind::NewObjects,
+    Kind::Records,
+    Kind::Every,
+];
+
+/// How many calls of its own a script has, and how many quick ones come behind each; behind damage; and in one go while nothing can be written.
+const OWN_CALLS: u64 = 300;
+const QUICK: u64 = 12;
+const QUICK_IN_DAMAGE: u64 = 10;
+const QUICK_READS: u64 = 150;
+
+/// How a script lends its memory.
+#[derive(Clone, Copy, PartialEq, Eq, Debug)]
+pub struct Lending {
+    pub place: Place,
+    /// Whether calls that only read get memory that cannot be written.
+    pub guarded: bool,
+}
+
+fn lending(script: u64) -> Lending {
+    let place = if script % 2 == 0 { Place::End } else { Place::Front };
+    Lending { place, guarded: script % 8 == 5 }
+}
+
+/// Makes the calls of one script: the generator's, and quick ones between. `make` makes a call and answers whether to go on; `read` says of the calls to come
+/// whether they only read.
+fn run_script(seed: u64, script: u64, make: &mut dyn FnMut(&mut Machine, &Call) -> bool, only_read: &mut dyn FnMut(bool)) {
+    let guarded = lending(script).guarded;
+    let kind = KINDS[(script % KINDS.len() as u64) as usize];
+    let own_seed = seed.wrapping_mul(0x9e37_79b9_7f4a_7c15).wrapping_add(script);
+    let mut quick = Quick::new(own_seed);
+    random::generate(own_seed, OWN_CALLS, kind, &mut |machine, call| {
+        if !make(machine, call) {
+            return false;
+        }
+        if matches!(call, Call::Fresh | Call::FreshLoader | Call::Poke(_) | Call::Resize { .. } | Call::Dump) {
+            return true;
+        }
+        quick.learn(call);
+        if guarded {
+            if quick.below(8) != 0 {
+                return true;
+            }
+            only_read(true);
+            for _ in 0..QUICK_READS {
+                if !make(machine, quick.next(machine, May::Read)) {
+                    return false;
+                }
+            }
+            only_read(false);
+            return true;
+        }
+        for _ in 0..QUICK {
+            if !make(machine, quick.next(machine, May::ReadAndWrite)) {
+                return false;
+            }
+        }
+        if quick.below(16) == 0 {
+            let Some((damage, mend)) = quick.damage(machine) else {
+                return true;
+            };
+            if !make(machine, &damage) {
+                return false;
+            }
+            for _ in 0..QUICK_IN_DAMAGE {
+                if !make(machine, quick.next(machine, May::ReadAndWrite)) {
+                    return false;
+                }
+            }
+            return make(machine, &mend);
+        }
+        true
+    });
+}
+
+/// What the process that makes the calls tells the one that waits.
+struct Progress {
+    script: u64,
+    /// Which call of the script is being made, from 1.
+    call: u64,
+    /// How many calls of the library were made, by name and outcome.
+    counts: Counts,
+    total: u64,
+    /// In how many scripts.
+    scripts: u64,
+}
+
+/// Makes the calls; ends with status 1 at a difference.
+fn work(calls: u64, seed: u64, progress: &mut Progress) {
+    let mut lents = [Lent::new(Place::End), Lent::new(Place::Front)];
+    for script in 0.. {
+        progress.script = script;
+        progress.call = 0;
+        progress.scripts = script + 1;
+        processes::end_after(120);
+        let place = lending(script).place;
+        let lent = lents.iter_mut().find(|lent| lent.place() == place).expect("both places are there");
+        lent.clear();
+        let lent = std::cell::RefCell::new(lent);
+        // The generator's machine is fresh, and so is what is lent to the library.
+        let mut machine = Machine::new();
+        for call in [Call::Fresh, Call::FreshLoader] {
+            if both::make(&mut machine, &mut lent.borrow_mut(), &call, &mut progress.counts).is_err() {
+                exit(1);
+            }
+        }
+        run_script(
+            seed,
+            script,
+            &mut |machine, call| {
+                progress.call += 1;
+                match both::make(machine, &mut lent.borrow_mut(), call, &mut progress.counts) {
+                    Ok(made) => made.is_some_and(|library_calls| {
+                        progress.total += library_calls;
+                        progress.total < calls
+                    }),
+                    Err(_) => exit(1),
+                }
+            },
+            &mut |only_read| lent.borrow_mut().writable(!only_read),
+        );
+        if progress.total >= calls {
+            return;
+        }
+    }
+}
+
+/// The calls of a script up to this one, by the second implementation alone.
+fn recorded(seed: u64, script: u64, last: u64) -> Vec<Call> {
+    let mut calls = Vec::new();
+    run_script(
+        seed,
+        script,
+        &mut |machine, call| {
+            machine.execute(&call.write());
+            calls.push(call.clone());
+            (calls.len() as u64) < last
+        },
+        &mut |_| {},
+    );
+    calls
+}
+
+fn tell(progress: &Progress) {
+    for (name, outcomes) in NAMES.iter().zip(&progress.counts.0) {
+        let told: Vec<String> = outcomes
+            .iter()
+            .enumerate()
+            .filter(|(_, count)| **count > 0)
+            .map(|(outcome, count)| match outcome {
+                0..=21 => format!("refused {outcome}: {count}"),
+                _ => format!("{}: {count}", ["done", "denied or none", "override or folder"][outcome - 22]),
+            })
+            .collect();
+        println!("{name}: {}", told.join(", "));
+    }
+}
+
+fn run(calls: u64, seed: u64, file: &str) -> i32 {
+    let progress: &mut Progress = lent::shared();
+    let started = std::time::Instant::now();
+    let ended = processes::in_a_child(|| work(calls, seed, progress));
+    let seconds = started.elapsed().as_secs_f64();
+    if ended == processes::Ended::Well {
+        if std::env::var_os("COUNTS").is_some() {
+            tell(progress);
+        }
+        let rate = progress.total as f64 / seconds;
+        println!("seed {seed}: {} calls of the library in {} scripts, no difference ({seconds:.1} s, {rate:.0} calls a second)", progress.total, progress.scripts);
+        return 0;
+    }
+    let lending = lending(progress.script);
+    println!("seed {seed}: a difference in script {}, call {}, after {} calls and {seconds:.3} s ({ended})", progress.script, progress.call, progress.total);
+    let calls = recorded(seed, progress.script, progress.call);
+    let short = reduce::reduced(calls, lending);
+    let text: String = short.iter().map(|call| call.write() + "\n").collect();
+    println!("reduced to {} calls, lent as {lending:?}:\n{text}{}", short.len(), reduce::what_differs(&short, lending));
+    if let Err(error) = fs::write(file, &text) {
+        eprintln!("{file}: {error}");
+    }
+    1
+}
+
+#[unsafe(no_mangle)]
+pub extern "C" fn main() -> i32 {
+    let arguments: Vec<String> = std::env::args().collect();
+    let numbers = |at: usize| arguments.get(at).and_then(|word| word.parse().ok());
+    match (numbers(1), numbers(2), arguments.get(3)) {
+        (Some(calls), Some(seed), Some(file)) => run(calls, seed, file),
+        _ => {
+            eprintln!("usage: in_process CALLS SEED FILE");
+            2
+        }
+    }
+}

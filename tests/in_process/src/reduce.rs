@@ -1,0 +1,121 @@
+//! Makes a list of calls that shows a difference short.
+
+use std::process::exit;
+
+use second::script::{Call, Machine};
+
+use crate::Lending;
+use crate::both::{self, Counts, Difference, only_reads};
+use crate::lent::{Lent, shared};
+use crate::processes::{self, Ended};
+
+/// Makes the calls on both sides, from fresh memory on. A list with a call that does not fit shows nothing.
+fn play(calls: &[Call], lending: Lending) -> Result<(), Difference> {
+    let mut counts = Counts::new();
+    let mut machine = Machine::new();
+    let mut lent = Lent::new(lending.place);
+    let start = [Call::Fresh, Call::FreshLoader];
+    for call in start.iter().chain(calls) {
+        lent.writable(!(lending.guarded && only_reads(call)));
+        if both::make(&mut machine, &mut lent, call, &mut counts)?.is_none() {
+            return Ok(());
+        }
+    }
+    Ok(())
+}
+
+fn differs(calls: &[Call], lending: Lending) -> bool {
+    let ended = processes::in_a_child(|| {
+        processes::end_after(20);
+        if play(calls, lending).is_err() {
+            exit(1);
+        }
+    });
+    ended != Ended::Well
+}
+
+/// The words for the difference that the list shows.
+pub fn what_differs(calls: &[Call], lending: Lending) -> String {
+    struct Words {
+        length: usize,
+        bytes: [u8; 4000],
+    }
+    let words: &mut Words = shared();
+    let ended = processes::in_a_child(|| {
+        if let Err(difference) = play(calls, lending) {
+            let bytes = difference.as_bytes();
+            words.length = bytes.len().min(words.bytes.len());
+            words.bytes[..words.length].copy_from_slice(&bytes[..words.length]);
+            exit(1);
+        }
+    });
+    match words.length {
+        0 => ended.to_string(),
+        length => String::from_utf8_lossy(&words.bytes[..length]).into_owned(),
+    }
+}
+
+/// Leaves out things, in chunks that get smaller, while `still` holds of the rest.
+fn fewer<T: Clone>(mut things: Vec<T>, still: &mut dyn FnMut(&[T]) -> bool) -> Vec<T> {
+    let mut chunk = (things.len() / 2).max(1);
+    loop {
+        let mut at = 0;
+        while at < things.len() {
+            let mut rest = things[..at].to_vec();
+            rest.extend_from_slice(&things[(at + chunk).min(things.len())..]);
+            if still(&rest) {
+                things = rest;
+            } else {
+                at += chunk;
+            }
+        }
+        if chunk == 1 {
+            return things;
+        }
+        chunk /= 2;
+    }
+}
+
+/// The texts of a call.
+fn texts(call: &mut Call) -> Vec<&mut Vec<u8>> {
+    match call {
+        Call::Piece(text) | Call::Change(text) | Call::Revoke(text) | Call::Override(text) | Call::Mapping(text) | Call::ByLabel(text) => vec![text],
+        Call::Question { subject, object, request, .. } => vec![subject, object, request],
+        Call::NewObject { creator, folder, .. } => vec![creator, folder],
+        Call::List { output, .. } => vec![output],
+        Call::RecordToLine { record, output } => vec![record, output],
+        Call::LineToRecord { line, output } => vec![line, output],
+        Call::WriteOption { label, output } => vec![label, output],
+        Call::ReadOption { option } => vec![option],
+        _ => vec![],
+    }
+}
+
+/// A short list that shows a difference too.
+pub fn reduced(mut calls: Vec<Call>, lending: Lending) -> Vec<Call> {
+    // An episode of a script begins with fresh memory; mostly one is enough.
+    let mut starts: Vec<usize> = (0..calls.len()).filter(|&at| calls[at] == Call::Fresh).collect();
+    starts.reverse();
+    if let Some(start) = starts.into_iter().take(20).find(|&start| differs(&calls[start..], lending)) {
+        calls.drain(..start);
+    }
+    loop {
+        let before = calls.clone();
+        calls = fewer(calls, &mut |rest| differs(rest, lending));
+        for at in 0..calls.len() {
+            for which in 0..texts(&mut calls[at]).len() {
+                let with = |bytes: &[u8]| {
+                    let mut changed = calls.clone();
+                    *texts(&mut changed[at])[which] = bytes.to_vec();
+                    changed
+                };
+                let bytes = texts(&mut calls[at].clone())[which].clone();
+                let short = fewer(bytes, &mut |rest| differs(&with(rest), lending));
+                calls = with(&short);
+            }
+        }
+        if calls == before {
+            return calls;
+        }
+    }
+}
