@@ -18,6 +18,7 @@ mod lent;
 mod processes;
 mod quick;
 mod reduce;
+mod wide;
 
 use std::fs;
 use std::process::exit;
@@ -47,7 +48,7 @@ const KINDS: [Kind; 12] = [
 
 /// How many calls of its own a script has, and how many quick ones come behind each; behind damage; and in one go while nothing can be written.
 const OWN_CALLS: u64 = 300;
-const QUICK: u64 = 12;
+const QUICK: u64 = 20;
 const QUICK_IN_DAMAGE: u64 = 10;
 const QUICK_READS: u64 = 150;
 
@@ -60,8 +61,9 @@ pub struct Lending {
 }
 
 fn lending(script: u64) -> Lending {
-    let place = if script % 2 == 0 { Place::End } else { Place::Front };
-    Lending { place, guarded: script % 8 == 5 }
+    // In each kind of script, each way comes in its turn.
+    let place = if (script + script / KINDS.len() as u64).is_multiple_of(2) { Place::End } else { Place::Front };
+    Lending { place, guarded: script % 7 == 5 }
 }
 
 /// Makes the calls of one script: the generator's, and quick ones between. `make` makes a call and answers whether to go on; `read` says of the calls to come
