@@ -39,34 +39,42 @@ pub enum Name {
     ReadOption,
 }
 
-pub const NAMES: [&str; 21] = [
-    "bq_fresh_table",
-    "bq_fresh_loader",
-    "bq_piece",
-    "bq_end",
-    "bq_change",
-    "bq_revoke",
-    "bq_onlycap",
-    "bq_mapping",
-    "bq_by_label",
-    "bq_by_level",
-    "bq_lowest_in_run",
-    "bq_lowest_of",
-    "bq_question",
-    "bq_new_object",
-    "bq_list_rule",
-    "bq_label",
-    "bq_label_check",
-    "bq_record_to_line",
-    "bq_line_to_record",
-    "bq_write_option",
-    "bq_read_option",
+/// The calls by name, with the refusals that the header lists for each, and how many kinds of other answers it has.
+pub const ANSWERS: [(&str, &[usize], usize); 21] = [
+    ("bq_fresh_table", &[0], 1),
+    ("bq_fresh_loader", &[], 1),
+    ("bq_piece", &[0], 1),
+    ("bq_end", &[0], 1),
+    ("bq_change", &[0, 1, 2, 3, 4, 5, 6, 7], 1),
+    ("bq_revoke", &[0, 1, 3], 1),
+    ("bq_onlycap", &[0, 1, 2, 3, 6, 11], 1),
+    ("bq_mapping", &[0, 1, 2, 3, 6, 9, 10], 1),
+    ("bq_by_label", &[0, 3], 2),
+    ("bq_by_level", &[0, 9], 2),
+    ("bq_lowest_in_run", &[9], 2),
+    ("bq_lowest_of", &[9], 2),
+    ("bq_question", &[0, 3, 8], 3),
+    ("bq_new_object", &[0, 3], 3),
+    ("bq_list_rule", &[0, 12, 13], 1),
+    ("bq_label", &[0, 13], 1),
+    ("bq_label_check", &[0, 13], 1),
+    ("bq_record_to_line", &[3, 4, 5, 12, 14], 1),
+    ("bq_line_to_record", &[1, 2, 3, 4, 5, 12, 15], 1),
+    ("bq_write_option", &[0, 3, 12, 19], 1),
+    ("bq_read_option", &[0, 3, 16, 17, 18, 21], 1),
 ];
 
 /// Behind the refusal numbers, 0 to 21, the kinds of an answer that is no refusal: done, granted, mapped, a label, the creator's label; denied, none; by
 /// override, the folder's label.
 pub const OUTCOMES: usize = 25;
 const FIRST_KIND: usize = 22;
+
+pub fn outcome_name(outcome: usize) -> String {
+    match outcome.checked_sub(FIRST_KIND) {
+        None => format!("refused {outcome}"),
+        Some(kind) => ["done", "denied or none", "override or folder"][kind].to_string(),
+    }
+}
 
 /// How often each call had each outcome.
 #[derive(Clone, Copy)]
@@ -75,6 +83,20 @@ pub struct Counts(pub [[u64; OUTCOMES]; 21]);
 impl Counts {
     pub fn new() -> Counts {
         Counts([[0; OUTCOMES]; 21])
+    }
+
+    /// The outcomes that the header has and that did not occur, and those that occurred and that it does not have.
+    pub fn not_as_listed(&self) -> Vec<String> {
+        let mut odd = Vec::new();
+        for ((name, refusals, kinds), counts) in ANSWERS.iter().zip(&self.0) {
+            for (outcome, &count) in counts.iter().enumerate() {
+                let listed = refusals.contains(&outcome) || (FIRST_KIND..FIRST_KIND + kinds).contains(&outcome);
+                if listed != (count > 0) {
+                    odd.push(format!("{name}, {}: {count} times", outcome_name(outcome)));
+                }
+            }
+        }
+        odd
     }
 
     fn count(&mut self, name: Name, refused: bool, number: u8, kind: u8) {

@@ -26,7 +26,7 @@ use std::process::exit;
 use second::random::{self, Kind};
 use second::script::{Call, Machine};
 
-use both::{Counts, NAMES};
+use both::{ANSWERS, Counts};
 use lent::{Lent, Place};
 use quick::{May, Quick};
 
@@ -51,6 +51,9 @@ const OWN_CALLS: u64 = 300;
 const QUICK: u64 = 20;
 const QUICK_IN_DAMAGE: u64 = 10;
 const QUICK_READS: u64 = 150;
+
+/// So many calls have to meet each answer that the header lists for each call.
+const ENOUGH: u64 = 5_000_000;
 
 /// How a script lends its memory.
 #[derive(Clone, Copy, PartialEq, Eq, Debug)]
@@ -185,29 +188,29 @@ fn recorded(seed: u64, script: u64, last: u64) -> Vec<Call> {
     calls
 }
 
-fn tell(progress: &Progress) {
-    for (name, outcomes) in NAMES.iter().zip(&progress.counts.0) {
-        let told: Vec<String> = outcomes
-            .iter()
-            .enumerate()
-            .filter(|(_, count)| **count > 0)
-            .map(|(outcome, count)| match outcome {
-                0..=21 => format!("refused {outcome}: {count}"),
-                _ => format!("{}: {count}", ["done", "denied or none", "override or folder"][outcome - 22]),
-            })
-            .collect();
+fn tell(counts: &Counts) {
+    for ((name, ..), outcomes) in ANSWERS.iter().zip(&counts.0) {
+        let met = outcomes.iter().enumerate().filter(|(_, count)| **count > 0);
+        let told: Vec<String> = met.map(|(outcome, count)| format!("{}: {count}", both::outcome_name(outcome))).collect();
         println!("{name}: {}", told.join(", "));
     }
 }
 
 fn run(calls: u64, seed: u64, file: &str) -> i32 {
+    assert!(wide::tried(), "the comparison of bytes does not see each of them");
     let progress: &mut Progress = lent::shared();
     let started = std::time::Instant::now();
     let ended = processes::in_a_child(|| work(calls, seed, progress));
     let seconds = started.elapsed().as_secs_f64();
     if ended == processes::Ended::Well {
         if std::env::var_os("COUNTS").is_some() {
-            tell(progress);
+            tell(&progress.counts);
+        }
+        // Fewer calls need not meet every answer.
+        let odd = progress.counts.not_as_listed();
+        if calls >= ENOUGH && !odd.is_empty() {
+            println!("seed {seed}: {} calls, but not the answers that the header lists: {}", progress.total, odd.join("; "));
+            return 1;
         }
         let rate = progress.total as f64 / seconds;
         println!("seed {seed}: {} calls of the library in {} scripts, no difference ({seconds:.1} s, {rate:.0} calls a second)", progress.total, progress.scripts);

@@ -13,7 +13,7 @@ fn at_a_line(layout: Layout) -> Layout {
     if layout.size() >= 512 { layout.align_to(LINE).unwrap_or(layout) } else { layout }
 }
 
-// The size decides on the alignment, and both `dealloc` and `realloc` are told the size that was asked for.
+// The size decides on the alignment, and `dealloc` is told the size that was asked for. `realloc` is made of the two.
 unsafe impl GlobalAlloc for AtALine {
     unsafe fn alloc(&self, layout: Layout) -> *mut u8 {
         unsafe { System.alloc(at_a_line(layout)) }
@@ -72,4 +72,21 @@ fn same_blocks(one: &[[u8; LINE]], other: &[[u8; LINE]], last: &[u8; LINE], othe
 pub fn bytes(words: &[u64]) -> &[u8] {
     // A word is eight bytes of any value.
     unsafe { std::slice::from_raw_parts(words.as_ptr().cast(), size_of_val(words)) }
+}
+
+/// Before anything is compared: one byte that differs, at each place of parts of each kind of length, is seen, and no other.
+pub fn tried() -> bool {
+    let lengths = (0..=140).chain([599, 600, 601, 800, 839, 840, 841, 1023, 1024, 16383, 16384, 16385]);
+    lengths.into_iter().all(|length| {
+        let one = vec![7; length];
+        let mut other = one.clone();
+        same(&one, &other)
+            && (0..length).all(|at| {
+                other[at] ^= 1 << (at % 8);
+                let seen = !same(&one, &other);
+                other[at] = one[at];
+                seen
+            })
+            && !same(&one, &vec![7; length + 1])
+    })
 }
