@@ -7,12 +7,18 @@
 //! - `plain`: the tables, the loader and every call of the papers. Nothing here
 //!   can be damaged, so refusal 0 does not occur.
 //! - `raw`: the same calls over lent memory, which may be damaged (refusal 0).
+//! - `machine`: lent memory together with its model, for many calls a second.
 //! - `program`: standard input to standard output.
+//! - `call`: one call of a script, and its text.
 //! - `script`: one call a line, one answer a line, for comparing programs.
-//! - `random`: writes random scripts.
+//! - `random`: random scripts, as calls or as text.
+//! - `speed`: how quick that is.
 
+pub mod call;
+pub mod machine;
 pub mod plain;
 pub mod program;
 pub mod random;
 pub mod raw;
 pub mod script;
+pub mod speed;

@@ -1,4 +1,5 @@
-//! `second program`, `second script`, `second random SEED COUNT [KIND]`.
+//! `second program`, `second script`, `second random SEED COUNT [KIND]`, `second speed
+//! [KIND]`.
 //! The forms of a script are told in `script.rs` and in FORMAT.md.
 
 use std::io::{self, BufRead, BufWriter, Read, Write};
@@ -7,6 +8,7 @@ use std::process::ExitCode;
 use second::program;
 use second::random::{self, Kind};
 use second::script::Machine;
+use second::speed;
 
 fn main() -> ExitCode {
     let words: Vec<String> = std::env::args().skip(1).collect();
@@ -14,23 +16,18 @@ fn main() -> ExitCode {
     let result = match words.as_slice() {
         ["program"] => run_program(),
         ["script"] => run_script(),
-        ["random", seed, count, kind @ ..] => {
-            let kind = match kind {
-                [] => Kind::Every,
-                ["records"] => Kind::Records,
-                ["searches"] => Kind::Searches,
-                ["places"] => Kind::Places,
-                ["categories"] => Kind::Categories,
-                ["options"] => Kind::Options,
-                ["bringup"] => Kind::Bringup,
-                ["newobjects"] => Kind::NewObjects,
-                _ => return usage(),
+        ["random", seed, count, word @ ..] => {
+            let (kind, seed, count) = (kind_of(word), seed.parse(), count.parse());
+            let (Some(kind), Ok(seed), Ok(count)) = (kind, seed, count) else {
+                return usage();
             };
-            match (seed.parse(), count.parse()) {
-                (Ok(seed), Ok(count)) => run_random(seed, count, kind),
-                _ => return usage(),
-            }
+            run_random(seed, count, kind)
         }
+        ["speed"] => speed::measure(None, &mut io::stdout()),
+        ["speed", word] => match kind_of(&[word]) {
+            Some(kind) => speed::measure(Some(kind), &mut io::stdout()),
+            None => return usage(),
+        },
         _ => return usage(),
     };
     match result {
@@ -42,10 +39,22 @@ fn main() -> ExitCode {
     }
 }
 
+/// The kind of this word; without one, every kind of call.
+fn kind_of(words: &[&str]) -> Option<Kind> {
+    match words {
+        [] => Some(Kind::Every),
+        [word] => {
+            let mut kinds = random::KINDS.into_iter();
+            kinds.find(|(name, _)| name == word).map(|(_, kind)| kind)
+        }
+        _ => None,
+    }
+}
+
 fn usage() -> ExitCode {
-    eprintln!(
-        "usage: second program | second script | second random SEED COUNT [records | searches | places | categories | options | bringup | newobjects]"
-    );
+    let kinds = random::KINDS.map(|(name, _)| name).join(" | ");
+    eprintln!("usage: second program | second script | second random SEED COUNT [KIND] |");
+    eprintln!("second speed [KIND], where KIND is {kinds}");
     ExitCode::FAILURE
 }
 

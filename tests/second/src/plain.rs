@@ -8,8 +8,6 @@
 //! fields and calls that they belong to.
 //! A table here is never damaged; see `raw` for lent memory and refusal 0.
 
-use std::collections::BTreeSet;
-
 /// "The label table holds 64 labels".
 pub const LABEL_PLACES: usize = 64;
 /// "the rule table, which holds 256 rules".
@@ -131,16 +129,35 @@ pub enum Class {
     Other,
 }
 
+/// "newline is 10".
+pub const NEWLINE: u8 = 10;
+
 /// "Blanks are space (32) and tab (9); newline is 10." A label byte is "from 33
 /// to 126, none of / \ ' "". "The dash is a label byte, though never the first."
-pub fn class_of(byte: u8) -> Class {
+const fn class_by_rule(byte: u8) -> Class {
     match byte {
         32 | 9 => Class::Blank,
-        10 => Class::Newline,
+        NEWLINE => Class::Newline,
         b'/' | b'\\' | b'\'' | b'"' => Class::Other,
         33..=126 => Class::Label,
         _ => Class::Other,
     }
+}
+
+/// "The class of each of the 256 byte values", as that rule gives it.
+const CLASSES: [Class; 256] = {
+    let mut classes = [Class::Other; 256];
+    let mut byte = 0;
+    while byte < 256 {
+        classes[byte] = class_by_rule(byte as u8);
+        byte += 1;
+    }
+    classes
+};
+
+/// The class of this byte.
+pub fn class_of(byte: u8) -> Class {
+    CLASSES[usize::from(byte)]
 }
 
 fn is_blank(byte: u8) -> bool {
@@ -157,6 +174,12 @@ pub fn is_well_formed(label: &[u8]) -> bool {
         return false;
     }
     label.iter().all(|&byte| class_of(byte) == Class::Label)
+}
+
+/// Whether two labels are the same bytes. Most that differ do so in their length or
+/// in their last byte, which is soon seen.
+fn is_same(one: &[u8], other: &[u8]) -> bool {
+    one.len() == other.len() && one.last() == other.last() && one == other
 }
 
 /// Of a label that is not well formed, "the place of its first bad byte": "0 for
@@ -270,9 +293,70 @@ pub fn write_modes(modes: u8) -> Vec<u8> {
 // Categories
 // ---------------------------------------------------------------------------
 
-/// A set of categories, each 1 to 184, by its members. "equality and counts read
-/// over all 184": two are equal where they have the same members.
-pub type Categories = BTreeSet<u64>;
+/// A set of categories, each 1 to 184: of each number whether it is in the set. 0 never
+/// is. "equality and counts read over all 184": two are equal where they have the same
+/// members.
+#[derive(Clone, PartialEq, Eq)]
+pub struct Categories {
+    has: [bool; HIGHEST_CATEGORY as usize + 1],
+}
+
+impl Categories {
+    /// The set of no categories.
+    pub fn new() -> Categories {
+        Categories {
+            has: [false; HIGHEST_CATEGORY as usize + 1],
+        }
+    }
+
+    /// The category, 1 to 184, is in the set from now on.
+    pub fn insert(&mut self, category: u64) {
+        assert!(category != 0);
+        self.has[category as usize] = true;
+    }
+
+    /// Whether the number is in the set. What is no category never is.
+    pub fn contains(&self, number: u64) -> bool {
+        number <= HIGHEST_CATEGORY && self.has[number as usize]
+    }
+
+    /// The members, the lowest first.
+    pub fn iter(&self) -> impl Iterator<Item = u64> + '_ {
+        (1..HIGHEST_CATEGORY + 1).filter(|&category| self.contains(category))
+    }
+
+    /// How many they are.
+    pub fn len(&self) -> usize {
+        self.has.iter().filter(|&&has| has).count()
+    }
+
+    pub fn is_empty(&self) -> bool {
+        self.len() == 0
+    }
+}
+
+impl Default for Categories {
+    fn default() -> Categories {
+        Categories::new()
+    }
+}
+
+impl<const COUNT: usize> From<[u64; COUNT]> for Categories {
+    fn from(members: [u64; COUNT]) -> Categories {
+        let mut set = Categories::new();
+        for category in members {
+            set.insert(category);
+        }
+        set
+    }
+}
+
+/// By its members.
+impl std::fmt::Debug for Categories {
+    fn fmt(&self, formatter: &mut std::fmt::Formatter<'_>) -> std::fmt::Result {
+        formatter.debug_set().entries(self.iter()).finish()
+    }
+}
 
 /// How a set is said in memory, in a sought set and in a record of a run: three
 /// words. What has a bit that is no category is no set.
@@ -288,7 +372,7 @@ pub fn category_bit(category: u64) -> (usize, u64) {
 /// The words that say this set.
 pub fn words_of(set: &Categories) -> Words {
     let mut words = [0; 3];
-    for &category in set {
+    for category in set.iter() {
         let (word, bit) = category_bit(category);
         words[word] |= bit;
     }
@@ -374,18 +458,37 @@ impl Field<'_> {
 }
 
 /// "fields with one or more blanks between; blanks before and after are
-/// allowed": a field is a longest run of bytes that are not blanks.
-pub fn fields(line: &[u8]) -> Vec<Field<'_>> {
-    let mut found = Vec::new();
-    let mut start = 0;
-    for part in line.split(|&byte| is_blank(byte)) {
-        if !part.is_empty() {
-            found.push(Field { bytes: part, start });
+/// allowed": a field is a longest run of bytes that are not blanks. They come in order.
+pub fn fields(line: &[u8]) -> impl Iterator<Item = Field<'_>> {
+    let mut at = 0;
+    std::iter::from_fn(move || {
+        while at < line.len() && is_blank(line[at]) {
+            at += 1;
         }
-        // The part and the blank behind it.
-        start += part.len() + 1;
+        let start = at;
+        while at < line.len() && !is_blank(line[at]) {
+            at += 1;
+        }
+        let bytes = &line[start..at];
+        (!bytes.is_empty()).then_some(Field { bytes, start })
+    })
+}
+
+/// The fields of a line or write that has to have so many. None where it has fewer or
+/// more.
+pub fn fields_exactly<const COUNT: usize>(line: &[u8]) -> Option<[Field<'_>; COUNT]> {
+    let mut found = [Field {
+        bytes: &[],
+        start: 0,
+    }; COUNT];
+    let mut all = fields(line);
+    for field in &mut found {
+        *field = all.next()?;
     }
-    found
+    match all.next() {
+        None => Some(found),
+        Some(_) => None,
+    }
 }
 
 // ---------------------------------------------------------------------------
@@ -411,6 +514,15 @@ pub struct Table {
     pub override_list: Vec<usize>,
 }
 
+/// A pair of labels as a table knows it: the number of each that is stored, and the
+/// place of their rule, where they have one.
+#[derive(Clone, Copy, PartialEq, Eq, Debug)]
+pub struct Pair {
+    pub subject: Option<usize>,
+    pub object: Option<usize>,
+    pub rule: Option<usize>,
+}
+
 impl Table {
     /// "A fresh table has the five labels alone": "_ ^ * ? @".
     pub fn fresh() -> Table {
@@ -428,9 +540,19 @@ impl Table {
         }
     }
 
+    /// A table with nothing in it, not even the five labels.
+    pub fn empty() -> Table {
+        Table {
+            labels: Vec::new(),
+            rules: Vec::new(),
+            mappings: Vec::new(),
+            override_list: Vec::new(),
+        }
+    }
+
     /// "a label means its first number".
     pub fn number_of(&self, label: &[u8]) -> Option<usize> {
-        self.labels.iter().position(|stored| stored == label)
+        self.labels.iter().position(|stored| is_same(stored, label))
     }
 
     /// The place of the rule with these two numbers: "the first counts".
@@ -440,16 +562,24 @@ impl Table {
             .position(|rule| rule.0 == subject && rule.1 == object)
     }
 
-    /// The place of the pair's rule. A label that is not stored has no rules.
-    fn place_of_pair(&self, subject: &[u8], object: &[u8]) -> Option<usize> {
-        let subject = self.number_of(subject)?;
-        let object = self.number_of(object)?;
-        self.place_of_rule(subject, object)
+    /// What the table knows of a pair. A label that is not stored has no rules.
+    fn pair_of(&self, subject: &[u8], object: &[u8]) -> Pair {
+        let subject = self.number_of(subject);
+        let object = self.number_of(object);
+        let rule = match (subject, object) {
+            (Some(subject), Some(object)) => self.place_of_rule(subject, object),
+            _ => None,
+        };
+        Pair {
+            subject,
+            object,
+            rule,
+        }
     }
 
     /// The modes of the pair's rule, where the pair has one.
     fn modes_of_pair(&self, subject: &[u8], object: &[u8]) -> Option<u8> {
-        let place = self.place_of_pair(subject, object)?;
+        let place = self.pair_of(subject, object).rule?;
         Some(self.rules[place].2)
     }
 
@@ -480,7 +610,13 @@ impl Table {
     /// "A label enters ... in the order written, and never leaves." Gives the
     /// label's number, old or new.
     fn enter_label(&mut self, label: &[u8]) -> usize {
-        match self.number_of(label) {
+        let number = self.number_of(label);
+        self.enter_unless(number, label)
+    }
+
+    /// The label enters unless it has a number.
+    fn enter_unless(&mut self, number: Option<usize>, label: &[u8]) -> usize {
+        match number {
             Some(number) => number,
             None => {
                 self.labels.push(label.to_vec());
@@ -490,28 +626,36 @@ impl Table {
     }
 
     /// The refusals 5 6 7 of a rule and of a change, in that order.
-    fn check_pair(&self, subject: &[u8], object: &[u8]) -> Result<(), Refusal> {
+    fn check_pair(&self, subject: &[u8], object: &[u8]) -> Result<Pair, Refusal> {
         if subject == object {
             return Err(Refusal::SameLabels);
         }
-        if self.lacks_label_places(&[subject, object]) {
+        let pair = self.pair_of(subject, object);
+        // They are different, so each that has no number is a label of its own.
+        let new = usize::from(pair.subject.is_none()) + usize::from(pair.object.is_none());
+        if new > LABEL_PLACES - self.labels.len() {
             return Err(Refusal::NoLabelPlace);
         }
-        let has_rule = self.place_of_pair(subject, object).is_some();
-        if !has_rule && self.rules.len() >= RULE_PLACES {
+        if pair.rule.is_none() && self.rules.len() >= RULE_PLACES {
             return Err(Refusal::NoRulePlace);
         }
-        Ok(())
+        Ok(pair)
     }
 
     /// "new labels enter, subject first, and its pair is set": a pair seen
-    /// first "takes the next place in the rule table".
-    fn set_pair(&mut self, subject: &[u8], object: &[u8], modes: u8) {
-        let subject = self.enter_label(subject);
-        let object = self.enter_label(object);
-        match self.place_of_rule(subject, object) {
-            Some(place) => self.rules[place].2 = modes,
-            None => self.rules.push((subject, object, modes)),
+    /// first "takes the next place in the rule table". Gives the place of its rule.
+    fn set_pair(&mut self, pair: Pair, subject: &[u8], object: &[u8], modes: u8) -> usize {
+        match pair.rule {
+            Some(place) => {
+                self.rules[place].2 = modes;
+                place
+            }
+            None => {
+                let subject = self.enter_unless(pair.subject, subject);
+                let object = self.enter_unless(pair.object, object);
+                self.rules.push((subject, object, modes));
+                self.rules.len() - 1
+            }
         }
     }
 }
@@ -526,7 +670,7 @@ impl Table {
 pub enum Line<'a> {
     Skipped,
     Refused(Refusal),
-    Accepted(Rule<'a>),
+    Accepted(Rule<'a>, Pair),
 }
 
 /// What a line says, and whether its access field "held" a b, which says nothing.
@@ -550,16 +694,16 @@ impl Table {
             return Line::Skipped;
         }
         match self.judge_rule(line) {
-            Ok(rule) => Line::Accepted(rule),
+            Ok((rule, pair)) => Line::Accepted(rule, pair),
             Err(refusal) => Line::Refused(refusal),
         }
     }
 
     /// "the first in this order is given: rule 1 2 3 4 5 6 7".
-    fn judge_rule<'a>(&self, line: &'a [u8]) -> Result<Rule<'a>, Refusal> {
+    fn judge_rule<'a>(&self, line: &'a [u8]) -> Result<(Rule<'a>, Pair), Refusal> {
         let rule = read_rule(line)?;
-        self.check_pair(rule.subject, rule.object)?;
-        Ok(rule)
+        let pair = self.check_pair(rule.subject, rule.object)?;
+        Ok((rule, pair))
     }
 }
 
@@ -569,11 +713,9 @@ fn read_rule(line: &[u8]) -> Result<Rule<'_>, Refusal> {
     if line.len() > LINE_LIMIT {
         return Err(Refusal::TooLong);
     }
-    let fields = fields(line);
-    if fields.len() != 3 {
+    let Some([subject, object, access]) = fields_exactly(line) else {
         return Err(Refusal::WrongFields);
-    }
-    let (subject, object, access) = (fields[0], fields[1], fields[2]);
+    };
     subject.check_label()?;
     object.check_label()?;
     let Some(modes) = read_access(access.bytes, LINE_PLACEHOLDERS) else {
@@ -655,9 +797,11 @@ impl Loader {
     }
 
     /// The kept line ends: it "is counted and judged", and "the next begins
-    /// empty". "A refused line does nothing" but enter the counts.
-    fn end_line(&mut self, table: &mut Table) {
+    /// empty". "A refused line does nothing" but enter the counts. Gives the place of
+    /// the rule that an accepted line sets.
+    fn end_line(&mut self, table: &mut Table) -> Option<usize> {
         self.lines += 1;
+        let mut set = None;
         match table.judge_line(&self.line) {
             Line::Skipped => self.skipped += 1,
             Line::Refused(refusal) => {
@@ -668,27 +812,41 @@ impl Loader {
                 }
                 self.refused += 1;
             }
-            Line::Accepted(rule) => {
+            Line::Accepted(rule, pair) => {
                 // "An accepted line sets its pair's modes wholly."
-                table.set_pair(rule.subject, rule.object, rule.modes);
+                set = Some(table.set_pair(pair, rule.subject, rule.object, rule.modes));
                 self.accepted += 1;
                 // Once a line, however often the letter stands in it.
                 self.bringup += u64::from(rule.held_b);
             }
         }
         self.line.clear();
+        set
     }
 
     /// "Piece: each byte but a newline joins the kept line; a newline ends it,
     /// and the next begins empty. The answer is done."
     pub fn piece(&mut self, table: &mut Table, bytes: &[u8]) {
-        for &byte in bytes {
-            if class_of(byte) == Class::Newline {
-                self.end_line(table);
-            } else {
-                self.line.push(byte);
-            }
+        self.piece_telling(table, bytes, |_, _| {});
+    }
+
+    /// The same; tells of each newline where it stands in the piece, and of the line
+    /// that it ends the place of the rule that is set, if one is.
+    pub fn piece_telling(
+        &mut self,
+        table: &mut Table,
+        bytes: &[u8],
+        mut tell: impl FnMut(usize, Option<usize>),
+    ) {
+        let mut start = 0;
+        while let Some(length) = bytes[start..].iter().position(|&byte| byte == NEWLINE) {
+            let end = start + length;
+            self.line.extend_from_slice(&bytes[start..end]);
+            let rule = self.end_line(table);
+            tell(end, rule);
+            start = end + 1;
         }
+        self.line.extend_from_slice(&bytes[start..]);
     }
 
     /// "End call: ends a kept line that has a byte; then answers the report,
@@ -711,31 +869,33 @@ impl Loader {
 impl Table {
     /// "Change: subject, object, allow, deny." Refusals 1 2 3 4 5 6 7.
     pub fn change(&mut self, write: &[u8]) -> Result<(), Refusal> {
+        self.set_rule(write).map(|_| ())
+    }
+
+    /// The same; gives the place of the rule that was set.
+    pub fn set_rule(&mut self, write: &[u8]) -> Result<usize, Refusal> {
         if write.len() > LINE_LIMIT {
             return Err(Refusal::TooLong);
         }
-        let fields = fields(write);
-        if fields.len() != 4 {
+        let Some([subject, object, allow, deny]) = fields_exactly(write) else {
             return Err(Refusal::WrongFields);
-        }
-        fields[0].check_label()?;
-        fields[1].check_label()?;
-        let Some(allow) = read_access(fields[2].bytes, CHANGE_PLACEHOLDERS) else {
+        };
+        subject.check_label()?;
+        object.check_label()?;
+        let Some(allow) = read_access(allow.bytes, CHANGE_PLACEHOLDERS) else {
             return Err(Refusal::BadAccess);
         };
-        let Some(deny) = read_access(fields[3].bytes, CHANGE_PLACEHOLDERS) else {
+        let Some(deny) = read_access(deny.bytes, CHANGE_PLACEHOLDERS) else {
             return Err(Refusal::BadAccess);
         };
-        let (subject, object) = (fields[0].bytes, fields[1].bytes);
-        self.check_pair(subject, object)?;
+        let pair = self.check_pair(subject.bytes, object.bytes)?;
         // "A pair with no rule starts from none".
-        let old = match self.place_of_pair(subject, object) {
+        let old = match pair.rule {
             Some(place) => self.rules[place].2,
             None => 0,
         };
         // "New modes are (old modes or allow) without deny."
-        self.set_pair(subject, object, (old | allow) & !deny);
-        Ok(())
+        Ok(self.set_pair(pair, subject.bytes, object.bytes, (old | allow) & !deny))
     }
 
     /// "Revoke: one label, with no blanks. Every rule with that subject gets no
@@ -766,19 +926,16 @@ impl Table {
         if write.len() > LINE_LIMIT {
             return Err(Refusal::TooLong);
         }
-        let fields = fields(write);
-        if fields.is_empty() {
+        if fields(write).next().is_none() {
             return Err(Refusal::WrongFields);
         }
-        if fields.len() == 1 && fields[0].bytes == b"-" {
+        if fields_exactly(write).is_some_and(|[field]| field.bytes == b"-") {
             self.override_list.clear();
             return Ok(());
         }
-        for field in &fields {
+        let mut different: Vec<&[u8]> = Vec::with_capacity(OVERRIDE_PLACES);
+        for field in fields(write) {
             field.check_label()?;
-        }
-        let mut different: Vec<&[u8]> = Vec::new();
-        for field in fields {
             if !different.contains(&field.bytes) {
                 different.push(field.bytes);
             }
@@ -800,23 +957,28 @@ impl Table {
     /// "Mapping: label, level, then no or more categories." Refusals 1 2 3 9 6 10;
     /// "a mapping write at level 250 gets 9".
     pub fn mapping(&mut self, write: &[u8]) -> Result<(), Refusal> {
+        self.set_mapping(write).map(|_| ())
+    }
+
+    /// The same; gives the place of the mapping that was set.
+    pub fn set_mapping(&mut self, write: &[u8]) -> Result<usize, Refusal> {
         if write.len() > MAPPING_WRITE_LIMIT {
             return Err(Refusal::TooLong);
         }
-        let fields = fields(write);
-        if fields.len() < 2 {
+        let mut fields = fields(write);
+        let (Some(label), Some(level)) = (fields.next(), fields.next()) else {
             return Err(Refusal::WrongFields);
-        }
-        fields[0].check_label()?;
-        let label = fields[0].bytes;
-        let Some(level) = read_level(fields[1].bytes) else {
+        };
+        label.check_label()?;
+        let label = label.bytes;
+        let Some(level) = read_level(level.bytes) else {
             return Err(Refusal::BadLevelOrCategory);
         };
         if level == LABEL_LEVEL {
             return Err(Refusal::BadLevelOrCategory);
         }
         let mut set = Categories::new();
-        for field in &fields[2..] {
+        for field in fields {
             let Some(category) = read_category(field.bytes) else {
                 return Err(Refusal::BadLevelOrCategory);
             };
@@ -840,10 +1002,15 @@ impl Table {
         };
         // "It replaces the label's former mapping in its place; a new one goes last."
         match former {
-            Some(place) => self.mappings[place] = mapping,
-            None => self.mappings.push(mapping),
+            Some(place) => {
+                self.mappings[place] = mapping;
+                Ok(place)
+            }
+            None => {
+                self.mappings.push(mapping);
+                Ok(self.mappings.len() - 1)
+            }
         }
-        Ok(())
     }
 }
 
@@ -907,20 +1074,23 @@ impl Table {
     /// a mapping is stored twice "the first counts": a number counts only if it is
     /// its label's first, and only by its first mapping.
     fn lowest_with(&self, level: u64, set: &Categories) -> Option<usize> {
-        for number in 0..self.labels.len() {
-            let is_first_number = self.number_of(&self.labels[number]) == Some(number);
-            if !is_first_number {
+        let mut lowest: Option<usize> = None;
+        for (place, mapping) in self.mappings.iter().enumerate() {
+            if u64::from(mapping.level) != level || &mapping.set != set {
                 continue;
             }
-            let Some(place) = self.place_of_mapping(number) else {
+            let number = mapping.label;
+            let is_first_mapping = self.place_of_mapping(number) == Some(place);
+            let is_first_number = self.number_of(&self.labels[number]) == Some(number);
+            if !is_first_mapping || !is_first_number {
                 continue;
-            };
-            let mapping = &self.mappings[place];
-            if u64::from(mapping.level) == level && &mapping.set == set {
-                return Some(number);
+            }
+            match lowest {
+                Some(other) if other <= number => {}
+                _ => lowest = Some(number),
             }
         }
-        None
+        lowest
     }
 }
 
@@ -1041,7 +1211,7 @@ impl Table {
 
 /// "subject, space, object, space, modes or a dash, newline".
 fn rule_text(subject: &[u8], object: &[u8], modes: u8) -> Vec<u8> {
-    let mut text = Vec::new();
+    let mut text = Vec::with_capacity(subject.len() + object.len() + 8);
     text.extend_from_slice(subject);
     text.push(b' ');
     text.extend_from_slice(object);
@@ -1177,7 +1347,7 @@ pub fn line_to_record(line: &[u8], output: &mut [u8]) -> Result<usize, Refusal> 
     if rule.subject.len() > FIXED_LABEL_LIMIT || rule.object.len() > FIXED_LABEL_LIMIT {
         return Err(Refusal::NotInARecord);
     }
-    let mut record = Vec::new();
+    let mut record = Vec::with_capacity(FIXED_RECORD);
     for label in [rule.subject, rule.object] {
         record.extend_from_slice(label);
         record.resize(record.len() + FIXED_PLACE - label.len(), b' ');
@@ -1218,8 +1388,8 @@ fn bitmap_place(category: u64) -> (usize, u8) {
 /// The bitmap of a set: as long as its highest category wants, so there are "no
 /// trailing zero bytes".
 fn bitmap_of(set: &Categories) -> Vec<u8> {
-    let mut bitmap = Vec::new();
-    for &category in set {
+    let mut bitmap = Vec::with_capacity(BITMAP_LIMIT);
+    for category in set.iter() {
         let (byte, bit) = bitmap_place(category);
         if bitmap.len() <= byte {
             bitmap.resize(byte + 1, 0);
@@ -1245,7 +1415,8 @@ fn set_of_bitmap(bitmap: &[u8]) -> Option<Categories> {
     Some(set)
 }
 
-/// A label's "own bits: bit j, from the top, of byte i is category 8i+j+1".
+/// A label's "own bits: bit j, from the top, of byte i is category 8i+j+1". The label
+/// has at most 23 bytes.
 pub fn own_bits(label: &[u8]) -> Categories {
     let mut set = Categories::new();
     for (i, byte) in label.iter().enumerate() {
@@ -1266,7 +1437,7 @@ fn bytes_of_bits(set: &Categories) -> Vec<u8> {
     for i in 0..OWN_BITS_LIMIT as u64 {
         let mut byte = 0;
         for j in 0..8 {
-            if set.contains(&(8 * i + j + 1)) {
+            if set.contains(8 * i + j + 1) {
                 byte |= 0x80 >> j;
             }
         }
@@ -1283,7 +1454,8 @@ fn bytes_of_bits(set: &Categories) -> Vec<u8> {
 pub fn option_bytes(level: u8, set: &Categories) -> Vec<u8> {
     let bitmap = bitmap_of(set);
     let total = BEFORE_BITMAP + bitmap.len();
-    let mut option = vec![OPTION_TYPE, total as u8];
+    let mut option = Vec::with_capacity(total);
+    option.extend_from_slice(&[OPTION_TYPE, total as u8]);
     option.extend_from_slice(&OPTION_DOI);
     option.extend_from_slice(&[TAG_TYPE, (total - BEFORE_TAG) as u8, 0, level]);
     option.extend_from_slice(&bitmap);

@@ -1,6 +1,6 @@
 //! "What the program reads and writes".
 
-use crate::plain::{fields, Answer, Loader, Refusal, Report, Table, LINE_LIMIT};
+use crate::plain::{fields_exactly, Answer, Loader, Refusal, Report, Table, LINE_LIMIT};
 
 /// All of standard input to all of standard output.
 pub fn run(input: &[u8]) -> Vec<u8> {
@@ -60,13 +60,15 @@ pub fn question_line(table: &Table, line: &[u8]) -> Answer {
     if line.len() > LINE_LIMIT {
         return Answer::Refused(Refusal::TooLong);
     }
-    let fields = fields(line);
-    let has_override = fields.len() == 4 && fields[3].bytes == b"o";
-    if fields.len() != 3 && !has_override {
-        return Answer::Refused(Refusal::WrongFields);
+    if let Some([subject, object, request]) = fields_exactly(line) {
+        return table.question(subject.bytes, object.bytes, request.bytes, false);
     }
-    let (subject, object, request) = (fields[0].bytes, fields[1].bytes, fields[2].bytes);
-    table.question(subject, object, request, has_override)
+    match fields_exactly(line) {
+        Some([subject, object, request, o]) if o.bytes == b"o" => {
+            table.question(subject.bytes, object.bytes, request.bytes, true)
+        }
+        _ => Answer::Refused(Refusal::WrongFields),
+    }
 }
 
 /// "lines, accepted, skipped, refused, first refused line, its reason; 0 0

@@ -2,9 +2,9 @@
 //!
 //! A script is a chain of short episodes. Each begins with fresh memory, brings
 //! the table to some interesting place (empty, well filled, at a limit, odd, or
-//! damaged) and then makes a run of random calls there. The calls are also made
-//! on a machine of the generator's own, so that it can aim: at stored labels, at
-//! the exact length of a listing, at an entry below a count.
+//! damaged) and then makes a run of random calls there. The calls are made on a
+//! machine of the generator's own, so that it can aim: at stored labels, at the
+//! exact length of a listing, at an entry below a count.
 //!
 //! An episode with a `resize` in it goes on to the next `fresh`, which always
 //! stands with a `freshloader`; so a reader that cannot lend a part of another
@@ -17,10 +17,10 @@ use std::io::{self, Write};
 
 use crate::plain::{
     self, category_bit, class_of, option_bytes, own_bits, set_of, words_of, Class, NewObject,
-    Table, Words,
+    Record, Table, Words,
 };
 use crate::raw;
-use crate::script::{write_hex, write_set, Machine};
+use crate::script::{Call, Machine, Part, Poke};
 
 /// A xorshift generator with a multiplied output.
 pub struct Xorshift {
@@ -40,6 +40,7 @@ impl Xorshift {
         random
     }
 
+    #[inline(always)]
     pub fn next_number(&mut self) -> u64 {
         let mut x = self.state;
         x ^= x << 13;
@@ -50,20 +51,61 @@ impl Xorshift {
     }
 
     /// A number from 0 to `limit` - 1.
+    #[inline(always)]
     pub fn below(&mut self, limit: u64) -> u64 {
         (self.next_number() >> 20) % limit
     }
 
+    #[inline(always)]
     pub fn chance(&mut self, percent: u64) -> bool {
         self.below(100) < percent
     }
 
+    #[inline(always)]
     pub fn pick<T: Copy>(&mut self, choices: &[T]) -> T {
         choices[self.below(choices.len() as u64) as usize]
     }
 
+    #[inline(always)]
     fn byte(&mut self) -> u8 {
         self.below(256) as u8
+    }
+
+    /// So many bytes, each of any value.
+    fn bytes(&mut self, count: usize) -> Vec<u8> {
+        (0..count).map(|_| self.byte()).collect()
+    }
+
+    /// At most so many of them.
+    fn bytes_up_to(&mut self, limit: u64) -> Vec<u8> {
+        let count = self.below(limit + 1);
+        self.bytes(count as usize)
+    }
+
+    /// So many of these bytes.
+    #[inline(always)]
+    fn picks(&mut self, choices: &[u8], count: u64) -> Vec<u8> {
+        (0..count).map(|_| self.pick(choices)).collect()
+    }
+
+    /// One or more of these bytes, at most so many.
+    #[inline(always)]
+    fn letters(&mut self, choices: &[u8], limit: u64) -> Vec<u8> {
+        let count = 1 + self.below(limit);
+        self.picks(choices, count)
+    }
+
+    /// An access field of a line.
+    fn access(&mut self) -> Vec<u8> {
+        let mut field = Vec::with_capacity(8);
+        self.add_access(&mut field);
+        field
+    }
+
+    fn add_access(&mut self, text: &mut Vec<u8>) {
+        for _ in 0..1 + self.below(5) {
+            text.push(self.pick(b"rwxatbRWXATB-rwxa"));
+        }
     }
 }
 
@@ -86,6 +128,18 @@ pub enum Kind {
     NewObjects,
 }
 
+/// The kinds and their words.
+pub const KINDS: [(&str, Kind); 8] = [
+    ("every", Kind::Every),
+    ("records", Kind::Records),
+    ("searches", Kind::Searches),
+    ("places", Kind::Places),
+    ("categories", Kind::Categories),
+    ("options", Kind::Options),
+    ("bringup", Kind::Bringup),
+    ("newobjects", Kind::NewObjects),
+];
+
 /// Lengths just under and over 600 bytes, and for a mapping over 1,000 too.
 const LINE_LENGTHS: [usize; 6] = [599, 600, 600, 601, 601, 602];
 const MAPPING_LENGTHS: [usize; 9] = [600, 601, 800, 999, 1000, 1000, 1001, 1001, 1002];
@@ -98,19 +152,39 @@ const STRAY_BITS: u64 = 255;
 
 /// Writes a script of `count` calls.
 pub fn write_script(seed: u64, count: u64, kind: Kind, output: &mut dyn Write) -> io::Result<()> {
+    let mut result = Ok(());
+    generate(seed, count, kind, &mut |machine, call| {
+        let made = machine.make(call);
+        debug_assert!(made.is_some(), "{call:?}");
+        result = writeln!(output, "{}", call.write());
+        result.is_ok()
+    });
+    result
+}
+
+/// Gives the `count` calls of a script to `make`, one by one. It makes each of them on
+/// the machine, once, and answers whether to go on. It may make calls of its own
+/// beside it; where these change nothing, the script is that of `write_script`.
+pub fn generate(
+    seed: u64,
+    count: u64,
+    kind: Kind,
+    make: &mut dyn FnMut(&mut Machine, &Call) -> bool,
+) {
     let mut generator = Generator {
         random: Xorshift::new(seed),
         machine: Machine::new(),
-        output,
-        error: None,
+        make,
         left: count,
         pool: Vec::new(),
         new_percent: 5,
         next_name: 0,
         pending: Vec::new(),
+        handed: 0,
         sets: Vec::new(),
+        transmuting: (u64::MAX, Vec::new()),
     };
-    while generator.left > 0 && generator.error.is_none() {
+    while generator.left > 0 {
         match kind {
             Kind::Every => generator.episode(),
             Kind::Records => generator.records_episode(),
@@ -122,50 +196,147 @@ pub fn write_script(seed: u64, count: u64, kind: Kind, output: &mut dyn Write) -
             Kind::NewObjects => generator.newobjects_episode(),
         }
     }
-    match generator.error {
-        Some(error) => Err(error),
-        None => Ok(()),
+}
+
+/// The fields of a line or write.
+struct Fields {
+    /// One field behind the other.
+    bytes: Vec<u8>,
+    /// Where each of them ends.
+    ends: Vec<usize>,
+}
+
+impl Fields {
+    fn new() -> Fields {
+        Fields {
+            bytes: Vec::with_capacity(100),
+            ends: Vec::with_capacity(10),
+        }
     }
+
+    fn from_iter(fields: impl IntoIterator<Item = impl AsRef<[u8]>>) -> Fields {
+        let mut all = Fields::new();
+        for field in fields {
+            all.push(field);
+        }
+        all
+    }
+
+    fn push(&mut self, field: impl AsRef<[u8]>) {
+        self.bytes.extend_from_slice(field.as_ref());
+        self.ends.push(self.bytes.len());
+    }
+
+    /// A field of decimal digits, with zeros before them up to this width.
+    fn push_number(&mut self, number: u64, width: usize) {
+        add_number(&mut self.bytes, number, width);
+        self.ends.push(self.bytes.len());
+    }
+
+    /// The last field goes.
+    fn pop(&mut self) {
+        self.ends.pop();
+        self.bytes.truncate(self.ends.last().map_or(0, |end| *end));
+    }
+
+    fn iter(&self) -> impl Iterator<Item = &[u8]> {
+        let mut start = 0;
+        self.ends.iter().map(move |&end| {
+            let field = &self.bytes[start..end];
+            start = end;
+            field
+        })
+    }
+
+    /// The fields with one space between.
+    fn spaced(&self) -> Vec<u8> {
+        let mut text = Vec::with_capacity(self.bytes.len() + self.ends.len());
+        for (k, field) in self.iter().enumerate() {
+            if k > 0 {
+                text.push(b' ');
+            }
+            text.extend_from_slice(field);
+        }
+        text
+    }
+}
+
+/// Puts the digits of a number behind the text, with zeros before them up to this width.
+fn add_number(text: &mut Vec<u8>, number: u64, width: usize) {
+    let start = text.len();
+    let mut rest = number;
+    loop {
+        text.push(b'0' + (rest % 10) as u8);
+        rest /= 10;
+        if rest == 0 && text.len() - start >= width {
+            break;
+        }
+    }
+    text[start..].reverse();
+}
+
+/// A letter and a number.
+fn named(letter: u8, number: u64) -> Vec<u8> {
+    let mut name = Vec::with_capacity(8);
+    name.push(letter);
+    add_number(&mut name, number, 0);
+    name
 }
 
 struct Generator<'a> {
     random: Xorshift,
     machine: Machine,
-    output: &'a mut dyn Write,
-    error: Option<io::Error>,
-    /// How many calls are still to be written.
+    make: &'a mut dyn FnMut(&mut Machine, &Call) -> bool,
+    /// How many calls are still to be made.
     left: u64,
     /// The labels that this episode likes to use.
     pool: Vec<Vec<u8>>,
     /// How often, of a hundred, a label is one that was never used before.
     new_percent: u64,
     next_name: u64,
-    /// Rule text that is made but not yet handed over in pieces.
+    /// Rule text that is made but not yet handed over in pieces: from this place on.
     pending: Vec<u8>,
+    handed: usize,
     /// The sets that an episode of the kind `categories` or `options` likes to use.
     sets: Vec<Words>,
+    /// The numbers of `transmuting_pairs`, as they were after so many changes.
+    transmuting: (u64, Vec<(usize, usize)>),
 }
 
 impl Generator<'_> {
-    /// Writes one call and makes it.
-    fn emit(&mut self, call: &str) {
-        if self.left == 0 || self.error.is_some() {
+    /// Has one call made.
+    fn emit(&mut self, call: Call) {
+        if self.left == 0 {
             return;
         }
         self.left -= 1;
-        let answer = self.machine.execute(call);
-        debug_assert!(
-            answer.as_deref().is_some_and(|text| text != "bad line"),
-            "{call}"
-        );
-        if let Err(error) = writeln!(self.output, "{call}") {
-            self.error = Some(error);
+        if !(self.make)(&mut self.machine, &call) {
+            self.left = 0;
         }
     }
 
-    /// The model of the machine's table, where it is undamaged.
-    fn table(&self) -> Option<Table> {
-        raw::table_of(&self.machine.state).ok()
+    fn poke_labels(&mut self, at: usize, bytes: impl Into<Vec<u8>>) {
+        let bytes = bytes.into();
+        self.emit(Call::Poke(Poke::Labels { at, bytes }));
+    }
+
+    fn poke_entries(&mut self, at: usize, bytes: impl Into<Vec<u8>>) {
+        let bytes = bytes.into();
+        self.emit(Call::Poke(Poke::Entries { at, bytes }));
+    }
+
+    fn poke_line(&mut self, bytes: impl Into<Vec<u8>>) {
+        let bytes = bytes.into();
+        self.emit(Call::Poke(Poke::Line { at: 0, bytes }));
+    }
+
+    fn poke_words(&mut self, index: usize, value: u64) {
+        self.emit(Call::Poke(Poke::Words { index, value }));
+    }
+
+    fn poke_number(&mut self, index: usize, value: impl Into<u64>) {
+        let value = value.into();
+        self.emit(Call::Poke(Poke::Loader { index, value }));
     }
 
     // -----------------------------------------------------------------------
@@ -173,9 +344,9 @@ impl Generator<'_> {
     // -----------------------------------------------------------------------
 
     fn episode(&mut self) {
-        self.emit("fresh");
-        self.emit("freshloader");
-        self.pending.clear();
+        self.emit(Call::Fresh);
+        self.emit(Call::FreshLoader);
+        self.set_pending(Vec::new());
         self.make_pool();
         self.new_percent = 5;
         match self.random.below(24) {
@@ -209,9 +380,9 @@ impl Generator<'_> {
 
     /// Questions, and some writes, about labels that are hard to tell apart.
     fn searches_episode(&mut self) {
-        self.emit("fresh");
-        self.emit("freshloader");
-        self.pending.clear();
+        self.emit(Call::Fresh);
+        self.emit(Call::FreshLoader);
+        self.set_pending(Vec::new());
         self.make_family();
         self.new_percent = 1;
         match self.random.below(5) {
@@ -219,20 +390,20 @@ impl Generator<'_> {
             1 | 2 => self.grow_family(),
             _ => self.lend_family(),
         }
-        self.emit("dump");
+        self.emit(Call::Dump);
         let count = 20 + self.random.below(60);
         for _ in 0..count {
             self.search_call();
         }
-        self.emit("dump");
+        self.emit(Call::Dump);
     }
 
     /// Labels with faults at all kinds of places, in a table that is fresh, used,
     /// full or damaged.
     fn places_episode(&mut self) {
-        self.emit("fresh");
-        self.emit("freshloader");
-        self.pending.clear();
+        self.emit(Call::Fresh);
+        self.emit(Call::FreshLoader);
+        self.set_pending(Vec::new());
         self.make_pool();
         self.new_percent = 5;
         match self.random.below(12) {
@@ -257,8 +428,8 @@ impl Generator<'_> {
         for _ in 0..count {
             self.place_call();
         }
-        self.emit("end");
-        self.emit("dump");
+        self.emit(Call::End);
+        self.emit(Call::Dump);
     }
 
     fn at_label_limit(&mut self) {
@@ -326,7 +497,7 @@ impl Generator<'_> {
         for _ in 0..times {
             self.oddity();
         }
-        self.emit("dump");
+        self.emit(Call::Dump);
         self.every_call();
         self.calls(20);
     }
@@ -348,7 +519,7 @@ impl Generator<'_> {
                 store.push(self.random.pick(b"abAB_^*?@- /\xff"));
             }
         }
-        self.emit(&format!("poke labels 0 {}", write_hex(&store)));
+        self.poke_labels(0, store);
         let mut entries = Vec::new();
         let any_number = self.random.chance(10);
         let any_modes = self.random.chance(10);
@@ -363,7 +534,7 @@ impl Generator<'_> {
                 _ => self.random.below(labels.max(1)) as u8,
             });
         }
-        self.emit(&format!("poke entries 0 {}", write_hex(&entries)));
+        self.poke_entries(0, entries);
         for place in 0..32 {
             let mut set = [0; 3];
             for word in &mut set {
@@ -374,10 +545,10 @@ impl Generator<'_> {
             }
             for (row, word) in raw::SETS.iter().zip(set) {
                 let index = row + place;
-                self.emit(&format!("poke words {index} {word}"));
+                self.poke_words(index, word);
             }
         }
-        self.emit(&format!("poke words 0 {labels}"));
+        self.poke_words(0, labels);
         for (index, limit) in [(1, 256), (2, 32), (3, 8)] {
             let count = match self.random.below(4) {
                 0 => 0,
@@ -385,14 +556,14 @@ impl Generator<'_> {
                 2 => 1 + self.random.below(3),
                 _ => self.random.below(limit + 1),
             };
-            self.emit(&format!("poke words {index} {count}"));
+            self.poke_words(index, count);
         }
-        self.emit("dump");
+        self.emit(Call::Dump);
         self.every_call();
         self.calls(30);
         if self.random.chance(50) {
-            self.emit("freshen");
-            self.emit("dump");
+            self.emit(Call::Freshen);
+            self.emit(Call::Dump);
             self.calls(10);
         }
     }
@@ -408,30 +579,30 @@ impl Generator<'_> {
                 self.some_dump();
             }
             if self.random.chance(60) {
-                self.emit("end");
+                self.emit(Call::End);
             }
-            self.emit("dump");
+            self.emit(Call::Dump);
         }
         self.calls(6);
     }
 
     /// A handful of rules, mappings and override labels.
     fn base_state(&mut self) {
-        let mut text = Vec::new();
+        let mut text = Vec::with_capacity(500);
         let rules = 2 + self.random.below(8);
         for _ in 0..rules {
             let line = self.good_rule_line();
             text.extend_from_slice(&line);
             text.push(b'\n');
         }
-        self.emit(&format!("piece {}", write_hex(&text)));
+        self.emit(Call::Piece(text));
         let mappings = 1 + self.random.below(4);
         for _ in 0..mappings {
             let label = self.pool_label();
             let mut write = label;
             let rest = [" 9 1 63", " 9 1 63", " 9 64 65 128 129 184", " 9 184"];
             write.extend_from_slice(self.random.pick(&rest).as_bytes());
-            self.emit(&format!("mapping {}", write_hex(&write)));
+            self.emit(Call::Mapping(write));
         }
         let overrides = 1 + self.random.below(3);
         let mut write = Vec::new();
@@ -440,63 +611,67 @@ impl Generator<'_> {
             write.extend_from_slice(&label);
             write.push(b' ');
         }
-        self.emit(&format!("override {}", write_hex(&write)));
+        self.emit(Call::Override(write));
         if self.random.chance(50) {
-            self.emit("freshloader");
+            self.emit(Call::FreshLoader);
         }
     }
 
     /// New labels come in, by override lists of eight or by rules.
     fn fill_labels_to(&mut self, target: usize) {
-        let Some(table) = self.table() else { return };
+        let Some(table) = self.machine.table() else {
+            return;
+        };
         let mut missing = target.saturating_sub(table.labels.len());
         while missing > 0 && self.left > 0 {
             if self.random.chance(70) {
                 let count = missing.min(8);
-                let mut write = Vec::new();
+                let mut write = Vec::with_capacity(100);
                 for _ in 0..count {
                     write.extend_from_slice(&self.new_name());
                     write.push(b' ');
                 }
-                self.emit(&format!("override {}", write_hex(&write)));
+                self.emit(Call::Override(write));
                 missing -= count;
             } else {
                 let mut write = self.new_name();
                 write.extend_from_slice(b" _ rwa -");
-                self.emit(&format!("change {}", write_hex(&write)));
+                self.emit(Call::Change(write));
                 missing -= 1;
             }
         }
         if self.random.chance(50) {
-            self.emit("override 2d");
+            self.emit(Call::Override(b"-".to_vec()));
         }
     }
 
     /// Rules of stored labels come in, in one piece or a few.
     fn fill_rules_to(&mut self, target: usize) {
-        let Some(mut table) = self.table() else {
+        let Some(table) = self.machine.table() else {
             return;
         };
         if table.labels.len() < 20 {
             self.fill_labels_to(20);
-            match self.table() {
-                Some(larger) => table = larger,
-                None => return,
-            }
+        }
+        let Some(table) = self.machine.table() else {
+            return;
+        };
+        let mut has_rule = [[false; plain::LABEL_PLACES]; plain::LABEL_PLACES];
+        for rule in &table.rules {
+            has_rule[rule.0][rule.1] = true;
         }
         let mut missing = target.saturating_sub(table.rules.len());
-        let mut text = Vec::new();
-        for subject in 0..table.labels.len() {
-            for object in 0..table.labels.len() {
-                let has_rule = table.rules.iter().any(|r| r.0 == subject && r.1 == object);
-                if missing == 0 || subject == object || has_rule {
+        let mut text = Vec::with_capacity(20 * missing);
+        for (subject, subject_label) in table.labels.iter().enumerate() {
+            for (object, object_label) in table.labels.iter().enumerate() {
+                if missing == 0 || subject == object || has_rule[subject][object] {
                     continue;
                 }
-                text.extend_from_slice(&table.labels[subject]);
+                text.extend_from_slice(subject_label);
                 text.push(b' ');
-                text.extend_from_slice(&table.labels[object]);
+                text.extend_from_slice(object_label);
                 text.push(b' ');
-                text.extend_from_slice(&self.access());
+                self.random.add_access(&mut text);
                 text.push(b'\n');
                 missing -= 1;
             }
@@ -507,28 +682,34 @@ impl Generator<'_> {
                 _ => text.len(),
             };
             let rest = text.split_off(length);
-            self.emit(&format!("piece {}", write_hex(&text)));
+            self.emit(Call::Piece(text));
             text = rest;
         }
-        self.emit("end");
+        self.emit(Call::End);
     }
 
     fn fill_mappings_to(&mut self, target: usize) {
-        let Some(table) = self.table() else { return };
+        let Some(table) = self.machine.table() else {
+            return;
+        };
         let mut missing = target.saturating_sub(table.mappings.len());
-        for (number, label) in table.labels.iter().enumerate() {
-            let is_mapped = table.mappings.iter().any(|m| m.label == number);
-            if missing == 0 || is_mapped {
+        let labels = table.labels.clone();
+        let mut is_mapped = [false; plain::LABEL_PLACES];
+        for mapping in &table.mappings {
+            is_mapped[mapping.label] = true;
+        }
+        for (number, label) in labels.into_iter().enumerate() {
+            if missing == 0 || is_mapped[number] {
                 continue;
             }
-            let mut write = label.clone();
+            let mut write = label;
             write.push(b' ');
             write.extend_from_slice(
                 self.random
                     .pick(&["9 1 63", "9", "0 5", "7 7 7 8", "9 65 127", "9 129 184"])
                     .as_bytes(),
             );
-            self.emit(&format!("mapping {}", write_hex(&write)));
+            self.emit(Call::Mapping(write));
             missing -= 1;
         }
     }
@@ -542,7 +723,7 @@ impl Generator<'_> {
     /// by fresh memory.
     fn damage_and_mend(
         &mut self,
-        damage: fn(&mut Self) -> Vec<String>,
+        damage: fn(&mut Self) -> Vec<Call>,
         call: fn(&mut Self),
         count: u64,
     ) {
@@ -556,7 +737,7 @@ impl Generator<'_> {
                 true => self.resize_part(),
                 false => damage(self),
             };
-            self.emit("dump");
+            self.emit(Call::Dump);
             for _ in 0..count {
                 call(self);
             }
@@ -564,33 +745,39 @@ impl Generator<'_> {
                 self.every_call();
             }
             if resized {
-                self.emit("freshen");
+                self.emit(Call::Freshen);
             }
             if resized || self.random.chance(85) {
                 for call in mend {
-                    self.emit(&call);
+                    self.emit(call);
                 }
-                self.emit("dump");
+                self.emit(Call::Dump);
                 call(self);
             }
         }
     }
 
     /// A part gets another size; gives the calls that undo it.
-    fn resize_part(&mut self) -> Vec<String> {
+    fn resize_part(&mut self) -> Vec<Call> {
         let (part, size) = match self.random.below(4) {
-            0 => ("labels", self.random.pick(&[0, 256, 16383, 16385, 20000])),
-            1 => ("entries", self.random.pick(&[0, 256, 839, 841])),
-            2 => ("words", self.random.pick(&[0, 3, 4, 35, 36, 68, 99, 101])),
-            _ => ("line", self.random.pick(&[0, 1, 599, 601])),
+            0 => (
+                Part::Labels,
+                self.random.pick(&[0, 256, 16383, 16385, 20000]),
+            ),
+            1 => (Part::Entries, self.random.pick(&[0, 256, 839, 841])),
+            2 => (
+                Part::Words,
+                self.random.pick(&[0, 3, 4, 35, 36, 68, 99, 101]),
+            ),
+            _ => (Part::Line, self.random.pick(&[0, 1, 599, 601])),
         };
-        self.emit(&format!("resize {part} {size}"));
-        vec!["fresh".to_string(), "freshloader".to_string()]
+        self.emit(Call::Resize { part, size });
+        vec![Call::Fresh, Call::FreshLoader]
     }
 
     /// Damages something below the counts; gives the calls that undo it.
-    fn damage(&mut self) -> Vec<String> {
-        let counts: Vec<u64> = self.machine.state.words[..4].to_vec();
+    fn damage(&mut self) -> Vec<Call> {
+        let counts: Vec<u64> = self.machine.state().words[..4].to_vec();
         let no_label = self.random.pick(&[counts[0].min(255), 64, 128, 255]);
         match self.random.below(14) {
             0 => {
@@ -661,10 +848,10 @@ impl Generator<'_> {
 
     /// The modes of a rule change, mostly by bits that are no modes: that of b, 64
     /// or 128, beside letters or alone.
-    fn damage_modes(&mut self) -> Vec<String> {
-        let count = self.machine.state.words[raw::RULE_COUNT];
+    fn damage_modes(&mut self) -> Vec<Call> {
+        let count = self.machine.state().words[raw::RULE_COUNT];
         let at = raw::MODES + self.place_of(count, plain::RULE_PLACES as u64);
-        let old = self.machine.state.entries[at];
+        let old = self.machine.state().entries[at];
         let bit = self.random.pick(&[1, 64, 128]);
         let any = self.random.byte();
         let value = self.random.pick(&[
@@ -683,12 +870,12 @@ impl Generator<'_> {
 
     /// One word of a mapping's set changes. Mostly it is the third, which gets bits
     /// that are no categories; those of the other two all are.
-    fn damage_set(&mut self) -> Vec<String> {
-        let count = self.machine.state.words[raw::MAPPING_COUNT];
+    fn damage_set(&mut self) -> Vec<Call> {
+        let count = self.machine.state().words[raw::MAPPING_COUNT];
         let place = self.place_of(count, plain::MAPPING_PLACES as u64);
         let row = self.random.pick(&[0, 1, 2, 2, 2, 2, 2, 2]);
         let index = raw::SETS[row] + place;
-        let old = self.machine.state.words[index];
+        let old = self.machine.state().words[index];
         let stray = 1 << self.random.below(8);
         let any = self.random.next_number();
         let value = self.random.pick(&[
@@ -711,27 +898,28 @@ impl Generator<'_> {
     }
 
     /// Pokes one byte of a row, at a place below its count or just at it.
-    fn poke_below(&mut self, row: usize, count: u64, places: u64, value: u8) -> Vec<String> {
+    fn poke_below(&mut self, row: usize, count: u64, places: u64, value: u8) -> Vec<Call> {
         let place = self.random.below(count.min(places) + 1).min(places - 1);
         self.poke_entry(row + place as usize, value)
     }
 
-    fn poke_entry(&mut self, at: usize, value: u8) -> Vec<String> {
-        let old = self.machine.state.entries[at];
-        self.emit(&format!("poke entries {at} {}", write_hex(&[value])));
-        vec![format!("poke entries {at} {}", write_hex(&[old]))]
+    fn poke_entry(&mut self, at: usize, value: u8) -> Vec<Call> {
+        let old = self.machine.state().entries[at];
+        self.poke_entries(at, [value]);
+        let bytes = vec![old];
+        vec![Call::Poke(Poke::Entries { at, bytes })]
     }
 
-    fn poke_word(&mut self, index: usize, value: u64) -> Vec<String> {
-        let old = self.machine.state.words[index];
-        self.emit(&format!("poke words {index} {value}"));
-        vec![format!("poke words {index} {old}")]
+    fn poke_word(&mut self, index: usize, value: u64) -> Vec<Call> {
+        let old = self.machine.state().words[index];
+        self.poke_words(index, value);
+        vec![Call::Poke(Poke::Words { index, value: old })]
     }
 
-    fn poke_loader(&mut self, index: usize, value: u64) -> Vec<String> {
-        let old = self.machine.loader.numbers[index];
-        self.emit(&format!("poke loader {index} {value}"));
-        vec![format!("poke loader {index} {old}")]
+    fn poke_loader(&mut self, index: usize, value: u64) -> Vec<Call> {
+        let old = self.machine.loader().numbers[index];
+        self.poke_number(index, value);
+        vec![Call::Poke(Poke::Loader { index, value: old })]
     }
 
     // -----------------------------------------------------------------------
@@ -739,8 +927,10 @@ impl Generator<'_> {
     // -----------------------------------------------------------------------
 
     fn oddity(&mut self) {
-        let Some(table) = self.table() else { return };
-        if self.machine.loader.line.len() != plain::LINE_LIMIT {
+        let Some(table) = self.machine.table() else {
+            return;
+        };
+        if self.machine.loader().line.len() != plain::LINE_LIMIT {
             return;
         }
         let labels = table.labels.len() as u64;
@@ -755,12 +945,12 @@ impl Generator<'_> {
             2 if labels >= 1 => {
                 let at = self.random.below(labels) as usize * raw::PLACE;
                 let length = self.random.pick(&[0, 1, 2, 255]);
-                self.emit(&format!("poke labels {at} {}", write_hex(&[length])));
+                self.poke_labels(at, [length]);
             }
             3 if labels >= 1 => {
                 let at = self.random.below(labels) as usize * raw::PLACE + 1;
                 let byte = self.random.pick(&[0, 10, 32, b'-', b'/', 127, 255]);
-                self.emit(&format!("poke labels {at} {}", write_hex(&[byte])));
+                self.poke_labels(at, [byte]);
             }
             // Other labels than the five at 0 to 4, or none.
             4 => {
@@ -769,14 +959,14 @@ impl Generator<'_> {
                 let mut bytes = vec![name.len() as u8];
                 bytes.extend_from_slice(&name);
                 let at = places * raw::PLACE;
-                self.emit(&format!("poke labels {at} {}", write_hex(&bytes)));
+                self.poke_labels(at, bytes);
             }
             5 => {
                 for index in [1, 2, 3] {
-                    self.emit(&format!("poke words {index} 0"));
+                    self.poke_words(index, 0);
                 }
                 let count = self.random.below(5);
-                self.emit(&format!("poke words 0 {count}"));
+                self.poke_words(0, count);
             }
             // A pair stored twice, or with subject equal to object.
             6 | 7 if !table.rules.is_empty() => {
@@ -788,10 +978,8 @@ impl Generator<'_> {
                 } else {
                     object
                 };
-                let (at, value) = (raw::SUBJECTS + to, write_hex(&[subject as u8]));
-                self.emit(&format!("poke entries {at} {value}"));
-                let (at, value) = (raw::OBJECTS + to, write_hex(&[object as u8]));
-                self.emit(&format!("poke entries {at} {value}"));
+                self.poke_entries(raw::SUBJECTS + to, [subject as u8]);
+                self.poke_entries(raw::OBJECTS + to, [object as u8]);
             }
             // A label mapped twice, with a level of its own.
             8 if !table.mappings.is_empty() => {
@@ -799,10 +987,10 @@ impl Generator<'_> {
                 let to = self.random.below(table.mappings.len() as u64) as usize;
                 let label = table.mappings[from].label as u8;
                 let at = raw::MAPPING_LABELS + to;
-                self.emit(&format!("poke entries {at} {}", write_hex(&[label])));
+                self.poke_entries(at, [label]);
                 let level = self.random.pick(&[8, 9, 250, 255]);
                 let at = raw::LEVELS + to;
-                self.emit(&format!("poke entries {at} {}", write_hex(&[level])));
+                self.poke_entries(at, [level]);
             }
             // An override label twice, or another one.
             9 if !table.override_list.is_empty() => {
@@ -812,49 +1000,54 @@ impl Generator<'_> {
                     _ => self.random.below(labels) as u8,
                 };
                 let at = raw::OVERRIDES + to;
-                self.emit(&format!("poke entries {at} {}", write_hex(&[value])));
+                self.poke_entries(at, [value]);
             }
             // Strange bytes where nothing is stored.
-            10 => self.fill_unused(&table),
+            10 => self.fill_unused(),
             _ => self.odd_loader(),
         }
     }
 
     fn copy_label(&mut self, from: usize, to: usize) {
         let place = from * raw::PLACE;
-        let length = usize::from(self.machine.state.label_store[place]);
-        let bytes = self.machine.state.label_store[place..=place + length].to_vec();
+        let length = usize::from(self.machine.state().label_store[place]);
+        let bytes = self.machine.state().label_store[place..=place + length].to_vec();
         let at = to * raw::PLACE;
-        self.emit(&format!("poke labels {at} {}", write_hex(&bytes)));
+        self.poke_labels(at, bytes);
     }
 
-    fn fill_unused(&mut self, table: &Table) {
+    fn fill_unused(&mut self) {
+        let Some(table) = self.machine.table() else {
+            return;
+        };
+        let (labels, rules, mappings) =
+            (table.labels.len(), table.rules.len(), table.mappings.len());
+        let overrides = table.override_list.len();
         let filler = self.random.pick(&[0xff, 0x41, 0x80, 0x01]);
         let rows = [
-            (raw::SUBJECTS, table.rules.len(), 256),
-            (raw::OBJECTS, table.rules.len(), 256),
-            (raw::MODES, table.rules.len(), 256),
-            (raw::MAPPING_LABELS, table.mappings.len(), 32),
-            (raw::LEVELS, table.mappings.len(), 32),
-            (raw::OVERRIDES, table.override_list.len(), 8),
+            (raw::SUBJECTS, rules, 256),
+            (raw::OBJECTS, rules, 256),
+            (raw::MODES, rules, 256),
+            (raw::MAPPING_LABELS, mappings, 32),
+            (raw::LEVELS, mappings, 32),
+            (raw::OVERRIDES, overrides, 8),
         ];
         for (row, used, places) in rows {
             if used < places {
                 let bytes = vec![filler; places - used];
                 let at = row + used;
-                self.emit(&format!("poke entries {at} {}", write_hex(&bytes)));
+                self.poke_entries(at, bytes);
             }
         }
-        if table.mappings.len() < 32 {
+        if mappings < 32 {
             for row in raw::SETS {
-                let index = row + table.mappings.len();
-                self.emit(&format!("poke words {index} {}", u64::MAX));
+                self.poke_words(row + mappings, u64::MAX);
             }
         }
-        if table.labels.len() < 64 {
-            let at = table.labels.len() * raw::PLACE;
+        if labels < 64 {
+            let at = labels * raw::PLACE;
             let bytes = vec![filler; 600.min(raw::STORE_SIZE - at)];
-            self.emit(&format!("poke labels {at} {}", write_hex(&bytes)));
+            self.poke_labels(at, bytes);
         }
     }
 
@@ -862,26 +1055,26 @@ impl Generator<'_> {
     fn odd_loader(&mut self) {
         match self.random.below(3) {
             0 => {
-                let kept = self.random.pick(&[0, 1, 5, 17, 598, 599, 600, 601]);
+                let kept = self.random.pick(&[0, 1, 5, 17, 598, 599, 600, 601u64]);
                 let filler = self.random.pick(b" \t\nA-\0\xff");
                 let bytes = vec![filler; 600];
-                self.emit(&format!("poke line 0 {}", write_hex(&bytes)));
+                self.poke_line(bytes);
                 if self.random.chance(60) {
                     let line = self.rule_line();
                     let length = line.len().min(600);
-                    self.emit(&format!("poke line 0 {}", write_hex(&line[..length])));
+                    self.poke_line(&line[..length]);
                 }
-                self.emit(&format!("poke loader 0 {kept}"));
+                self.poke_number(raw::KEPT, kept);
             }
             1 => {
                 for index in [raw::LINES, raw::ACCEPTED, raw::SKIPPED, raw::BRINGUP] {
                     let value = self.near_saturation();
-                    self.emit(&format!("poke loader {index} {value}"));
+                    self.poke_number(index, value);
                 }
             }
             _ => {
                 let value = self.near_saturation();
-                self.emit(&format!("poke loader {} {value}", raw::LINES));
+                self.poke_number(raw::LINES, value);
                 self.poke_first_refused();
             }
         }
@@ -898,10 +1091,10 @@ impl Generator<'_> {
         let place = self
             .random
             .pick(&[0, 0, 1, 255, 600, 4294967295, 1 << 32, u64::MAX, any]);
-        self.emit(&format!("poke loader {} {refused}", raw::REFUSED));
-        self.emit(&format!("poke loader {} {line}", raw::FIRST_LINE));
-        self.emit(&format!("poke loader {} {reason}", raw::FIRST_REASON));
-        self.emit(&format!("poke loader {} {place}", raw::FIRST_PLACE));
+        self.poke_number(raw::REFUSED, refused);
+        self.poke_number(raw::FIRST_LINE, line);
+        self.poke_number(raw::FIRST_REASON, reason);
+        self.poke_number(raw::FIRST_PLACE, place);
     }
 
     fn near_saturation(&mut self) -> u32 {
@@ -952,11 +1145,11 @@ impl Generator<'_> {
     /// A short label that was not used before.
     fn new_name(&mut self) -> Vec<u8> {
         self.next_name += 1;
-        format!("N{}", self.next_name).into_bytes()
+        named(b'N', self.next_name)
     }
 
     fn stored_label(&mut self) -> Vec<u8> {
-        match self.table() {
+        match self.machine.table() {
             Some(table) if !table.labels.is_empty() => {
                 let at = self.random.below(table.labels.len() as u64) as usize;
                 table.labels[at].clone()
@@ -967,7 +1160,7 @@ impl Generator<'_> {
 
     /// A label that has a mapping, where there is one.
     fn mapped_label(&mut self) -> Vec<u8> {
-        match self.table() {
+        match self.machine.table() {
             Some(table) if !table.mappings.is_empty() => {
                 let at = self.random.below(table.mappings.len() as u64) as usize;
                 table.labels[table.mappings[at].label].clone()
@@ -978,7 +1171,7 @@ impl Generator<'_> {
 
     /// The two labels and the modes of a rule, where there is one.
     fn ruled_pair(&mut self) -> Option<(Vec<u8>, Vec<u8>, u8)> {
-        let table = self.table()?;
+        let table = self.machine.table()?;
         if table.rules.is_empty() {
             return None;
         }
@@ -1043,77 +1236,63 @@ impl Generator<'_> {
                 label[at] = self.random.byte();
                 label
             }
-            4 => self.random_bytes(12),
+            4 => self.random.bytes_up_to(12),
             5 => vec![self.random.byte()],
             _ => self.faulty_label(),
         }
     }
 
-    fn random_bytes(&mut self, limit: u64) -> Vec<u8> {
-        let length = self.random.below(limit + 1);
-        (0..length).map(|_| self.random.byte()).collect()
-    }
-
-    fn letters(&mut self, choices: &[u8], limit: u64) -> Vec<u8> {
-        let length = 1 + self.random.below(limit);
-        (0..length).map(|_| self.random.pick(choices)).collect()
-    }
-
-    fn access(&mut self) -> Vec<u8> {
-        self.letters(b"rwxatbRWXATB-rwxa", 5)
-    }
-
     fn any_access(&mut self) -> Vec<u8> {
         if self.random.chance(8) {
-            let mut field = self.access();
+            let mut field = self.random.access();
             let byte = self.random.pick(b"lqy+0/\r\n\xff\x80\0_");
             let at = self.random.below(field.len() as u64 + 1) as usize;
             field.insert(at, byte);
             return field;
         }
-        self.access()
+        self.random.access()
     }
 
     fn change_access(&mut self) -> Vec<u8> {
         if self.random.chance(12) {
             return self.any_access();
         }
-        self.letters(b"rwxatRWXAT-", 4)
+        self.random.letters(b"rwxatRWXAT-", 4)
     }
 
     fn request(&mut self) -> Vec<u8> {
         match self.random.below(20) {
             0 => Vec::new(),
-            1 => self.letters(b"rwxatb-lRq \n", 3),
-            2 => self.letters(b"rwxaRWXA", 700),
-            3 => self.random_bytes(4),
-            _ => self.letters(b"rwxaRWXA", 3),
+            1 => self.random.letters(b"rwxatb-lRq \n", 3),
+            2 => self.random.letters(b"rwxaRWXA", 700),
+            3 => self.random.bytes_up_to(4),
+            _ => self.random.letters(b"rwxaRWXA", 3),
         }
     }
 
-    fn blanks(&mut self, least: u64) -> Vec<u8> {
+    /// Puts so many blanks behind the text, or some more.
+    fn add_blanks(&mut self, text: &mut Vec<u8>, least: u64) {
         let more = match self.random.below(6) {
             0 => 1,
             1 => self.random.below(4),
             _ => 0,
         };
-        (0..least + more)
-            .map(|_| self.random.pick(b"  \t"))
-            .collect()
+        for _ in 0..least + more {
+            text.push(self.random.pick(b"  \t"));
+        }
     }
 
     /// Fields with blanks between, sometimes before and after.
-    fn join(&mut self, fields: &[Vec<u8>]) -> Vec<u8> {
-        let mut text = self.blanks(0);
-        for (k, field) in fields.iter().enumerate() {
+    fn join(&mut self, fields: impl IntoIterator<Item = impl AsRef<[u8]>>) -> Vec<u8> {
+        let mut text = Vec::with_capacity(200);
+        self.add_blanks(&mut text, 0);
+        for (k, field) in fields.into_iter().enumerate() {
             if k > 0 {
-                let between = self.blanks(1);
-                text.extend_from_slice(&between);
+                self.add_blanks(&mut text, 1);
             }
-            text.extend_from_slice(field);
+            text.extend_from_slice(field.as_ref());
         }
-        let after = self.blanks(0);
-        text.extend_from_slice(&after);
+        self.add_blanks(&mut text, 0);
         text
     }
 
@@ -1125,9 +1304,11 @@ impl Generator<'_> {
             _ if self.random.chance(50) => 0,
             _ => text.len(),
         };
-        while text.len() < target {
-            text.insert(at, self.random.pick(b" \t"));
-        }
+        // Each is put before those that came before it.
+        let count = target.saturating_sub(text.len());
+        let mut blanks = self.random.picks(b" \t", count as u64);
+        blanks.reverse();
+        text.splice(at..at, blanks);
         text
     }
 
@@ -1142,7 +1323,7 @@ impl Generator<'_> {
         if object == subject {
             object = b"Other".to_vec();
         }
-        let access = self.access();
+        let access = self.random.access();
         self.join(&[subject, object, access])
     }
 
@@ -1175,7 +1356,7 @@ impl Generator<'_> {
                 let line = self.good_rule_line();
                 self.pad(line, &LINE_LENGTHS)
             }
-            25 => self.random_bytes(40),
+            25 => self.random.bytes_up_to(40),
             26 => {
                 let mut line = self.good_rule_line();
                 line.push(b'\r');
@@ -1186,7 +1367,7 @@ impl Generator<'_> {
                 let mut object = vec![b'Y'; 255];
                 subject[254] = self.random.pick(b"ab");
                 object[254] = self.random.pick(b"ab");
-                let access = self.access();
+                let access = self.random.access();
                 self.join(&[subject, object, access])
             }
             28 => vec![b'Q'; self.random.pick(&[600, 601, 1000, 1500])],
@@ -1195,7 +1376,7 @@ impl Generator<'_> {
     }
 
     fn rule_text(&mut self) -> Vec<u8> {
-        let mut text = Vec::new();
+        let mut text = Vec::with_capacity(500);
         let lines = 1 + self.random.below(6);
         for _ in 0..lines {
             let line = self.rule_line();
@@ -1210,14 +1391,14 @@ impl Generator<'_> {
 
     /// A write of these fields: mostly as it is, sometimes spoilt, or with blanks
     /// to one of these lengths.
-    fn write_of(&mut self, mut fields: Vec<Vec<u8>>, lengths: &[usize]) -> Vec<u8> {
+    fn write_of(&mut self, mut fields: Fields, lengths: &[usize]) -> Vec<u8> {
         if self.random.chance(5) {
             fields.pop();
         }
         if self.random.chance(4) {
             fields.push(self.label());
         }
-        let mut text = self.join(&fields);
+        let mut text = self.join(fields.iter());
         if self.random.chance(5) {
             text = self.pad(text, lengths);
         }
@@ -1238,16 +1419,17 @@ impl Generator<'_> {
         text
     }
 
-    fn digits(&mut self, usual: &[&str]) -> Vec<u8> {
-        let odd = [
+    /// One of these numbers, or now and then an odd one.
+    fn digits(&mut self, usual: &[&'static str]) -> &'static str {
+        const ODD: [&str; 31] = [
             "0", "00", "000", "0000", "0001", "001", "63", "063", "64", "65", "128", "129", "183",
             "184", "0184", "185", "186", "192", "193", "255", "256", "999", "1000", "+1", "-1",
             "-", "1a", "a", "1.", "\n", "1\r",
         ];
         if self.random.chance(10) {
-            return self.random.pick(&odd).as_bytes().to_vec();
+            return self.random.pick(&ODD);
         }
-        self.random.pick(usual).as_bytes().to_vec()
+        self.random.pick(usual)
     }
 
     // -----------------------------------------------------------------------
@@ -1265,7 +1447,7 @@ impl Generator<'_> {
     fn any_call(&mut self) {
         match self.random.below(122) {
             0..=21 => self.piece_call(),
-            22..=26 => self.emit("end"),
+            22..=26 => self.emit(Call::End),
             27..=35 => self.change_call(),
             36..=40 => self.revoke_call(),
             41..=46 => self.override_call(),
@@ -1282,21 +1464,21 @@ impl Generator<'_> {
             108..=112 => self.read_option_call(),
             113 => self.map_near_250(),
             114..=117 => self.new_object_call(),
-            _ => self.emit("dump"),
+            _ => self.emit(Call::Dump),
         }
         self.some_dump();
     }
 
     fn some_dump(&mut self) {
         if self.random.chance(25) {
-            self.emit("dump");
+            self.emit(Call::Dump);
         }
     }
 
     /// One call of each kind.
     fn every_call(&mut self) {
         self.piece_call();
-        self.emit("end");
+        self.emit(Call::End);
         self.change_call();
         self.revoke_call();
         self.override_call();
@@ -1312,15 +1494,25 @@ impl Generator<'_> {
         self.write_option_call();
         self.read_option_call();
         self.new_object_call();
-        self.emit("dump");
+        self.emit(Call::Dump);
+    }
+
+    fn set_pending(&mut self, text: Vec<u8>) {
+        self.pending = text;
+        self.handed = 0;
+    }
+
+    fn nothing_pending(&self) -> bool {
+        self.handed == self.pending.len()
     }
 
     /// The next few bytes of the rule text, cut anywhere.
     fn piece_call(&mut self) {
-        if self.pending.is_empty() {
-            self.pending = self.rule_text();
+        if self.nothing_pending() {
+            let text = self.rule_text();
+            self.set_pending(text);
         }
-        let all = self.pending.len();
+        let all = self.pending.len() - self.handed;
         let length = match self.random.below(8) {
             0 => 0,
             1 => 1,
@@ -1328,21 +1520,19 @@ impl Generator<'_> {
             3 | 4 => self.random.below(all as u64 + 1) as usize,
             _ => all,
         };
-        let rest = self.pending.split_off(length.min(all));
-        let piece = write_hex(&self.pending);
-        self.pending = rest;
-        self.emit(&format!("piece {piece}"));
+        let piece = &self.pending[self.handed..][..length.min(all)];
+        self.handed += piece.len();
+        self.emit(Call::Piece(piece.to_vec()));
     }
 
     fn change_call(&mut self) {
-        let fields = vec![
-            self.label(),
-            self.label(),
-            self.change_access(),
-            self.change_access(),
-        ];
+        let mut fields = Fields::new();
+        fields.push(self.label());
+        fields.push(self.label());
+        fields.push(self.change_access());
+        fields.push(self.change_access());
         let write = self.write_of(fields, &LINE_LENGTHS);
-        self.emit(&format!("change {}", write_hex(&write)));
+        self.emit(Call::Change(write));
     }
 
     fn revoke_call(&mut self) {
@@ -1356,83 +1546,92 @@ impl Generator<'_> {
             3..=7 => self.ruling_label(),
             _ => self.label(),
         };
-        self.emit(&format!("revoke {}", write_hex(&write)));
+        self.emit(Call::Revoke(write));
     }
 
     fn override_call(&mut self) {
-        let fields = match self.random.below(12) {
-            0 | 1 => vec![b"-".to_vec()],
+        let mut fields = Fields::new();
+        match self.random.below(12) {
+            0 | 1 => fields.push("-"),
             2 => match self.random.below(3) {
-                0 => vec![b"-".to_vec(), b"-".to_vec()],
-                1 => vec![b"A".to_vec(), b"-".to_vec()],
-                _ => Vec::new(),
+                0 => fields = Fields::from_iter(["-", "-"]),
+                1 => fields = Fields::from_iter(["A", "-"]),
+                _ => {}
             },
             3 => {
                 // Many fields, few labels.
                 let count = self.random.pick(&[20, 100, 290, 300]);
                 let spread = self.random.pick(&[1, 8, 9]);
-                (0..count)
-                    .map(|k| vec![b'a' + (k % spread) as u8])
-                    .collect()
+                for k in 0..count {
+                    fields.push([b'a' + (k % spread) as u8]);
+                }
             }
             4 | 5 => {
                 // Just eight or nine different ones.
                 let count = self.random.pick(&[7, 8, 8, 9, 10]);
-                let mut fields: Vec<Vec<u8>> =
-                    (0..count).map(|k| format!("V{k}").into_bytes()).collect();
-                if self.random.chance(50) {
-                    fields.push(b"V0".to_vec());
+                for k in 0..count {
+                    fields.push(named(b'V', k));
                 }
-                fields
+                if self.random.chance(50) {
+                    fields.push("V0");
+                }
             }
             _ => {
                 let count = 1 + self.random.below(9);
-                (0..count).map(|_| self.label()).collect()
+                for _ in 0..count {
+                    fields.push(self.label());
+                }
             }
         };
         let write = if self.random.chance(80) {
-            self.join(&fields)
+            self.join(fields.iter())
         } else {
             self.write_of(fields, &LINE_LENGTHS)
         };
-        self.emit(&format!("override {}", write_hex(&write)));
+        self.emit(Call::Override(write));
     }
 
     /// A category of any word, often at an edge; sometimes no category.
-    fn category(&mut self) -> Vec<u8> {
+    fn add_category(&mut self, fields: &mut Fields) {
         match self.random.below(3) {
-            0 => self.digits(&["1", "2", "62", "63", "5", "05"]),
-            1 => self.random.pick(&EDGES).to_string().into_bytes(),
-            _ => self.digits(&["64", "65", "100", "128", "129", "183", "184", "079"]),
+            0 => fields.push(self.digits(&["1", "2", "62", "63", "5", "05"])),
+            1 => fields.push_number(self.random.pick(&EDGES), 0),
+            _ => {
+                let usual = ["64", "65", "100", "128", "129", "183", "184", "079"];
+                fields.push(self.digits(&usual));
+            }
         }
     }
 
     fn mapping_call(&mut self) {
-        let mut fields = vec![self.label(), self.digits(&["0", "9", "255", "7"])];
+        let mut fields = Fields::new();
+        fields.push(self.label());
+        fields.push(self.digits(&["0", "9", "255", "7"]));
         let count = match self.random.below(10) {
             0 => self.random.pick(&[20, 63, 100, 184, 250]),
             _ => self.random.below(4),
         };
         for _ in 0..count {
-            let category = match count {
-                0..=3 => self.category(),
-                _ => (1 + self.random.below(184)).to_string().into_bytes(),
-            };
-            fields.push(category);
+            match count {
+                0..=3 => self.add_category(&mut fields),
+                _ => fields.push_number(1 + self.random.below(184), 0),
+            }
         }
         let write = self.write_of(fields, &MAPPING_LENGTHS);
-        self.emit(&format!("mapping {}", write_hex(&write)));
+        self.emit(Call::Mapping(write));
     }
 
     /// A mapping write at level 250, or just beside it.
     fn map_near_250(&mut self) {
         let level = self.random.pick(&["249", "250", "250", "251"]);
-        let mut fields = vec![self.label(), level.as_bytes().to_vec()];
+        let mut fields = Fields::new();
+        fields.push(self.label());
+        fields.push(level);
         for _ in 0..self.random.below(3) {
-            fields.push(self.category());
+            self.add_category(&mut fields);
         }
         let write = self.write_of(fields, &MAPPING_LENGTHS);
-        self.emit(&format!("mapping {}", write_hex(&write)));
+        self.emit(Call::Mapping(write));
     }
 
     fn by_label_call(&mut self) {
@@ -1446,14 +1645,14 @@ impl Generator<'_> {
             3..=7 => self.mapped_label(),
             _ => self.label(),
         };
-        self.emit(&format!("bylabel {}", write_hex(&label)));
+        self.emit(Call::ByLabel(label));
     }
 
     /// A level and a set: of a stored mapping, or near one, or any.
     fn level_and_set(&mut self) -> (u64, Words) {
         let mut level = self.random.pick(&[0, 7, 8, 9, 250, 255]);
         let mut set = self.few_categories();
-        if let Some(table) = self.table() {
+        if let Some(table) = self.machine.table() {
             if !table.mappings.is_empty() && self.random.chance(60) {
                 let at = self.random.below(table.mappings.len() as u64) as usize;
                 level = u64::from(table.mappings[at].level);
@@ -1542,7 +1741,7 @@ impl Generator<'_> {
 
     fn by_level_call(&mut self) {
         let (level, set) = self.level_and_set();
-        self.emit(&format!("bylevel {level} {}", write_set(&set)));
+        self.emit(Call::ByLevel { level, set });
     }
 
     fn run_call(&mut self) {
@@ -1558,7 +1757,7 @@ impl Generator<'_> {
     /// A run of so many records; of each its level and its set are, this often of
     /// a hundred, those that are sought.
     fn emit_run(&mut self, level: u64, set: Words, count: u64, percent: u64) {
-        let mut call = format!("run {level} {}", write_set(&set));
+        let mut records = Vec::with_capacity(count as usize);
         for _ in 0..count {
             let label = self
                 .random
@@ -1578,12 +1777,17 @@ impl Generator<'_> {
                     _ => record_set = self.near_set(set),
                 }
             }
-            call.push_str(&format!(
-                " {label},{record_level},{}",
-                write_set(&record_set)
-            ));
+            records.push(Record {
+                label,
+                level: record_level,
+                set: record_set,
+            });
         }
-        self.emit(&call);
+        self.emit(Call::Run {
+            level,
+            set,
+            records,
+        });
     }
 
     fn question_call(&mut self) {
@@ -1604,23 +1808,23 @@ impl Generator<'_> {
             object = subject.clone();
         }
         let request = self.request();
-        self.emit_question(&subject, &object, &request);
+        self.emit_question(subject, object, request);
     }
 
-    fn emit_question(&mut self, subject: &[u8], object: &[u8], request: &[u8]) {
-        let capability = self.random.below(2);
-        self.emit(&format!(
-            "question {} {} {} {capability}",
-            write_hex(subject),
-            write_hex(object),
-            write_hex(request)
-        ));
+    fn emit_question(&mut self, subject: Vec<u8>, object: Vec<u8>, request: Vec<u8>) {
+        let capable = self.random.below(2) == 1;
+        self.emit(Call::Question {
+            subject,
+            object,
+            request,
+            capable,
+        });
     }
 
     fn list_call(&mut self) {
         let mut k = self.random.pick(&[0, 1, 255, 256, 257, 1 << 32, u64::MAX]);
         let mut length = self.random.below(60);
-        if let Some(table) = self.table() {
+        if let Some(table) = self.machine.table() {
             if self.random.chance(85) {
                 k = self.random.below(table.rules.len() as u64 + 2);
             }
@@ -1635,18 +1839,18 @@ impl Generator<'_> {
                 };
             }
         }
-        let buffer: Vec<u8> = (0..length).map(|_| self.random.byte()).collect();
-        self.emit(&format!("list {k} {}", write_hex(&buffer)));
+        let output = self.random.bytes(length as usize);
+        self.emit(Call::List { k, output });
     }
 
     fn label_call(&mut self) {
         let mut k = self.random.pick(&[0, 4, 5, 63, 64, 256, 1 << 32, u64::MAX]);
-        if let Some(table) = self.table() {
+        if let Some(table) = self.machine.table() {
             if self.random.chance(75) {
                 k = self.random.below(table.labels.len() as u64 + 2);
             }
         }
-        self.emit(&format!("label {k}"));
+        self.emit(Call::Label { k });
     }
 
     // -----------------------------------------------------------------------
@@ -1716,13 +1920,13 @@ impl Generator<'_> {
             self.pending.extend_from_slice(&line);
             self.pending.push(b'\n');
         }
-        while !self.pending.is_empty() && self.left > 0 {
+        while !self.nothing_pending() && self.left > 0 {
             self.piece_call();
             if self.random.chance(10) {
                 self.change_call();
             }
         }
-        self.emit("end");
+        self.emit(Call::End);
     }
 
     /// A table that need not have been grown: labels of the family, some of them
@@ -1745,9 +1949,9 @@ impl Generator<'_> {
                 bytes.truncate(raw::PLACE);
             }
             let at = place as usize * raw::PLACE;
-            self.emit(&format!("poke labels {at} {}", write_hex(&bytes)));
+            self.poke_labels(at, bytes);
         }
-        self.emit(&format!("poke words {} {labels}", raw::LABEL_COUNT));
+        self.poke_words(raw::LABEL_COUNT, labels);
         if labels == 0 {
             return;
         }
@@ -1771,15 +1975,15 @@ impl Generator<'_> {
                 }
             }
             if !bytes.is_empty() {
-                self.emit(&format!("poke entries {row} {}", write_hex(&bytes)));
+                self.poke_entries(row, bytes);
             }
         }
-        self.emit(&format!("poke words {} {rules}", raw::RULE_COUNT));
+        self.poke_words(raw::RULE_COUNT, rules);
         let overrides = self.random.pick(&[0, 0, 1, 2, 8]);
         let bytes: Vec<u8> = (0..8).map(|_| self.random.below(labels) as u8).collect();
         let at = raw::OVERRIDES;
-        self.emit(&format!("poke entries {at} {}", write_hex(&bytes)));
-        self.emit(&format!("poke words {} {overrides}", raw::OVERRIDE_COUNT));
+        self.poke_entries(at, bytes);
+        self.poke_words(raw::OVERRIDE_COUNT, overrides);
     }
 
     /// A label of the family or of the table, or near one of them, or a mark.
@@ -1805,7 +2009,7 @@ impl Generator<'_> {
         };
         let mut request = match self.random.below(30) {
             0 => self.request(),
-            _ => self.letters(b"rwxaRWXA", 2),
+            _ => self.random.letters(b"rwxaRWXA", 2),
         };
         // Often a pair that has a rule, or one that is near it, and a letter that
         // the rule has.
@@ -1814,7 +2018,7 @@ impl Generator<'_> {
                 (subject, object) = (one, other);
                 let held = requests_of(modes);
                 if !held.is_empty() && self.random.chance(80) {
-                    request = self.letters(&held, 2);
+                    request = self.random.letters(&held, 2);
                 }
                 match self.random.below(12) {
                     0 => subject = self.near_label(&subject),
@@ -1824,7 +2028,7 @@ impl Generator<'_> {
                 }
             }
         }
-        self.emit_question(&subject, &object, &request);
+        self.emit_question(subject, object, request);
     }
 
     /// A question, or now and then another call that seeks a label.
@@ -1833,7 +2037,7 @@ impl Generator<'_> {
             0..=27 => self.search_question(),
             28..=30 => self.change_call(),
             31..=33 => self.piece_call(),
-            34 => self.emit("end"),
+            34 => self.emit(Call::End),
             35 => self.revoke_call(),
             36 => self.override_call(),
             37 => match self.random.below(2) {
@@ -1844,7 +2048,7 @@ impl Generator<'_> {
             _ => self.label_call(),
         }
         if self.random.chance(5) {
-            self.emit("dump");
+            self.emit(Call::Dump);
         }
     }
 
@@ -1948,28 +2152,30 @@ impl Generator<'_> {
         (subject, object)
     }
 
-    fn some_blanks(&mut self, counts: &[u64]) -> Vec<u8> {
-        let count = self.random.pick(counts);
-        (0..count).map(|_| self.random.pick(b" \t")).collect()
+    fn add_some_blanks(&mut self, text: &mut Vec<u8>, counts: &[u64]) {
+        for _ in 0..self.random.pick(counts) {
+            text.push(self.random.pick(b" \t"));
+        }
     }
 
     /// Fields with more blanks before and between than `join` has. Now and then a
     /// field too few or too many, or a text of one of these lengths.
-    fn spread(&mut self, mut fields: Vec<Vec<u8>>, lengths: &[usize]) -> Vec<u8> {
+    fn spread(&mut self, mut fields: Fields, lengths: &[usize]) -> Vec<u8> {
         if self.random.chance(4) {
             fields.pop();
         }
         if self.random.chance(4) {
             fields.push(self.label());
         }
-        let mut text = self.some_blanks(&[0, 0, 0, 1, 2, 3, 9]);
+        let mut text = Vec::with_capacity(500);
+        self.add_some_blanks(&mut text, &[0, 0, 0, 1, 2, 3, 9]);
         for (k, field) in fields.iter().enumerate() {
             if k > 0 {
-                text.extend(self.some_blanks(&[1, 1, 1, 1, 2, 3, 20]));
+                self.add_some_blanks(&mut text, &[1, 1, 1, 1, 2, 3, 20]);
             }
             text.extend_from_slice(field);
         }
-        text.extend(self.some_blanks(&[0, 0, 0, 1, 3]));
+        self.add_some_blanks(&mut text, &[0, 0, 0, 1, 3]);
         if self.random.chance(10) {
             text = self.pad(text, lengths);
         }
@@ -1979,13 +2185,13 @@ impl Generator<'_> {
     fn place_line(&mut self) -> Vec<u8> {
         let (subject, object) = self.place_pair();
         let access = self.any_access();
-        self.spread(vec![subject, object, access], &LINE_LENGTHS)
+        self.spread(Fields::from_iter([subject, object, access]), &LINE_LENGTHS)
     }
 
     /// A few lines; that they are few lets each of them be the first that is
     /// refused.
     fn place_text(&mut self) -> Vec<u8> {
-        let mut text = Vec::new();
+        let mut text = Vec::with_capacity(500);
         for _ in 0..1 + self.random.below(4) {
             let line = match self.random.below(6) {
                 0 => self.rule_line(),
@@ -2013,35 +2219,38 @@ impl Generator<'_> {
     fn place_call(&mut self) {
         match self.random.below(64) {
             0..=19 => {
-                if self.pending.is_empty() {
+                if self.nothing_pending() {
                     // Often the text before ends here.
                     if self.random.chance(60) {
-                        self.emit("end");
+                        self.emit(Call::End);
                     }
                     if self.random.chance(10) {
                         self.poke_first_refused();
                     }
-                    self.pending = self.place_text();
+                    let text = self.place_text();
+                    self.set_pending(text);
                 }
                 self.piece_call();
             }
-            20 | 21 => self.emit("end"),
+            20 | 21 => self.emit(Call::End),
             22..=29 => {
                 let (subject, object) = self.place_pair();
-                let fields = vec![subject, object, self.change_access(), self.change_access()];
+                let mut fields = Fields::from_iter([subject, object]);
+                fields.push(self.change_access());
+                fields.push(self.change_access());
                 let write = self.spread(fields, &LINE_LENGTHS);
-                self.emit(&format!("change {}", write_hex(&write)));
+                self.emit(Call::Change(write));
             }
             30..=34 => {
                 let label = match self.random.below(6) {
                     0 => self.ruling_label(),
                     _ => self.place_label(),
                 };
-                self.emit(&format!("revoke {}", write_hex(&label)));
+                self.emit(Call::Revoke(label));
             }
             35..=40 => {
                 let count = self.random.pick(&[1, 1, 2, 3, 5, 8, 9, 12]);
-                let mut fields: Vec<Vec<u8>> = Vec::new();
+                let mut fields = Fields::new();
                 for _ in 0..count {
                     let used: usize = fields.iter().map(|field| field.len() + 2).sum();
                     let mut field = match self.random.below(10) {
@@ -2055,7 +2264,7 @@ impl Generator<'_> {
                     fields.push(field);
                 }
                 let write = self.spread(fields, &LINE_LENGTHS);
-                self.emit(&format!("override {}", write_hex(&write)));
+                self.emit(Call::Override(write));
             }
             41..=46 => {
                 let label = match self.random.below(5) {
@@ -2073,19 +2282,21 @@ impl Generator<'_> {
                     _ => self.label(),
                 };
                 let level = self.digits(&["0", "9", "255"]);
-                let mut fields = vec![label, level];
+                let mut fields = Fields::new();
+                fields.push(label);
+                fields.push(level);
                 for _ in 0..self.random.below(3) {
                     fields.push(self.digits(&["1", "5", "63", "64", "100", "184"]));
                 }
                 let write = self.spread(fields, &MAPPING_LENGTHS);
-                self.emit(&format!("mapping {}", write_hex(&write)));
+                self.emit(Call::Mapping(write));
             }
             47..=51 => {
                 let label = match self.random.below(6) {
                     0 => self.mapped_label(),
                     _ => self.place_label(),
                 };
-                self.emit(&format!("bylabel {}", write_hex(&label)));
+                self.emit(Call::ByLabel(label));
             }
             52..=60 => {
                 let (mut subject, mut object) = self.place_pair();
@@ -2096,19 +2307,19 @@ impl Generator<'_> {
                     _ => {}
                 }
                 let request = self.request();
-                self.emit_question(&subject, &object, &request);
+                self.emit_question(subject, object, request);
             }
             // These tell no place.
             61 => {
                 let line = self.place_line();
                 let output = self.output(None);
-                self.emit_line(&line, &output);
+                self.emit_line(line, output);
             }
             62 => self.record_call(),
-            _ => self.emit("dump"),
+            _ => self.emit(Call::Dump),
         }
         if self.random.chance(8) {
-            self.emit("dump");
+            self.emit(Call::Dump);
         }
     }
 
@@ -2140,10 +2351,10 @@ impl Generator<'_> {
         self.sets[at]
     }
 
-    /// The categories of a set as fields, in some order, some of them with leading
-    /// zeros and some twice.
-    fn written_categories(&mut self, set: Words) -> Vec<Vec<u8>> {
-        let mut fields = Vec::new();
+    /// The categories of a set, in some order, some of them with leading zeros up to a
+    /// width, and some twice.
+    fn written_categories(&mut self, set: Words) -> Vec<(u64, usize)> {
+        let mut written = Vec::with_capacity(64);
         let (zeros, repeats) = (
             self.random.pick(&[0, 20, 100]),
             self.random.pick(&[0, 0, 30]),
@@ -2159,20 +2370,20 @@ impl Generator<'_> {
                     true => self.random.pick(&[2, 3, 3]),
                     false => 0,
                 };
-                fields.push(format!("{n:0width$}").into_bytes());
+                written.push((n, width));
             }
         }
         match self.random.below(3) {
             0 => {}
-            1 => fields.reverse(),
+            1 => written.reverse(),
             _ => {
-                for k in (1..fields.len()).rev() {
+                for k in (1..written.len()).rev() {
                     let other = self.random.below(k as u64 + 1) as usize;
-                    fields.swap(k, other);
+                    written.swap(k, other);
                 }
             }
         }
-        fields
+        written
     }
 
     /// A mapping write of a set of the family, or one at a limit.
@@ -2185,24 +2396,47 @@ impl Generator<'_> {
         };
         let level = match self.random.below(12) {
             0 => self.digits(&["0", "9", "255"]),
-            1 => b"8".to_vec(),
-            _ => b"9".to_vec(),
+            1 => "8",
+            _ => "9",
         };
-        let mut fields = vec![label, level];
         let set = self.family_set();
-        fields.extend(self.written_categories(set));
+        let mut categories = self.written_categories(set);
         if self.random.chance(15) {
-            let odd = [
-                "0", "00", "000", "1", "63", "64", "65", "127", "128", "129", "183", "184", "0184",
-                "185", "186", "192", "193", "255", "256", "999", "1000",
-            ];
-            let category = self.random.pick(&odd).as_bytes().to_vec();
-            let at = 2 + self.random.below(fields.len() as u64 - 1) as usize;
-            fields.insert(at, category);
+            let odd = self.random.pick(&[
+                (0, 0),
+                (0, 2),
+                (0, 3),
+                (1, 0),
+                (63, 0),
+                (64, 0),
+                (65, 0),
+                (127, 0),
+                (128, 0),
+                (129, 0),
+                (183, 0),
+                (184, 0),
+                (184, 4),
+                (185, 0),
+                (186, 0),
+                (192, 0),
+                (193, 0),
+                (255, 0),
+                (256, 0),
+                (999, 0),
+                (1000, 0),
+            ]);
+            let at = self.random.below(categories.len() as u64 + 1) as usize;
+            categories.insert(at, odd);
+        }
+        let mut fields = Fields::new();
+        fields.push(label);
+        fields.push(level);
+        for (category, width) in categories {
+            fields.push_number(category, width);
         }
         let mut write = match self.random.chance(60) {
-            true => fields.join(&b' '),
-            false => self.join(&fields),
+            true => fields.spaced(),
+            false => self.join(fields.iter()),
         };
         if self.random.chance(25) {
             let target = self.random.pick(&[600, 601, 999, 1000, 1000, 1001]);
@@ -2212,13 +2446,14 @@ impl Generator<'_> {
                     // More categories instead of blanks.
                     while write.len() < target {
                         let more = 1 + self.random.below(plain::HIGHEST_CATEGORY);
-                        write.extend_from_slice(format!(" {more}").as_bytes());
+                        write.push(b' ');
+                        add_number(&mut write, more, 0);
                     }
                     write.truncate(target);
                 }
             }
         }
-        self.emit(&format!("mapping {}", write_hex(&write)));
+        self.emit(Call::Mapping(write));
     }
 
     /// Mappings that need not have been written: sets of the family for stored
@@ -2227,7 +2462,7 @@ impl Generator<'_> {
     fn lend_mappings(&mut self) {
         let labels = self.random.pick(&[5, 8, 20, 40, 64]);
         self.fill_labels_to(labels);
-        let labels = self.machine.state.words[raw::LABEL_COUNT];
+        let labels = self.machine.state().words[raw::LABEL_COUNT];
         let count = self.random.pick(&[1, 2, 3, 8, 31, 32, 32]);
         let places = (count + self.random.pick(&[0, 1, 8])).min(32);
         let twice = self.random.chance(30);
@@ -2241,24 +2476,22 @@ impl Generator<'_> {
             if place as u64 >= count && self.random.chance(50) {
                 self.stray(&mut set);
             }
-            let (at, value) = (raw::MAPPING_LABELS + place, write_hex(&[label as u8]));
-            self.emit(&format!("poke entries {at} {value}"));
-            let (at, value) = (raw::LEVELS + place, write_hex(&[level]));
-            self.emit(&format!("poke entries {at} {value}"));
+            self.poke_entries(raw::MAPPING_LABELS + place, [label as u8]);
+            self.poke_entries(raw::LEVELS + place, [level]);
             for (row, word) in raw::SETS.iter().zip(set) {
                 let index = row + place;
-                self.emit(&format!("poke words {index} {word}"));
+                self.poke_words(index, word);
             }
         }
-        self.emit(&format!("poke words {} {count}", raw::MAPPING_COUNT));
+        self.poke_words(raw::MAPPING_COUNT, count);
     }
 
     /// Mapping writes, look-ups both ways and runs over sets that are hard to tell
     /// apart, in a table that is fresh, grown, lent, full or damaged.
     fn categories_episode(&mut self) {
-        self.emit("fresh");
-        self.emit("freshloader");
-        self.pending.clear();
+        self.emit(Call::Fresh);
+        self.emit(Call::FreshLoader);
+        self.set_pending(Vec::new());
         self.make_pool();
         self.make_sets();
         self.new_percent = 5;
@@ -2281,11 +2514,11 @@ impl Generator<'_> {
                 self.damage_and_mend(Self::damage_set, Self::category_call, 4);
             }
         }
-        self.emit("dump");
+        self.emit(Call::Dump);
         for _ in 0..20 + self.random.below(40) {
             self.category_call();
         }
-        self.emit("dump");
+        self.emit(Call::Dump);
     }
 
     /// A level and a set to seek: of the family, of the table, or near one.
@@ -2308,11 +2541,11 @@ impl Generator<'_> {
             13 | 14 => self.mapping_call(),
             15..=20 => {
                 let label = self.mapped_label();
-                self.emit(&format!("bylabel {}", write_hex(&label)));
+                self.emit(Call::ByLabel(label));
             }
             21..=27 => {
                 let (level, set) = self.sought();
-                self.emit(&format!("bylevel {level} {}", write_set(&set)));
+                self.emit(Call::ByLevel { level, set });
             }
             28..=36 => {
                 let (level, set) = self.sought();
@@ -2321,10 +2554,10 @@ impl Generator<'_> {
                 self.emit_run(level, set, count, percent);
             }
             37 => self.any_call(),
-            _ => self.emit("dump"),
+            _ => self.emit(Call::Dump),
         }
         if self.random.chance(8) {
-            self.emit("dump");
+            self.emit(Call::Dump);
         }
     }
 
@@ -2334,7 +2567,7 @@ impl Generator<'_> {
 
     /// A well-formed label of this many bytes.
     fn label_of_length(&mut self, length: u64) -> Vec<u8> {
-        let mut label = Vec::new();
+        let mut label = Vec::with_capacity(length as usize);
         while (label.len() as u64) < length {
             let byte = 33 + self.random.below(94) as u8;
             let is_first_dash = label.is_empty() && byte == b'-';
@@ -2441,7 +2674,7 @@ impl Generator<'_> {
     /// A record with no, one or two things wrong.
     fn record(&mut self) -> Vec<u8> {
         if self.random.chance(2) {
-            return self.random_bytes(60);
+            return self.random.bytes_up_to(60);
         }
         let mut record = self.good_record();
         let faults = self.random.pick(&[0, 0, 0, 0, 1, 1, 1, 2]);
@@ -2453,7 +2686,7 @@ impl Generator<'_> {
 
     /// Letters that a record has a place for, and placeholders.
     fn fixed_access(&mut self) -> Vec<u8> {
-        self.letters(b"rwxatRWXAT-bB", 6)
+        self.random.letters(b"rwxatRWXAT-bB", 6)
     }
 
     /// A line that is accepted where the output has room.
@@ -2491,9 +2724,8 @@ impl Generator<'_> {
             19 => self.rule_text(),
             _ => self.rule_line(),
         };
-        for _ in 0..self.random.pick(&[0, 0, 0, 1, 1, 1, 1, 2]) {
-            line.push(b'\n');
-        }
+        let newlines = self.random.pick(&[0, 0, 0, 1, 1, 1, 1, 2]);
+        line.resize(line.len() + newlines, b'\n');
         if self.random.chance(5) && !line.is_empty() {
             let at = self.random.below(line.len() as u64) as usize;
             line[at] = match self.random.below(2) {
@@ -2517,23 +2749,17 @@ impl Generator<'_> {
             (None, 1..=14) => self.random.pick(&[1, 7, 13, 52, 53, 53, 54, 60]),
             _ => self.random.pick(&[255, 517, 518, 519, 600, 601]),
         };
-        (0..length).map(|_| self.random.byte()).collect()
+        self.random.bytes(length)
     }
 
-    fn emit_record(&mut self, record: &[u8], output: &[u8]) {
-        self.emit(&format!(
-            "recordtoline {} {}",
-            write_hex(record),
-            write_hex(output)
-        ));
+    fn emit_record(&mut self, record: impl Into<Vec<u8>>, output: Vec<u8>) {
+        let record = record.into();
+        self.emit(Call::RecordToLine { record, output });
     }
 
-    fn emit_line(&mut self, line: &[u8], output: &[u8]) {
-        self.emit(&format!(
-            "linetorecord {} {}",
-            write_hex(line),
-            write_hex(output)
-        ));
+    fn emit_line(&mut self, line: impl Into<Vec<u8>>, output: Vec<u8>) {
+        let line = line.into();
+        self.emit(Call::LineToRecord { line, output });
     }
 
     /// A record turned into its line; often that line back, and then once more.
@@ -2542,16 +2768,16 @@ impl Generator<'_> {
         let mut line = [0; 600];
         let written = plain::record_to_line(&record, &mut line).ok();
         let output = self.output(written);
-        self.emit_record(&record, &output);
+        self.emit_record(record, output);
         let Some(length) = written else { return };
         if self.random.chance(40) {
             let output = self.output(Some(plain::FIXED_RECORD));
-            self.emit_line(&line[..length], &output);
+            self.emit_line(&line[..length], output);
             let mut again = [0; plain::FIXED_RECORD];
             let back = plain::line_to_record(&line[..length], &mut again);
             if back.is_ok() && self.random.chance(30) {
                 let output = self.output(Some(length));
-                self.emit_record(&again, &output);
+                self.emit_record(again, output);
             }
         }
     }
@@ -2559,19 +2785,19 @@ impl Generator<'_> {
     /// A line turned into its record; now and then that record back.
     fn line_call(&mut self) {
         let line = self.fixed_line();
-        self.turn_line(&line);
+        self.turn_line(line);
     }
 
-    fn turn_line(&mut self, line: &[u8]) {
+    fn turn_line(&mut self, line: Vec<u8>) {
         let mut record = [0; plain::FIXED_RECORD];
-        let written = plain::line_to_record(line, &mut record).ok();
+        let written = plain::line_to_record(&line, &mut record).ok();
         let output = self.output(written);
-        self.emit_line(line, &output);
+        self.emit_line(line, output);
         if written.is_some() && self.random.chance(20) {
             let mut space = [0; 600];
             let length = plain::record_to_line(&record, &mut space).ok();
             let output = self.output(length);
-            self.emit_record(&record, &output);
+            self.emit_record(record, output);
         }
     }
 
@@ -2582,9 +2808,9 @@ impl Generator<'_> {
     /// Lines with b, and what stands beside it, in a table that is fresh, used, full,
     /// lent or damaged.
     fn bringup_episode(&mut self) {
-        self.emit("fresh");
-        self.emit("freshloader");
-        self.pending.clear();
+        self.emit(Call::Fresh);
+        self.emit(Call::FreshLoader);
+        self.set_pending(Vec::new());
         self.make_pool();
         for name in ["b", "B", "bB", "rb"] {
             self.pool.push(name.as_bytes().to_vec());
@@ -2603,9 +2829,7 @@ impl Generator<'_> {
             }
             7 => {
                 self.lend_family();
-                if let Some(table) = self.table() {
-                    self.fill_unused(&table);
-                }
+                self.fill_unused();
             }
             _ => {
                 match self.random.below(3) {
@@ -2619,12 +2843,12 @@ impl Generator<'_> {
                 self.damage_and_mend(Self::damage_modes, Self::bringup_call, 6);
             }
         }
-        self.emit("dump");
+        self.emit(Call::Dump);
         for _ in 0..30 + self.random.below(50) {
             self.bringup_call();
         }
-        self.emit("end");
-        self.emit("dump");
+        self.emit(Call::End);
+        self.emit(Call::Dump);
     }
 
     /// Good letters and dashes, then b or B anywhere among them, then now and then a
@@ -2633,7 +2857,7 @@ impl Generator<'_> {
         let mut field = match self.random.below(6) {
             0 => Vec::new(),
             1 => vec![b'-'; self.random.pick(&[1, 2, 5])],
-            _ => self.letters(b"rwxatRWXAT--", 6),
+            _ => self.random.letters(b"rwxatRWXAT--", 6),
         };
         let with_b = self.random.pick(&[0, 1, 1, 1, 1, 2, 3]);
         for _ in 0..with_b {
@@ -2703,7 +2927,7 @@ impl Generator<'_> {
     }
 
     fn bringup_text(&mut self) -> Vec<u8> {
-        let mut text = Vec::new();
+        let mut text = Vec::with_capacity(500);
         for _ in 0..1 + self.random.below(6) {
             text.extend(self.bringup_line());
             text.push(b'\n');
@@ -2718,10 +2942,10 @@ impl Generator<'_> {
     /// accepted ones.
     fn poke_bringup(&mut self) {
         let value = self.near_saturation();
-        self.emit(&format!("poke loader {} {value}", raw::BRINGUP));
+        self.poke_number(raw::BRINGUP, value);
         if self.random.chance(30) {
             let value = self.near_saturation();
-            self.emit(&format!("poke loader {} {value}", raw::ACCEPTED));
+            self.poke_number(raw::ACCEPTED, value);
         }
     }
 
@@ -2736,12 +2960,12 @@ impl Generator<'_> {
         for _ in 0..2 {
             let access = match self.random.below(3) {
                 0 => self.bringup_access(),
-                _ => self.letters(b"rwxatRWXAT-", 4),
+                _ => self.random.letters(b"rwxatRWXAT-", 4),
             };
             fields.push(access);
         }
         let write = self.join(&fields);
-        self.emit(&format!("change {}", write_hex(&write)));
+        self.emit(Call::Change(write));
     }
 
     /// A question about a pair that has a rule, or any; now and then the request has
@@ -2753,8 +2977,8 @@ impl Generator<'_> {
         };
         let held = requests_of(modes);
         let mut request = match !held.is_empty() && self.random.chance(60) {
-            true => self.letters(&held, 3),
-            false => self.letters(b"rwxaRWXA", 2),
+            true => self.random.letters(&held, 3),
+            false => self.random.letters(b"rwxaRWXA", 2),
         };
         if self.random.chance(20) {
             let at = self.random.below(request.len() as u64 + 1) as usize;
@@ -2763,7 +2987,7 @@ impl Generator<'_> {
         if self.random.chance(4) {
             request = vec![self.random.pick(b"bB-t")];
         }
-        self.emit_question(&subject, &object, &request);
+        self.emit_question(subject, object, request);
     }
 
     /// A record made of a line with the letter: of a pair that has a rule, of two
@@ -2784,7 +3008,7 @@ impl Generator<'_> {
         if self.random.chance(50) {
             line.push(b'\n');
         }
-        self.turn_line(&line);
+        self.turn_line(line);
     }
 
     /// A record that has the letter as an access byte, which is refused.
@@ -2793,24 +3017,25 @@ impl Generator<'_> {
         let at = 2 * plain::FIXED_PLACE + self.random.below(5) as usize;
         record[at] = self.random.pick(b"bB");
         let output = self.output(None);
-        self.emit_record(&record, &output);
+        self.emit_record(record, output);
     }
 
     fn bringup_call(&mut self) {
         match self.random.below(64) {
             0..=23 => {
-                if self.pending.is_empty() {
+                if self.nothing_pending() {
                     if self.random.chance(50) {
-                        self.emit("end");
+                        self.emit(Call::End);
                     }
                     if self.random.chance(15) {
                         self.poke_bringup();
                     }
-                    self.pending = self.bringup_text();
+                    let text = self.bringup_text();
+                    self.set_pending(text);
                 }
                 self.piece_call();
             }
-            24..=27 => self.emit("end"),
+            24..=27 => self.emit(Call::End),
             28..=34 => self.bringup_change(),
             35..=43 => self.bringup_question(),
             44..=48 => self.list_call(),
@@ -2819,10 +3044,10 @@ impl Generator<'_> {
             58 => self.bringup_in_record(),
             59 => self.revoke_call(),
             60 | 61 => self.any_call(),
-            _ => self.emit("dump"),
+            _ => self.emit(Call::Dump),
         }
         if self.random.chance(8) {
-            self.emit("dump");
+            self.emit(Call::Dump);
         }
     }
 
@@ -2889,19 +3114,22 @@ impl Generator<'_> {
             1 => self.stored_label(),
             _ => self.pool_label(),
         };
-        let level = match self.random.below(20) {
-            0 => self.digits(&["249", "250", "251", "025", "0250"]),
-            1 => b"250".to_vec(),
-            _ => self.option_level().to_string().into_bytes(),
-        };
+        let mut fields = Fields::new();
+        fields.push(label);
+        match self.random.below(20) {
+            0 => fields.push(self.digits(&["249", "250", "251", "025", "0250"])),
+            1 => fields.push("250"),
+            _ => fields.push_number(u64::from(self.option_level()), 0),
+        }
         let set = self.family_set();
-        let mut fields = vec![label, level];
-        fields.extend(self.written_categories(set));
+        for (category, width) in self.written_categories(set) {
+            fields.push_number(category, width);
+        }
         let write = match self.random.chance(90) {
-            true => fields.join(&b' '),
+            true => fields.spaced(),
             false => self.write_of(fields, &MAPPING_LENGTHS),
         };
-        self.emit(&format!("mapping {}", write_hex(&write)));
+        self.emit(Call::Mapping(write));
     }
 
     /// A label as it may stand in a lent store: of the pool, so that some are stored
@@ -2937,9 +3165,9 @@ impl Generator<'_> {
                 bytes.truncate(raw::PLACE);
             }
             let at = place as usize * raw::PLACE;
-            self.emit(&format!("poke labels {at} {}", write_hex(&bytes)));
+            self.poke_labels(at, bytes);
         }
-        self.emit(&format!("poke words {} {labels}", raw::LABEL_COUNT));
+        self.poke_words(raw::LABEL_COUNT, labels);
         let count = self.random.pick(&[1, 2, 4, 8, 16, 31, 32]).min(labels + 3);
         let places = (count + self.random.pick(&[0, 1, 4])).min(32);
         let (mut numbers, mut levels) = (Vec::new(), Vec::new());
@@ -2952,24 +3180,22 @@ impl Generator<'_> {
             let set = self.family_set();
             for (row, word) in raw::SETS.iter().zip(set) {
                 let index = row + place;
-                if self.machine.state.words.get(index) != Some(&word) {
-                    self.emit(&format!("poke words {index} {word}"));
+                if self.machine.state().words.get(index) != Some(&word) {
+                    self.poke_words(index, word);
                 }
             }
         }
-        let (at, value) = (raw::MAPPING_LABELS, write_hex(&numbers));
-        self.emit(&format!("poke entries {at} {value}"));
-        let (at, value) = (raw::LEVELS, write_hex(&levels));
-        self.emit(&format!("poke entries {at} {value}"));
-        self.emit(&format!("poke words {} {count}", raw::MAPPING_COUNT));
+        self.poke_entries(raw::MAPPING_LABELS, numbers);
+        self.poke_entries(raw::LEVELS, levels);
+        self.poke_words(raw::MAPPING_COUNT, count);
     }
 
     /// Options written and read, in a table that is fresh, grown, lent, full or
     /// damaged.
     fn options_episode(&mut self) {
-        self.emit("fresh");
-        self.emit("freshloader");
-        self.pending.clear();
+        self.emit(Call::Fresh);
+        self.emit(Call::FreshLoader);
+        self.set_pending(Vec::new());
         self.make_option_pool();
         self.make_option_sets();
         self.new_percent = 5;
@@ -2992,11 +3218,11 @@ impl Generator<'_> {
                 self.damage_and_mend(Self::damage, Self::option_call, 6);
             }
         }
-        self.emit("dump");
+        self.emit(Call::Dump);
         for _ in 0..40 + self.random.below(60) {
             self.option_call();
         }
-        self.emit("dump");
+        self.emit(Call::Dump);
     }
 
     fn option_call(&mut self) {
@@ -3006,15 +3232,15 @@ impl Generator<'_> {
             29..=33 => self.map_option_label(),
             34 => {
                 let label = self.mapped_label();
-                self.emit(&format!("bylabel {}", write_hex(&label)));
+                self.emit(Call::ByLabel(label));
             }
             35 | 36 => self.by_level_call(),
             37 => self.any_call(),
             38 => self.label_call(),
-            _ => self.emit("dump"),
+            _ => self.emit(Call::Dump),
         }
         if self.random.chance(4) {
-            self.emit("dump");
+            self.emit(Call::Dump);
         }
     }
 
@@ -3041,7 +3267,7 @@ impl Generator<'_> {
             },
         };
         let mut space = [0; 40];
-        let written = match self.table() {
+        let written = match self.machine.table() {
             Some(table) => table.write_option(&label, &mut space).ok(),
             None => None,
         };
@@ -3056,29 +3282,26 @@ impl Generator<'_> {
             14 => 40,
             _ => self.random.pick(&[9, 10, 11, 33, 35, 255, 600]),
         };
-        let output: Vec<u8> = (0..length).map(|_| self.random.byte()).collect();
-        self.emit(&format!(
-            "writeoption {} {}",
-            write_hex(&label),
-            write_hex(&output)
-        ));
+        let output = self.random.bytes(length);
+        self.emit(Call::WriteOption { label, output });
         if let Some(length) = written {
             if self.random.chance(30) {
-                self.emit(&format!("readoption {}", write_hex(&space[..length])));
+                let option = space[..length].to_vec();
+                self.emit(Call::ReadOption { option });
             }
         }
     }
 
     fn read_option_call(&mut self) {
         let option = self.option();
-        self.emit(&format!("readoption {}", write_hex(&option)));
+        self.emit(Call::ReadOption { option });
     }
 
     /// An option with no, one or two things about it changed, or bytes that are
     /// none.
     fn option(&mut self) -> Vec<u8> {
         if self.random.chance(6) {
-            return self.random_bytes(60);
+            return self.random.bytes_up_to(60);
         }
         let mut option = self.good_option();
         if self.random.chance(25) {
@@ -3094,7 +3317,7 @@ impl Generator<'_> {
     /// set.
     fn good_option(&mut self) -> Vec<u8> {
         if self.random.chance(50) {
-            if let Some(table) = self.table() {
+            if let Some(table) = self.machine.table() {
                 if !table.mappings.is_empty() {
                     let at = self.random.below(table.mappings.len() as u64) as usize;
                     let mapping = &table.mappings[at];
@@ -3107,7 +3330,7 @@ impl Generator<'_> {
                 0 | 1 => self.fixed_label(),
                 2 => self.bad_label(),
                 3 => self.stored_label(),
-                4 => self.random_bytes(23),
+                4 => self.random.bytes_up_to(23),
                 _ => self.pool_label(),
             };
             label.truncate(plain::OWN_BITS_LIMIT);
@@ -3269,9 +3492,9 @@ impl Generator<'_> {
     /// New objects of few creators in few folders, in a table that is fresh, grown,
     /// lent, full or damaged.
     fn newobjects_episode(&mut self) {
-        self.emit("fresh");
-        self.emit("freshloader");
-        self.pending.clear();
+        self.emit(Call::Fresh);
+        self.emit(Call::FreshLoader);
+        self.set_pending(Vec::new());
         self.make_folder_pool();
         self.new_percent = 3;
         match self.random.below(16) {
@@ -3292,12 +3515,12 @@ impl Generator<'_> {
                 self.damage_and_mend(Self::damage, Self::folder_call, 6);
             }
         }
-        self.emit("dump");
+        self.emit(Call::Dump);
         for _ in 0..40 + self.random.below(60) {
             self.folder_call();
         }
-        self.emit("end");
-        self.emit("dump");
+        self.emit(Call::End);
+        self.emit(Call::Dump);
     }
 
     /// A few labels, so that creators and folders meet often: names, labels that
@@ -3378,7 +3601,7 @@ impl Generator<'_> {
     }
 
     fn folder_text(&mut self) -> Vec<u8> {
-        let mut text = Vec::new();
+        let mut text = Vec::with_capacity(500);
         for _ in 0..1 + self.random.below(4) {
             text.extend(self.folder_line());
             text.push(b'\n');
@@ -3396,22 +3619,23 @@ impl Generator<'_> {
             Some((creator, folder, _)) if self.random.chance(70) => (creator, folder),
             _ => (self.pool_label(), self.pool_label()),
         };
-        let mut allow = self.letters(b"wtWTrxa-", 2);
-        let mut deny = self.letters(b"wtWTrxa-", 2);
+        let mut allow = self.random.letters(b"wtWTrxa-", 2);
+        let mut deny = self.random.letters(b"wtWTrxa-", 2);
         match self.random.below(3) {
             0 => allow = b"-".to_vec(),
             1 => deny = b"-".to_vec(),
             _ => {}
         }
         let write = self.join(&[creator, folder, allow, deny]);
-        self.emit(&format!("change {}", write_hex(&write)));
+        self.emit(Call::Change(write));
     }
 
     /// The rules come in by text in random cuts, and by changes.
     fn grow_folders(&mut self) {
         for _ in 0..self.random.pick(&[2, 4, 8, 12]) {
-            self.pending = self.folder_text();
-            self.pending.push(b'\n');
+            let mut text = self.folder_text();
+            text.push(b'\n');
+            self.set_pending(text);
             self.piece_call();
             if self.random.chance(20) {
                 self.folder_change();
@@ -3443,7 +3667,7 @@ impl Generator<'_> {
         if self.random.chance(12) {
             // Labels that have no rule stand before them.
             while labels.len() < plain::LABEL_PLACES {
-                labels.insert(0, format!("F{}", labels.len()).into_bytes());
+                labels.insert(0, named(b'F', labels.len() as u64));
                 lowest += 1;
             }
         }
@@ -3453,9 +3677,9 @@ impl Generator<'_> {
             store.extend_from_slice(label);
             store.resize(store.len().next_multiple_of(raw::PLACE), 0);
         }
-        self.emit(&format!("poke labels 0 {}", write_hex(&store)));
+        self.poke_labels(0, store);
         let count = labels.len() as u64;
-        self.emit(&format!("poke words {} {count}", raw::LABEL_COUNT));
+        self.poke_words(raw::LABEL_COUNT, count);
         let rules = self.random.pick(&[1, 4, 8, 16, 32, 64, 255, 256]);
         let places = (rules + self.random.pick(&[0, 1, 8])).min(256);
         let mut rows = [Vec::new(), Vec::new(), Vec::new()];
@@ -3474,27 +3698,30 @@ impl Generator<'_> {
             rows[1].push(pair[1]);
             rows[2].push(self.folder_modes());
         }
-        for (at, row) in [raw::SUBJECTS, raw::OBJECTS, raw::MODES].iter().zip(rows) {
-            self.emit(&format!("poke entries {at} {}", write_hex(&row)));
+        for (at, row) in [raw::SUBJECTS, raw::OBJECTS, raw::MODES]
+            .into_iter()
+            .zip(rows)
+        {
+            self.poke_entries(at, row);
         }
-        self.emit(&format!("poke words {} {rules}", raw::RULE_COUNT));
+        self.poke_words(raw::RULE_COUNT, rules);
         let overrides = self.random.pick(&[0, 0, 1, 2, 8]);
         let bytes: Vec<u8> = (0..8).map(|_| self.random.below(count) as u8).collect();
         let at = raw::OVERRIDES;
-        self.emit(&format!("poke entries {at} {}", write_hex(&bytes)));
-        self.emit(&format!("poke words {} {overrides}", raw::OVERRIDE_COUNT));
+        self.poke_entries(at, bytes);
+        self.poke_words(raw::OVERRIDE_COUNT, overrides);
     }
 
     /// The two labels of the last rule, or of the first behind the count where they are
     /// labels.
     fn pair_at_count(&mut self) -> Option<(Vec<u8>, Vec<u8>)> {
-        let table = self.table()?;
+        let table = self.machine.table()?;
         let count = table.rules.len();
         let place = self.random.pick(&[count.saturating_sub(1), count]);
         if place == plain::RULE_PLACES {
             return None;
         }
-        let entries = &self.machine.state.entries;
+        let entries = &self.machine.state().entries;
         let label = |row: usize| table.labels.get(usize::from(entries[row + place]));
         let (creator, folder) = (label(raw::SUBJECTS)?, label(raw::OBJECTS)?);
         Some((creator.clone(), folder.clone()))
@@ -3502,20 +3729,17 @@ impl Generator<'_> {
 
     /// The two labels of a rule by which the folder's label is given, where there is one.
     fn transmuting_pair(&mut self) -> Option<(Vec<u8>, Vec<u8>)> {
-        let table = self.table()?;
-        let mut pairs = Vec::new();
-        for (creator, folder, _) in &table.rules {
-            let (creator, folder) = (&table.labels[*creator], &table.labels[*folder]);
-            let answer = table.new_object(creator, folder, true, false);
-            if matches!(answer, NewObject::FolderLabel { .. }) {
-                pairs.push((creator, folder));
-            }
+        let table = self.machine.table()?;
+        // They are sought again only where the tables may have changed.
+        if self.transmuting.0 != self.machine.changes() {
+            self.transmuting = (self.machine.changes(), transmuting_pairs(table));
         }
+        let pairs = &self.transmuting.1;
         if pairs.is_empty() {
             return None;
         }
-        let (creator, folder) = self.random.pick(&pairs);
-        Some((creator.clone(), folder.clone()))
+        let (creator, folder) = self.random.pick(pairs);
+        Some((table.labels[creator].clone(), table.labels[folder].clone()))
     }
 
     /// Creator and folder often have a rule by which the folder's label is given, or any
@@ -3564,15 +3788,19 @@ impl Generator<'_> {
             },
             _ => {}
         }
-        let transmutes = u8::from(self.random.chance(80));
-        let is_folder = self.random.below(2);
-        self.emit(&format!(
-            "newobject {} {} {transmutes} {is_folder}",
-            write_hex(&creator),
-            write_hex(&folder)
-        ));
-        if self.random.chance(12) {
-            self.emit_question(&creator, &folder, b"w");
+        let folder_transmutes = self.random.chance(80);
+        let is_folder = self.random.below(2) == 1;
+        // Whether the question stands beside it.
+        let with_question = self.random.chance(12);
+        let pair = with_question.then(|| (creator.clone(), folder.clone()));
+        self.emit(Call::NewObject {
+            creator,
+            folder,
+            folder_transmutes,
+            is_folder,
+        });
+        if let Some((subject, object)) = pair {
+            self.emit_question(subject, object, b"w".to_vec());
         }
     }
 
@@ -3581,12 +3809,13 @@ impl Generator<'_> {
         match self.random.below(50) {
             0..=35 => self.new_object_call(),
             36..=38 => {
-                if self.pending.is_empty() {
-                    self.pending = self.folder_text();
+                if self.nothing_pending() {
+                    let text = self.folder_text();
+                    self.set_pending(text);
                 }
                 self.piece_call();
             }
-            39 => self.emit("end"),
+            39 => self.emit(Call::End),
             40..=42 => self.folder_change(),
             43 | 44 => self.override_call(),
             45 => match self.random.below(3) {
@@ -3596,12 +3825,50 @@ impl Generator<'_> {
             },
             46 => self.oddity(),
             47 => self.any_call(),
-            _ => self.emit("dump"),
+            _ => self.emit(Call::Dump),
         }
         if self.random.chance(4) {
-            self.emit("dump");
+            self.emit(Call::Dump);
         }
     }
+}
+
+/// The two numbers of each rule by which the folder's label is given, in order. It is
+/// what `new_object` says of each, but each label is looked at once.
+fn transmuting_pairs(table: &Table) -> Vec<(usize, usize)> {
+    const PLACES: usize = plain::LABEL_PLACES;
+    // The modes of the first rule of each two numbers.
+    let mut modes = [[0; PLACES]; PLACES];
+    for rule in table.rules.iter().rev() {
+        modes[rule.0][rule.1] = rule.2;
+    }
+    // The first number of each label that may be given and may give.
+    let mut firsts: [Option<Option<usize>>; PLACES] = [None; PLACES];
+    let mut first_of = |number: usize| {
+        *firsts[number].get_or_insert_with(|| {
+            let label = &table.labels[number];
+            let may = plain::is_well_formed(label) && label != b"*";
+            may.then(|| table.number_of(label)).flatten()
+        })
+    };
+    let mut pairs = Vec::new();
+    for rule in &table.rules {
+        let (Some(creator), Some(folder)) = (first_of(rule.0), first_of(rule.1)) else {
+            continue;
+        };
+        let write_and_transmute = plain::W | plain::T;
+        if creator != folder && modes[creator][folder] & write_and_transmute == write_and_transmute
+        {
+            pairs.push((rule.0, rule.1));
+        }
+    }
+    debug_assert!(table.rules.iter().all(|rule| {
+        let (creator, folder) = (&table.labels[rule.0], &table.labels[rule.1]);
+        let answer = table.new_object(creator, folder, true, false);
+        let gives = matches!(answer, NewObject::FolderLabel { .. });
+        gives == pairs.contains(&(rule.0, rule.1))
+    }));
+    pairs
 }
 
 /// The letters of these modes that a request may have.

@@ -167,18 +167,23 @@ pub fn raw_loader_is_damaged(loader: &RawLoader) -> bool {
 
 /// The model of an undamaged lent table; else refusal 0.
 pub fn table_of(state: &RawState) -> Result<Table, Refusal> {
+    let mut table = Table::empty();
+    read_table(state, &mut table)?;
+    Ok(table)
+}
+
+/// The same in the place of another model, whose own memory serves again.
+pub fn read_table(state: &RawState, table: &mut Table) -> Result<(), Refusal> {
     if raw_is_damaged(state) {
         return Err(Refusal::Damaged);
     }
-    let mut table = Table {
-        labels: Vec::new(),
-        rules: Vec::new(),
-        mappings: Vec::new(),
-        override_list: Vec::new(),
-    };
-    for k in 0..state.words[LABEL_COUNT] as usize {
-        table.labels.push(stored_label(state, k).to_vec());
+    let labels = state.words[LABEL_COUNT] as usize;
+    table.labels.resize_with(labels, Vec::new);
+    for (k, label) in table.labels.iter_mut().enumerate() {
+        label.clear();
+        label.extend_from_slice(stored_label(state, k));
     }
+    table.rules.clear();
     for k in 0..state.words[RULE_COUNT] as usize {
         table.rules.push((
             usize::from(state.entries[SUBJECTS + k]),
@@ -186,6 +191,7 @@ pub fn table_of(state: &RawState) -> Result<Table, Refusal> {
             state.entries[MODES + k],
         ));
     }
+    table.mappings.clear();
     for k in 0..state.words[MAPPING_COUNT] as usize {
         let Some(set) = set_of(&stored_words(state, k)) else {
             return Err(Refusal::Damaged);
@@ -196,16 +202,17 @@ pub fn table_of(state: &RawState) -> Result<Table, Refusal> {
             set,
         });
     }
+    table.override_list.clear();
     for k in 0..state.words[OVERRIDE_COUNT] as usize {
         table
             .override_list
             .push(usize::from(state.entries[OVERRIDES + k]));
     }
-    Ok(table)
+    Ok(())
 }
 
 /// The part of the lent label store that holds label k.
-fn stored_label(state: &RawState, k: usize) -> &[u8] {
+pub fn stored_label(state: &RawState, k: usize) -> &[u8] {
     let place = k * PLACE;
     let length = usize::from(state.label_store[place]);
     &state.label_store[place + 1..place + 1 + length]
@@ -228,17 +235,22 @@ pub fn loader_of(loader: &RawLoader) -> Result<Loader, Refusal> {
     } else {
         line.truncate(loader.numbers[KEPT] as usize);
     }
-    Ok(Loader {
-        line,
-        lines: loader.numbers[LINES],
-        accepted: loader.numbers[ACCEPTED],
-        skipped: loader.numbers[SKIPPED],
-        refused: loader.numbers[REFUSED],
-        first_line: loader.numbers[FIRST_LINE],
-        first_reason: loader.numbers[FIRST_REASON],
-        first_place: loader.numbers[FIRST_PLACE],
-        bringup: loader.numbers[BRINGUP],
-    })
+    let mut model = Loader::fresh();
+    model.line = line;
+    read_numbers(loader, &mut model);
+    Ok(model)
+}
+
+/// The model's numbers as they are in memory.
+pub fn read_numbers(loader: &RawLoader, model: &mut Loader) {
+    model.lines = loader.numbers[LINES];
+    model.accepted = loader.numbers[ACCEPTED];
+    model.skipped = loader.numbers[SKIPPED];
+    model.refused = loader.numbers[REFUSED];
+    model.first_line = loader.numbers[FIRST_LINE];
+    model.first_reason = loader.numbers[FIRST_REASON];
+    model.first_place = loader.numbers[FIRST_PLACE];
+    model.bringup = loader.numbers[BRINGUP];
 }
 
 // ---------------------------------------------------------------------------
@@ -247,26 +259,53 @@ pub fn loader_of(loader: &RawLoader) -> Result<Loader, Refusal> {
 
 /// Writes every stored entry and the four counts, and no other byte.
 pub fn write_table(table: &Table, state: &mut RawState) {
-    for (k, label) in table.labels.iter().enumerate() {
+    write_labels(table, 0, state);
+    for place in 0..table.rules.len() {
+        write_rule(table, place, state);
+    }
+    for place in 0..table.mappings.len() {
+        write_mapping(table, place, state);
+    }
+    write_override_list(table, state);
+    write_counts(table, state);
+}
+
+/// Writes the labels from this number on.
+pub fn write_labels(table: &Table, from: usize, state: &mut RawState) {
+    for (k, label) in table.labels.iter().enumerate().skip(from) {
         let place = k * PLACE;
         state.label_store[place] = label.len() as u8;
         state.label_store[place + 1..place + 1 + label.len()].copy_from_slice(label);
     }
-    for (k, rule) in table.rules.iter().enumerate() {
-        state.entries[SUBJECTS + k] = rule.0 as u8;
-        state.entries[OBJECTS + k] = rule.1 as u8;
-        state.entries[MODES + k] = rule.2;
+}
+
+/// Writes the rule of this place.
+pub fn write_rule(table: &Table, place: usize, state: &mut RawState) {
+    let (subject, object, modes) = table.rules[place];
+    state.entries[SUBJECTS + place] = subject as u8;
+    state.entries[OBJECTS + place] = object as u8;
+    state.entries[MODES + place] = modes;
+}
+
+/// Writes the mapping of this place.
+pub fn write_mapping(table: &Table, place: usize, state: &mut RawState) {
+    let mapping = &table.mappings[place];
+    state.entries[MAPPING_LABELS + place] = mapping.label as u8;
+    state.entries[LEVELS + place] = mapping.level;
+    for (row, word) in SETS.iter().zip(words_of(&mapping.set)) {
+        state.words[row + place] = word;
     }
-    for (k, mapping) in table.mappings.iter().enumerate() {
-        state.entries[MAPPING_LABELS + k] = mapping.label as u8;
-        state.entries[LEVELS + k] = mapping.level;
-        for (row, word) in SETS.iter().zip(words_of(&mapping.set)) {
-            state.words[row + k] = word;
-        }
-    }
+}
+
+/// Writes every label of the override list.
+pub fn write_override_list(table: &Table, state: &mut RawState) {
     for (k, label) in table.override_list.iter().enumerate() {
         state.entries[OVERRIDES + k] = *label as u8;
     }
+}
+
+/// Writes the four counts.
+pub fn write_counts(table: &Table, state: &mut RawState) {
     state.words[LABEL_COUNT] = table.labels.len() as u64;
     state.words[RULE_COUNT] = table.rules.len() as u64;
     state.words[MAPPING_COUNT] = table.mappings.len() as u64;

@@ -2,7 +2,8 @@
 
 use std::collections::{BTreeMap, BTreeSet};
 
-use second::plain::{fields, is_well_formed, Answer, Line, Loader, Refusal, Table, T, W};
+use second::plain::{fields, fields_exactly, is_well_formed, Answer, Line, Loader, Refusal, Table};
+use second::plain::{T, W};
 use second::random::{write_script, Kind, Xorshift};
 use second::raw;
 use second::script::{fnv1a, read_hex, write_hex, Machine};
@@ -324,16 +325,16 @@ fn random_calls_are_calls_and_refusals_leave_every_byte() {
         let script = random_script(seed, 4000);
         assert_eq!(script.len(), 4000);
         for call in script {
-            let state = machine.state.clone();
-            let loader = machine.loader.clone();
+            let state = machine.state().clone();
+            let loader = machine.loader().clone();
             let damaged = raw::raw_is_damaged(&state);
             let answer = machine.execute(&call).unwrap();
             assert_ne!(answer, "bad line", "{call}");
             let kind = call.split(' ').next().unwrap();
             let is_setter = ["fresh", "freshen", "freshloader", "poke", "resize"].contains(&kind);
             if answer.starts_with("refused") {
-                assert_eq!(machine.state, state, "{call}");
-                assert_eq!(machine.loader, loader, "{call}");
+                assert_eq!(*machine.state(), state, "{call}");
+                assert_eq!(*machine.loader(), loader, "{call}");
             }
             let takes_no_table = ["dump", "run", "recordtoline", "linetorecord"].contains(&kind);
             if damaged && !is_setter && !takes_no_table {
@@ -341,7 +342,7 @@ fn random_calls_are_calls_and_refusals_leave_every_byte() {
             }
             // No call damages a state.
             if !damaged && !is_setter {
-                assert!(!raw::raw_is_damaged(&machine.state), "{call}");
+                assert!(!raw::raw_is_damaged(machine.state()), "{call}");
             }
             // Questions and look-ups change nothing.
             let reads = [
@@ -359,8 +360,8 @@ fn random_calls_are_calls_and_refusals_leave_every_byte() {
                 "dump",
             ];
             if reads.contains(&kind) {
-                assert_eq!(machine.state, state, "{call}");
-                assert_eq!(machine.loader, loader, "{call}");
+                assert_eq!(*machine.state(), state, "{call}");
+                assert_eq!(*machine.loader(), loader, "{call}");
             }
         }
     }
@@ -474,7 +475,7 @@ fn random_searches_get_every_answer() {
             if !call.starts_with("question ") {
                 continue;
             }
-            let table = raw::table_of(&machine.state).unwrap();
+            let table = raw::table_of(machine.state()).unwrap();
             let labels: BTreeSet<_> = table.labels.iter().collect();
             let pairs: BTreeSet<_> = table.rules.iter().map(|rule| (rule.0, rule.1)).collect();
             questions += 1;
@@ -721,13 +722,13 @@ fn random_options_are_of_every_kind() {
                         seen.insert(format!("output {}", output - length));
                         let level = bytes(said[2])[9];
                         key.push_str(if level == 250 { " 250" } else { " mapped" });
-                        let table = raw::table_of(&machine.state).unwrap();
+                        let table = raw::table_of(machine.state()).unwrap();
                         let found = table.by_label(&bytes(words[1])).unwrap();
                         if level == 250 && found.is_some() {
                             key.push_str(" stored");
                         }
                     } else if said[1] == "12" {
-                        let table = raw::table_of(&machine.state).unwrap();
+                        let table = raw::table_of(machine.state()).unwrap();
                         let exact = table.write_option(&bytes(words[1]), &mut [0; 40]);
                         seen.insert(format!("lacks {}", exact.unwrap() - output));
                         seen.insert(format!("short {output}"));
@@ -844,12 +845,12 @@ fn bringup_seen(kind: Kind, seeds: std::ops::Range<u64>) -> BTreeMap<String, u32
     for seed in seeds {
         let mut machine = Machine::new();
         for call in script_of(kind, seed, 10000) {
-            let table = raw::table_of(&machine.state);
-            let loader = raw::loader_of(&machine.loader);
+            let table = raw::table_of(machine.state());
+            let loader = raw::loader_of(machine.loader());
             let damage: Vec<u8> = match &table {
-                Err(_) if machine.state.words.len() == raw::WORDS_SIZE => {
-                    let rules = machine.state.words[raw::RULE_COUNT].min(256) as usize;
-                    let modes = machine.state.entries.get(raw::MODES..raw::MODES + rules);
+                Err(_) if machine.state().words.len() == raw::WORDS_SIZE => {
+                    let rules = machine.state().words[raw::RULE_COUNT].min(256) as usize;
+                    let modes = machine.state().entries.get(raw::MODES..raw::MODES + rules);
                     modes.unwrap_or_default().to_vec()
                 }
                 _ => Vec::new(),
@@ -871,7 +872,7 @@ fn bringup_seen(kind: Kind, seeds: std::ops::Range<u64>) -> BTreeMap<String, u32
                             let access = last_field(&loader.line).unwrap_or_default();
                             if byte == b'\n' && has_b(&access) {
                                 match table.judge_line(&loader.line) {
-                                    Line::Accepted(rule) => {
+                                    Line::Accepted(rule, _) => {
                                         assert!(rule.held_b);
                                         let at = access.iter().position(|b| b"bB".contains(b));
                                         let at = at.unwrap().min(6);
@@ -897,7 +898,7 @@ fn bringup_seen(kind: Kind, seeds: std::ops::Range<u64>) -> BTreeMap<String, u32
                 }
                 "change" => {
                     let write = bytes(words[1]);
-                    if let [_, _, allow, deny] = fields(&write)[..] {
+                    if let Some([_, _, allow, deny]) = fields_exactly(&write) {
                         let which = (has_b(allow.bytes), has_b(deny.bytes));
                         if refused("4") {
                             see(format!("change {which:?}"));
@@ -935,8 +936,8 @@ fn bringup_seen(kind: Kind, seeds: std::ops::Range<u64>) -> BTreeMap<String, u32
                 if refused("0") && !others && damage.iter().any(|modes| modes & bit != 0) {
                     see(format!("bit {bit} {}", words[0]));
                 }
-                if let Ok(table) = raw::table_of(&machine.state) {
-                    let behind = &machine.state.entries[raw::MODES + table.rules.len()..];
+                if let Ok(table) = raw::table_of(machine.state()) {
+                    let behind = &machine.state().entries[raw::MODES + table.rules.len()..];
                     let behind = &behind[..256 - table.rules.len()];
                     if said[0] == "granted" && behind.iter().any(|modes| modes & bit != 0) {
                         see(format!("behind {bit}"));
@@ -1092,7 +1093,7 @@ fn random_new_objects_are_of_every_kind() {
                 see(answer.clone());
                 see(format!("{answer} of {} {}", words[3], words[4]));
                 let (creator, folder) = (read_hex(words[1]).unwrap(), read_hex(words[2]).unwrap());
-                let Ok(table) = raw::table_of(&machine.state) else {
+                let Ok(table) = raw::table_of(machine.state()) else {
                     continue;
                 };
                 if answer == "refused 3" {
@@ -1113,11 +1114,8 @@ fn random_new_objects_are_of_every_kind() {
                     other => panic!("{other:?}"),
                 }
                 for (who, label) in [("creator", &creator), ("folder", &folder)] {
-                    match label[..] {
-                        [b'_' | b'^' | b'*' | b'?' | b'@'] => {
-                            see(format!("{who} {} {answer}", char::from(label[0])));
-                        }
-                        _ => {}
+                    if let [b'_' | b'^' | b'*' | b'?' | b'@'] = label[..] {
+                        see(format!("{who} {} {answer}", char::from(label[0])));
                     }
                     if table.number_of(label).is_none() {
                         see(format!("{who} unknown {answer}"));
@@ -1161,7 +1159,7 @@ fn random_new_objects_are_of_every_kind() {
                     _ => "not listed",
                 };
                 see(format!("{listed} {answer}"));
-                if machine.loader.numbers[raw::KEPT] > 0 {
+                if machine.loader().numbers[raw::KEPT] > 0 {
                     see(format!("under way {answer}"));
                 }
             }
@@ -1271,8 +1269,8 @@ fn random_cuts_do_not_matter() {
             machine.execute("question 41 42 72 0");
             rest = &rest[length..];
         }
-        let again = raw::end(&mut machine.state, &mut machine.loader).unwrap();
+        let again = machine.end().unwrap();
         assert_eq!(again, report);
-        assert_eq!(raw::table_of(&machine.state).unwrap(), table);
+        assert_eq!(raw::table_of(machine.state()).unwrap(), table);
     }
 }
