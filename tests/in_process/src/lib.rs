@@ -139,7 +139,7 @@ fn work(calls: u64, seed: u64, progress: &mut Progress) {
         progress.script = script;
         progress.call = 0;
         progress.scripts = script + 1;
-        processes::end_after(120);
+        processes::end_after(30);
         let place = lending(script).place;
         let lent = lents.iter_mut().find(|lent| lent.place() == place).expect("both places are there");
         lent.clear();

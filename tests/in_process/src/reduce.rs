@@ -26,7 +26,8 @@ fn play(calls: &[Call], lending: Lending) -> Result<(), Difference> {
 
 fn differs(calls: &[Call], lending: Lending) -> bool {
     let ended = processes::in_a_child(|| {
-        processes::end_after(20);
+        // A list of calls takes some thousandths of a second.
+        processes::end_after(2);
         if play(calls, lending).is_err() {
             exit(1);
         }
@@ -42,6 +43,7 @@ pub fn what_differs(calls: &[Call], lending: Lending) -> String {
     }
     let words: &mut Words = shared();
     let ended = processes::in_a_child(|| {
+        processes::end_after(2);
         if let Err(difference) = play(calls, lending) {
             let bytes = difference.as_bytes();
             words.length = bytes.len().min(words.bytes.len());
@@ -91,6 +93,32 @@ fn texts(call: &mut Call) -> Vec<&mut Vec<u8>> {
     }
 }
 
+/// The fields of all texts, each once, the longest first.
+fn all_fields(calls: &mut [Call]) -> Vec<Vec<u8>> {
+    let mut found = Vec::new();
+    for text in calls.iter_mut().flat_map(texts) {
+        found.extend(text.split(|byte| b" \t\n".contains(byte)).map(<[u8]>::to_vec));
+    }
+    found.sort_by_key(|field| (std::cmp::Reverse(field.len()), field.clone()));
+    found.dedup();
+    found
+}
+
+/// The calls with this field of every text turned into another.
+fn with_field(calls: &[Call], old: &[u8], new: &[u8]) -> Vec<Call> {
+    let mut changed = calls.to_vec();
+    for text in changed.iter_mut().flat_map(texts) {
+        let mut rest = std::mem::take(text);
+        while !rest.is_empty() {
+            let end = rest.iter().position(|byte| b" \t\n".contains(byte)).unwrap_or(rest.len());
+            let behind = rest.split_off(end.max(1));
+            text.extend_from_slice(if rest == old { new } else { &rest });
+            rest = behind;
+        }
+    }
+    changed
+}
+
 /// A short list that shows a difference too.
 pub fn reduced(mut calls: Vec<Call>, lending: Lending) -> Vec<Call> {
     // An episode of a script begins with fresh memory; mostly one is enough.
@@ -102,6 +130,17 @@ pub fn reduced(mut calls: Vec<Call>, lending: Lending) -> Vec<Call> {
     loop {
         let before = calls.clone();
         calls = fewer(calls, &mut |rest| differs(rest, lending));
+        // Labels become shorter wherever they stand.
+        for field in all_fields(&mut calls) {
+            let lengths = [1, 2, field.len() / 4, field.len() / 2, field.len().saturating_sub(1)];
+            for length in lengths.into_iter().filter(|&length| 0 < length && length < field.len()) {
+                let changed = with_field(&calls, &field, &field[..length]);
+                if differs(&changed, lending) {
+                    calls = changed;
+                    break;
+                }
+            }
+        }
         for at in 0..calls.len() {
             for which in 0..texts(&mut calls[at]).len() {
                 let with = |bytes: &[u8]| {
