@@ -5,7 +5,7 @@
  *   driver               every lent part is memory of its own, of exactly its size, so that valgrind sees one byte too far
  *   driver guard-end     every lent part ends at the end of a page, and the page behind it can neither be read nor written
  *   driver guard-front   every lent part begins at the beginning of a page, and the page before it can neither be read nor written
- *   driver read-only     as guard-end; and while a call only reads the tables and the line, their pages cannot be written
+ *   driver read-only     as guard-end; and the pages of a part that a call is lent only to read, or not at all, cannot be written meanwhile
  *
  * Beyond FORMAT.md the driver tests what a second implementation cannot show. Each of these words in an answer is a fault of the library:
  *   astray    a label's part does not lie where label k's place in the lent store is
@@ -767,21 +767,24 @@ static bool call(const char *at, const char *end) {
     return false;
 }
 
-/* Whether the call is lent the tables and the line only to read, or not at all. */
-static bool only_reads(word name) {
-    static const char *const reading[] = {"bylabel",      "bylevel",      "run",         "question",   "list",     "label",
-                                          "recordtoline", "linetorecord", "writeoption", "readoption", "newobject"};
+/* The parts that a call is lent to write: 1 labels, 2 entries, 4 words, 8 the line. What only sets the memory writes as it likes. */
+static unsigned writes(word name) {
+    static const char *const reading[] = {"bylabel",      "bylevel",      "run",         "question",   "list",      "label",
+                                          "recordtoline", "linetorecord", "writeoption", "readoption", "newobject", "dump"};
     for (size_t i = 0; i < sizeof reading / sizeof *reading; i++) {
-        if (is(name, reading[i])) return true;
+        if (is(name, reading[i])) return 0;
     }
-    return false;
+    if (is(name, "revoke")) return 2;
+    if (is(name, "freshen")) return 1 + 4;
+    if (is(name, "change") || is(name, "override") || is(name, "mapping")) return 1 + 2 + 4;
+    return 15;
 }
 
-static void let_write(bool yes) {
+static void let_write(unsigned which) {
     void *parts[] = {labels, entries, words, line_part};
     for (size_t i = 0; i < sizeof parts / sizeof *parts; i++) {
         struct slot *slot = slot_of(parts[i]);
-        if (slot == NULL || mprotect(slot->pages, slot->room, yes ? PROT_READ | PROT_WRITE : PROT_READ) != 0) no_memory();
+        if (slot == NULL || mprotect(slot->pages, slot->room, which >> i & 1 ? PROT_READ | PROT_WRITE : PROT_READ) != 0) no_memory();
     }
 }
 
@@ -789,10 +792,10 @@ static void do_line(const char *at, const char *end) {
     const char *p = at;
     word first = next_word(&p, end);
     if (first.length == 0 || first.text[0] == '#') return;
-    bool guarded = read_only_parts && only_reads(first);
-    if (guarded) let_write(false);
+    unsigned written = read_only_parts ? writes(first) : 15;
+    if (written != 15) let_write(written);
     if (!call(at, end)) put("bad line");
-    if (guarded) let_write(true);
+    if (written != 15) let_write(15);
     put("\n");
 }
 

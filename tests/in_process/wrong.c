@@ -97,6 +97,18 @@ bq_decision __wrap_bq_question(TABLES_READ, const uint8_t *subject, size_t subje
     }
     return __real_bq_question(LENT, subject, subject_len, object, object_len, request, request_len, capable);
 }
+#elif defined(revoke_writes_a_count_and_puts_it_back)
+bq_counted __real_bq_revoke(const uint8_t *labels, size_t labels_len, uint8_t *entries, size_t entries_len, const uint64_t *words, size_t words_len,
+                            const uint8_t *label, size_t label_len);
+bq_counted __wrap_bq_revoke(const uint8_t *labels, size_t labels_len, uint8_t *entries, size_t entries_len, const uint64_t *words, size_t words_len,
+                            const uint8_t *label, size_t label_len) {
+    volatile uint64_t *count = (uint64_t *)words;
+    if (words_len > 1) {
+        count[1]++;
+        count[1]--;
+    }
+    return __real_bq_revoke(LENT, label, label_len);
+}
 #elif defined(look_up_reads_behind_the_label)
 bq_mapped __real_bq_by_label(TABLES_READ, const uint8_t *label, size_t label_len);
 bq_mapped __wrap_bq_by_label(TABLES_READ, const uint8_t *label, size_t label_len) {

@@ -7,7 +7,7 @@ use second::raw;
 use second::script::{Call, Machine, Part, Poke};
 
 use crate::header::*;
-use crate::lent::Lent;
+use crate::lent::{Lent, Parts};
 use crate::wide;
 
 /// What the library answers and what the second implementation does, or which lent bytes differ.
@@ -287,9 +287,7 @@ fn search_run(lent: &mut Lent, level: u64, set: [u64; 3], records: &[Record], co
 
     let expected = narrow(raw::by_run(&records[..kept], level, &set));
     let [labels, levels, set_words] = &lent.fields;
-    let answer = unsafe {
-        bq_lowest_of(labels.start(), labels.len(), levels.start(), levels.len(), set_words.start(), set_words.len(), level, sought)
-    };
+    let answer = unsafe { bq_lowest_of(labels.start(), labels.len(), levels.start(), levels.len(), set_words.start(), set_words.len(), level, sought) };
     same(answer, expected)?;
     counts.count(Name::LowestOf, answer.kind == BQ_SEARCH_REFUSED, answer.number, answer.kind);
 
@@ -302,22 +300,26 @@ fn search_run(lent: &mut Lent, level: u64, set: [u64; 3], records: &[Record], co
     Ok(())
 }
 
-/// Whether the call only reads what it is lent of the tables and the line.
-pub fn only_reads(call: &Call) -> bool {
-    matches!(
-        call,
+/// Which parts a call is lent to write. The calls that set the memory are none of the library's and write as they like.
+pub fn writes(call: &Call) -> Parts {
+    match call {
+        Call::Fresh | Call::FreshLoader | Call::Poke(_) | Call::Resize { .. } | Call::Piece(_) | Call::End => Parts::ALL,
+        Call::Freshen => Parts { entries: false, line: false, ..Parts::ALL },
+        Call::Change(_) | Call::Override(_) | Call::Mapping(_) => Parts { line: false, ..Parts::ALL },
+        Call::Revoke(_) => Parts { entries: true, ..Parts::NONE },
         Call::ByLabel(_)
-            | Call::ByLevel { .. }
-            | Call::Run { .. }
-            | Call::Question { .. }
-            | Call::List { .. }
-            | Call::Label { .. }
-            | Call::RecordToLine { .. }
-            | Call::LineToRecord { .. }
-            | Call::WriteOption { .. }
-            | Call::ReadOption { .. }
-            | Call::NewObject { .. }
-    )
+        | Call::ByLevel { .. }
+        | Call::Run { .. }
+        | Call::Question { .. }
+        | Call::List { .. }
+        | Call::Label { .. }
+        | Call::RecordToLine { .. }
+        | Call::LineToRecord { .. }
+        | Call::WriteOption { .. }
+        | Call::ReadOption { .. }
+        | Call::NewObject { .. }
+        | Call::Dump => Parts::NONE,
+    }
 }
 
 /// A write: its answer, and the text that it was lent.
@@ -462,9 +464,11 @@ pub fn make(machine: &mut Machine, lent: &mut Lent, call: &Call, counts: &mut Co
             same_bytes("folder", lent.texts[1].seen(), folder)?;
             counts.count(Name::NewObject, answer.kind == BQ_CREATION_REFUSED, answer.number, answer.kind);
         }
-        Call::List { k, output } => to_output!(lent, counts, Name::ListRule, &[], output, |buffer| machine.list(*k, &mut buffer), |_text, _text_len, out, out_len| {
-            library!(lent, bq_list_rule, *k as usize, out, out_len)
-        }),
+        Call::List { k, output } => {
+            to_output!(lent, counts, Name::ListRule, &[], output, |buffer| machine.list(*k, &mut buffer), |_text, _text_len, out, out_len| {
+                library!(lent, bq_list_rule, *k as usize, out, out_len)
+            })
+        }
         Call::Label { k } => {
             let check = machine.label_check(*k);
             let expected = match check {

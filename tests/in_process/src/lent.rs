@@ -141,7 +141,22 @@ pub struct Lent {
     pub fields: [Room<u64>; 3],
     /// How often a run was searched: bq_lowest_of gets arrays of other lengths from turn to turn.
     pub turn: usize,
-    writable: bool,
+    /// Which parts can be written now.
+    writable: Parts,
+}
+
+/// Of each part something that is said of it.
+#[derive(Clone, Copy, PartialEq, Eq, Debug)]
+pub struct Parts {
+    pub labels: bool,
+    pub entries: bool,
+    pub words: bool,
+    pub line: bool,
+}
+
+impl Parts {
+    pub const ALL: Parts = Parts { labels: true, entries: true, words: true, line: true };
+    pub const NONE: Parts = Parts { labels: false, entries: false, words: false, line: false };
 }
 
 const ROOM: usize = 1 << 20;
@@ -162,7 +177,7 @@ impl Lent {
             records: Room::new(8 * ROOM, place),
             fields: [words(), words(), words()],
             turn: 0,
-            writable: true,
+            writable: Parts::ALL,
         };
         lent.clear();
         lent
@@ -170,7 +185,7 @@ impl Lent {
 
     /// All parts of their full size and zero, as before the first call.
     pub fn clear(&mut self) {
-        self.writable(true);
+        self.let_write(Parts::ALL);
         self.labels.fill(LABELS, 0);
         self.entries.fill(ENTRIES, 0);
         self.words.fill(WORDS, 0);
@@ -179,14 +194,20 @@ impl Lent {
         self.turn = 0;
     }
 
-    /// While it is not, a call that writes to a part of the tables or the line ends the process, even where it puts back what was there.
-    pub fn writable(&mut self, yes: bool) {
-        if self.writable != yes {
-            self.writable = yes;
-            self.labels.writable(yes);
-            self.entries.writable(yes);
-            self.words.writable(yes);
-            self.line.writable(yes);
+    /// From now on these parts can be written and no others: a call that writes to another ends the process, even where it puts back what was there.
+    pub fn let_write(&mut self, parts: Parts) {
+        let now = std::mem::replace(&mut self.writable, parts);
+        if now.labels != parts.labels {
+            self.labels.writable(parts.labels);
+        }
+        if now.entries != parts.entries {
+            self.entries.writable(parts.entries);
+        }
+        if now.words != parts.words {
+            self.words.writable(parts.words);
+        }
+        if now.line != parts.line {
+            self.line.writable(parts.line);
         }
     }
 

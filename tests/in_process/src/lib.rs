@@ -59,7 +59,7 @@ const ENOUGH: u64 = 5_000_000;
 #[derive(Clone, Copy, PartialEq, Eq, Debug)]
 pub struct Lending {
     pub place: Place,
-    /// Whether calls that only read get memory that cannot be written.
+    /// Whether what a call is lent only to read cannot be written meanwhile.
     pub guarded: bool,
 }
 
@@ -69,9 +69,8 @@ fn lending(script: u64) -> Lending {
     Lending { place, guarded: script % 7 == 5 }
 }
 
-/// Makes the calls of one script: the generator's, and quick ones between. `make` makes a call and answers whether to go on; `read` says of the calls to come
-/// whether they only read.
-fn run_script(seed: u64, script: u64, make: &mut dyn FnMut(&mut Machine, &Call) -> bool, only_read: &mut dyn FnMut(bool)) {
+/// Makes the calls of one script: the generator's, and quick ones between. `make` makes a call and answers whether to go on.
+fn run_script(seed: u64, script: u64, make: &mut dyn FnMut(&mut Machine, &Call) -> bool) {
     let guarded = lending(script).guarded;
     let kind = KINDS[(script % KINDS.len() as u64) as usize];
     let own_seed = seed.wrapping_mul(0x9e37_79b9_7f4a_7c15).wrapping_add(script);
@@ -88,13 +87,12 @@ fn run_script(seed: u64, script: u64, make: &mut dyn FnMut(&mut Machine, &Call) 
             if quick.below(8) != 0 {
                 return true;
             }
-            only_read(true);
+            // Many that only read, so that not each has to change what can be written.
             for _ in 0..QUICK_READS {
                 if !make(machine, quick.next(machine, May::Read)) {
                     return false;
                 }
             }
-            only_read(false);
             return true;
         }
         for _ in 0..QUICK {
@@ -140,32 +138,29 @@ fn work(calls: u64, seed: u64, progress: &mut Progress) {
         progress.call = 0;
         progress.scripts = script + 1;
         processes::end_after(30);
-        let place = lending(script).place;
+        let Lending { place, guarded } = lending(script);
         let lent = lents.iter_mut().find(|lent| lent.place() == place).expect("both places are there");
         lent.clear();
-        let lent = std::cell::RefCell::new(lent);
         // The generator's machine is fresh, and so is what is lent to the library.
         let mut machine = Machine::new();
         for call in [Call::Fresh, Call::FreshLoader] {
-            if both::make(&mut machine, &mut lent.borrow_mut(), &call, &mut progress.counts).is_err() {
+            if both::make(&mut machine, lent, &call, &mut progress.counts).is_err() {
                 exit(1);
             }
         }
-        run_script(
-            seed,
-            script,
-            &mut |machine, call| {
-                progress.call += 1;
-                match both::make(machine, &mut lent.borrow_mut(), call, &mut progress.counts) {
-                    Ok(made) => made.is_some_and(|library_calls| {
-                        progress.total += library_calls;
-                        progress.total < calls
-                    }),
-                    Err(_) => exit(1),
+        run_script(seed, script, &mut |machine, call| {
+            progress.call += 1;
+            if guarded {
+                lent.let_write(both::writes(call));
+            }
+            match both::make(machine, lent, call, &mut progress.counts) {
+                Ok(made) => {
+                    progress.total += made.expect("what is poked lies in its part");
+                    progress.total < calls
                 }
-            },
-            &mut |only_read| lent.borrow_mut().writable(!only_read),
-        );
+                Err(_) => exit(1),
+            }
+        });
         if progress.total >= calls {
             return;
         }
@@ -175,16 +170,15 @@ fn work(calls: u64, seed: u64, progress: &mut Progress) {
 /// The calls of a script up to this one, by the second implementation alone.
 fn recorded(seed: u64, script: u64, last: u64) -> Vec<Call> {
     let mut calls = Vec::new();
-    run_script(
-        seed,
-        script,
-        &mut |machine, call| {
+    run_script(seed, script, &mut |machine, call| {
+        calls.push(call.clone());
+        // The last one is not made: it may be the second implementation that came to a bad end.
+        let more = (calls.len() as u64) < last;
+        if more {
             machine.execute(&call.write());
-            calls.push(call.clone());
-            (calls.len() as u64) < last
-        },
-        &mut |_| {},
-    );
+        }
+        more
+    });
     calls
 }
 
@@ -213,7 +207,10 @@ fn run(calls: u64, seed: u64, file: &str) -> i32 {
             return 1;
         }
         let rate = progress.total as f64 / seconds;
-        println!("seed {seed}: {} calls of the library in {} scripts, no difference ({seconds:.1} s, {rate:.0} calls a second)", progress.total, progress.scripts);
+        println!(
+            "seed {seed}: {} calls of the library in {} scripts, no difference ({seconds:.1} s, {rate:.0} calls a second)",
+            progress.total, progress.scripts
+        );
         return 0;
     }
     let lending = lending(progress.script);

@@ -37,10 +37,12 @@ impl Ring {
 
 const OWN_LABELS: [&[u8]; 5] = [b"_", b"^", b"*", b"?", b"@"];
 const REQUESTS: [&[u8]; 24] = [
-    b"r", b"w", b"x", b"a", b"rw", b"rx", b"wa", b"rwx", b"rwxa", b"R", b"W", b"X", b"A", b"rW", b"RWXA", b"rr", b"axwr", b"", b"t", b"b", b"rt", b"-", b"l", b"r ",
+    b"r", b"w", b"x", b"a", b"rw", b"rx", b"wa", b"rwx", b"rwxa", b"R", b"W", b"X", b"A", b"rW", b"RWXA", b"rr", b"axwr", b"", b"t", b"b", b"rt", b"-", b"l",
+    b"r ",
 ];
 const MODES: [&[u8]; 24] = [
-    b"r", b"w", b"x", b"a", b"t", b"rw", b"rx", b"wt", b"rwx", b"rwxa", b"rwxat", b"RWXAT", b"-", b"r-", b"--", b"Rt", b"xxa", b"b", b"rB", b"wbt", b"l", b"rwxl", b"0", b"r/",
+    b"r", b"w", b"x", b"a", b"t", b"rw", b"rx", b"wt", b"rwx", b"rwxa", b"rwxat", b"RWXAT", b"-", b"r-", b"--", b"Rt", b"xxa", b"b", b"rB", b"wbt", b"l",
+    b"rwxl", b"0", b"r/",
 ];
 const BLANKS: [&[u8]; 8] = [b" ", b" ", b" ", b" ", b" ", b" ", b"  ", b"\t"];
 const OUTPUT_LENGTHS: [usize; 10] = [0, 5, 9, 10, 12, 33, 34, 53, 54, 518];

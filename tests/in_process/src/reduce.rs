@@ -5,8 +5,8 @@ use std::process::exit;
 use second::script::{Call, Machine};
 
 use crate::Lending;
-use crate::both::{self, Counts, Difference, only_reads};
-use crate::lent::{Lent, shared};
+use crate::both::{self, Counts, Difference};
+use crate::lent::{Lent, Parts, shared};
 use crate::processes::{self, Ended};
 
 /// Makes the calls on both sides, from fresh memory on. A list with a call that does not fit shows nothing.
@@ -16,7 +16,7 @@ fn play(calls: &[Call], lending: Lending) -> Result<(), Difference> {
     let mut lent = Lent::new(lending.place);
     let start = [Call::Fresh, Call::FreshLoader];
     for call in start.iter().chain(calls) {
-        lent.writable(!(lending.guarded && only_reads(call)));
+        lent.let_write(if lending.guarded { both::writes(call) } else { Parts::ALL });
         if both::make(&mut machine, &mut lent, call, &mut counts)?.is_none() {
             return Ok(());
         }
