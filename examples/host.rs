@@ -6,15 +6,29 @@
 //!
 //!   cargo run --release --offline --manifest-path bindings/rust/Cargo.toml --example host -- examples/store_north.rules examples/old_logger.records
 //!
-//! examples/host.c is the same in C; both write examples/host.expected. The crate is bindings/rust: its types keep what include/balqirven.h asks of a host.
+//! examples/host.c is the same in C and examples/host.py in Python; all three write examples/host.expected. The crate is bindings/rust: its types keep what
+//! include/balqirven.h asks of a host.
 
 use balqirven::{Decision, Loader, NewObject, Record, Refusal, Refused, Set, Table, line_to_record, lowest_in_run, record_to_line};
 use balqirven::{FIXED_PLACE, FIXED_RECORD, HIGHEST_CATEGORY, LONGEST_FIXED_LINE, LONGEST_OPTION, OWN_LEVEL};
 use std::error::Error;
+use std::ffi::OsString;
+use std::io::Write;
+use std::path::Path;
 use std::process::ExitCode;
 
 /// What ends the program: a file that cannot be read, or a refusal of what cannot be refused here. Every other refusal is printed, and the program goes on.
 type Failed = Box<dyn Error>;
+
+/// As `print!`, which panics where standard output cannot be written, a closed pipe for instance: this ends the program with a message and status 1.
+macro_rules! say {
+    ($($text:tt)*) => {
+        if let Err(error) = write!(std::io::stdout().lock(), $($text)*) {
+            eprintln!("host: standard output: {error}");
+            std::process::exit(1);
+        }
+    };
+}
 
 /// Where the first bad label goes wrong: at a byte that no label may have, at a dash that begins it, at the first byte too many, or, of an empty
 /// label, where its first byte would be. The library counts bytes from 0; a reader counts them from 1, as lines are counted.
@@ -44,15 +58,15 @@ fn text(bytes: &[u8]) -> std::borrow::Cow<'_, str> {
 }
 
 fn fresh(whose: &str) -> Table {
-    println!("fresh table{whose}: done");
+    say!("fresh table{whose}: done\n");
     Table::fresh()
 }
 
 /// The three writes that answer nothing but that they are done.
 fn done(write: &str, answer: Result<(), Refused>) {
     match answer {
-        Ok(()) => println!("{write}: done"),
-        Err(error) => println!("{write}: {}", refused(error, "the write")),
+        Ok(()) => say!("{write}: done\n"),
+        Err(error) => say!("{write}: {}\n", refused(error, "the write")),
     }
 }
 
@@ -70,8 +84,8 @@ fn mapping(table: &mut Table, text: &str) {
 
 fn revoke(table: &mut Table, subject: &str) {
     match table.revoke(subject) {
-        Ok(count) => println!("revoke '{subject}': {count} rules"),
-        Err(error) => println!("revoke '{subject}': {}", refused(error, "that label")),
+        Ok(count) => say!("revoke '{subject}': {count} rules\n"),
+        Err(error) => say!("revoke '{subject}': {}\n", refused(error, "that label")),
     }
 }
 
@@ -82,20 +96,20 @@ fn ask(table: &Table, subject: &str, object: &str, request: &str, capable: bool)
         Ok(Decision::Override { rule }) => format!("override {rule}"),
         Err(error) => refused(error, "the subject or, where that is well formed, of the object"),
     };
-    println!("may {subject} have {request} to {object}{}: {answer}", if capable { " (override capability)" } else { "" });
+    say!("may {subject} have {request} to {object}{}: {answer}\n", if capable { " (override capability)" } else { "" });
 }
 
 /// Ends the text and prints its report.
 fn end(loader: &mut Loader, table: &mut Table) -> Result<(), Failed> {
     let report = loader.end(table)?;
-    println!("load: {} lines, {} accepted, {} skipped, {} refused", report.lines, report.accepted, report.skipped, report.refused);
+    say!("load: {} lines, {} accepted, {} skipped, {} refused\n", report.lines, report.accepted, report.skipped, report.refused);
     if let Some(first) = report.first {
         let Refused { refusal, place } = first.reason;
         let why = place.map_or(refusal.to_string(), |place| goes_wrong(place, "the line"));
-        println!("line {} is the first refused, with {}: {why}", first.line, refusal.number());
+        say!("line {} is the first refused, with {}: {why}\n", first.line, refusal.number());
     }
     if report.bringup > 0 {
-        println!("{} accepted lines held the retired letter b, which was dropped", report.bringup);
+        say!("{} accepted lines held the retired letter b, which was dropped\n", report.bringup);
     }
     Ok(())
 }
@@ -111,7 +125,7 @@ fn load(table: &mut Table, rules: &[u8]) -> Result<(), Failed> {
 
 fn list(table: &Table) -> Result<(), Failed> {
     for (k, rule) in table.rules()?.enumerate() {
-        print!("rule {k}: {}", text(&rule));
+        say!("rule {k}: {}", text(&rule));
     }
     Ok(())
 }
@@ -126,15 +140,15 @@ fn show_mapping(table: &Table, label: &str) {
         Ok(None) => "none".to_string(),
         Err(error) => refused(error, "that label"),
     };
-    println!("mapping of '{label}': {answer}");
+    say!("mapping of '{label}': {answer}\n");
 }
 
 fn show_label_of(table: &Table, level: u64, set: Set) -> Result<(), Failed> {
     let sought = format!("level {level}, categories{}", categories(set));
     match table.by_level(level, set) {
-        Ok(Some(k)) => println!("{sought}: label {k}, {}", text(table.label(k)?)),
-        Ok(None) => println!("{sought}: no label"),
-        Err(error) => println!("mapping by level and set: {}", refused(error, "")),
+        Ok(Some(k)) => say!("{sought}: label {k}, {}\n", text(table.label(k)?)),
+        Ok(None) => say!("{sought}: no label\n"),
+        Err(error) => say!("mapping by level and set: {}\n", refused(error, "")),
     }
     Ok(())
 }
@@ -142,9 +156,9 @@ fn show_label_of(table: &Table, level: u64, set: Set) -> Result<(), Failed> {
 fn show_lowest(run: &[Record], level: u64, set: Set) {
     let sought = format!("level {level}, categories{}", categories(set));
     match lowest_in_run(run, level, set) {
-        Ok(Some(k)) => println!("{sought}: lowest of the run is label {k}"),
-        Ok(None) => println!("{sought}: none of the run"),
-        Err(error) => println!("search of a run: {}", refused(error, "")),
+        Ok(Some(k)) => say!("{sought}: lowest of the run is label {k}\n"),
+        Ok(None) => say!("{sought}: none of the run\n"),
+        Err(error) => say!("search of a run: {}\n", refused(error, "")),
     }
 }
 
@@ -155,7 +169,7 @@ fn load_records(table: &mut Table, file: &[u8]) -> Result<(), Failed> {
     for (k, record) in (1..).zip(file.chunks(FIXED_RECORD)) {
         match record_to_line(record, &mut [0; LONGEST_FIXED_LINE]) {
             Ok(line) => loader.piece(table, line)?,
-            Err(error) => println!("record {k} is {}", in_words(error.refusal)),
+            Err(error) => say!("record {k} is {}\n", in_words(error.refusal)),
         }
     }
     end(&mut loader, table)
@@ -170,27 +184,27 @@ fn back_to_records(table: &Table, file: &[u8]) -> Result<(), Failed> {
     let (mut rules, mut back) = (0, 0);
     for rule in table.rules()? {
         match line_to_record(&rule, &mut [0; FIXED_RECORD]) {
-            Err(error) => println!("rule {rules} is {}", in_words(error.refusal)),
-            Ok(record) if !has(record) => println!("rule {rules} came back as a record that the file does not have"),
+            Err(error) => say!("rule {rules} is {}\n", in_words(error.refusal)),
+            Ok(record) if !has(record) => say!("rule {rules} came back as a record that the file does not have\n"),
             Ok(_) => back += 1,
         }
         rules += 1;
     }
-    println!("{back} of {rules} rules came back as records of the file, but for the case of access letters");
+    say!("{back} of {rules} rules came back as records of the file, but for the case of access letters\n");
     if back == rules { Ok(()) } else { Err("not every rule came back".into()) }
 }
 
 fn show_record(rule: &str) {
     match line_to_record(rule, &mut [0; FIXED_RECORD]) {
-        Ok(record) => println!("'{rule}' as a record: '{}'", text(record)),
-        Err(error) => println!("'{rule}' is {}", in_words(error.refusal)),
+        Ok(record) => say!("'{rule}' as a record: '{}'\n", text(record)),
+        Err(error) => say!("'{rule}' is {}\n", in_words(error.refusal)),
     }
 }
 
 /// This side labels a packet. The options of a packet are a multiple of four bytes, at most 40; what fills them up behind the option is zero bytes.
 fn label_packet(table: &Table, label: &str) -> Result<Vec<u8>, Refused> {
     let mut options = table.write_option(label, &mut [0; LONGEST_OPTION])?.to_vec();
-    println!("packet of '{label}': {}", options.iter().map(u8::to_string).collect::<Vec<_>>().join(" "));
+    say!("packet of '{label}': {}\n", options.iter().map(u8::to_string).collect::<Vec<_>>().join(" "));
     options.resize(options.len().next_multiple_of(4), 0);
     Ok(options)
 }
@@ -200,8 +214,8 @@ fn label_packet(table: &Table, label: &str) -> Result<Vec<u8>, Refused> {
 fn read_packet(other: &Table, options: &[u8]) {
     let length = options.get(1).map_or(0, |&total| usize::from(total));
     match other.read_option(options.get(..length).unwrap_or(options)) {
-        Ok(label) => println!("the other side reads: '{}'", text(label.bytes())),
-        Err(error) => println!("the other side reads: {error}"),
+        Ok(label) => say!("the other side reads: '{}'\n", text(label.bytes())),
+        Err(error) => say!("the other side reads: {error}\n"),
     }
 }
 
@@ -209,7 +223,7 @@ fn read_packet(other: &Table, options: &[u8]) {
 fn send_packet(table: &Table, other: &Table, label: &str) {
     match label_packet(table, label) {
         Ok(options) => read_packet(other, &options),
-        Err(error) => println!("packet of '{label}': {error}"),
+        Err(error) => say!("packet of '{label}': {error}\n"),
     }
 }
 
@@ -229,7 +243,7 @@ fn packets() -> Result<(), Failed> {
 
     let mut options = label_packet(&table, "Alarm")?;
     options[5] = 4; // OtherDoi: 4 in place of 3
-    print!("with DOI 4, ");
+    say!("with DOI 4, ");
     read_packet(&other, &options);
     Ok(())
 }
@@ -244,7 +258,7 @@ fn create(table: &Table, creator: &str, folder: &str, folder_transmutes: bool, i
         Ok(NewObject::Denied) => "denied".to_string(),
         Err(error) => error.to_string(),
     };
-    println!("{creator} makes a {} in {folder}{}: {answer}", if is_folder { "folder" } else { "file" }, mark(folder_transmutes));
+    say!("{creator} makes a {} in {folder}{}: {answer}\n", if is_folder { "folder" } else { "file" }, mark(folder_transmutes));
 }
 
 /// The recorder and the alarm make record files in one folder, Records, which transmutes. The recorder can read a file that the alarm made only where it has
@@ -266,8 +280,8 @@ fn shared_folder() {
     create(&table, "Alarm/2", "Records", true, false); // BadLabel: no place is told here
 }
 
-fn run(rules: &str, records: &str) -> Result<(), Failed> {
-    let read = |path: &str| std::fs::read(path).map_err(|error| format!("{path}: {error}"));
+fn run(rules: &Path, records: &Path) -> Result<(), Failed> {
+    let read = |path: &Path| std::fs::read(path).map_err(|error| format!("{}: {error}", path.display()));
 
     let table = &mut fresh("");
     load(table, &read(rules)?)?;
@@ -335,12 +349,12 @@ fn run(rules: &str, records: &str) -> Result<(), Failed> {
 }
 
 fn main() -> ExitCode {
-    let arguments: Vec<String> = std::env::args().collect();
+    let arguments: Vec<OsString> = std::env::args_os().collect();
     let [_, rules, records] = &arguments[..] else {
         eprintln!("usage: host RULEFILE RECORDFILE");
         return ExitCode::from(2);
     };
-    if let Err(error) = run(rules, records) {
+    if let Err(error) = run(rules.as_ref(), records.as_ref()) {
         eprintln!("host: {error}");
         return ExitCode::FAILURE;
     }

@@ -31,7 +31,13 @@
 //! - *Nobody else writes during a call.* What a call writes it has by `&mut`, what it reads by `&`, and a table and a loader own their memory. So any number of
 //!   threads can ask one table ([`Table::question`]), and none while another changes it ([`Loader::piece`]).
 //!
-//! An answer that the header does not have, which only another library than the one of this header could give, is a panic.
+//! # What of an answer is checked
+//!
+//! These are a panic, and only another library than the one of this header could bring them about: a kind or a refusal number that the header does not have;
+//! a rule number that does not go with its kind (granted has 2 to 6, denied and override have 1 or 7); a text longer than the output that it is in, a label
+//! outside of the label store, and a label of a packet option of over 255 bytes; a report that counts refused lines and names no first one, or names one and
+//! counts none; and a fresh table that is refused. Nothing else of an answer is checked: counts, levels, sets, label numbers and places are handed on, and a
+//! `bool` that is neither 0 nor 1 cannot be told.
 
 #![deny(missing_docs)]
 #![deny(unsafe_op_in_unsafe_fn)]
@@ -49,6 +55,7 @@ macro_rules! lend {
     }};
 }
 
+mod answer;
 #[allow(non_camel_case_types)]
 mod header;
 mod loader;
@@ -61,7 +68,8 @@ pub use refusal::{Refusal, Refused};
 pub use set::{Record, Set};
 pub use table::{Decision, Mapping, NewObject, PeerLabel, Table};
 
-use header::{BQ_LABEL, BQ_NO_LABEL, BQ_SEARCH_REFUSED, bq_length, bq_line_to_record, bq_lowest, bq_lowest_in_run, bq_lowest_of, bq_record_to_line};
+use answer::{found, front};
+use header::{bq_line_to_record, bq_lowest_in_run, bq_lowest_of, bq_record_to_line};
 
 /// The bytes of a table's label store.
 pub const LABELS: usize = header::LABELS;
@@ -98,7 +106,7 @@ pub const LONGEST_OPTION_READ: usize = header::LONGEST_OPTION_READ;
 
 /// The lowest label number of the records that have this level and this set. A run has any length and content, and is no part of a table.
 ///
-/// Refused with [`Refusal::BadLevelOrCategory`] for a level over 255 and for a set with a bit that is no category.
+/// Refused with: 9 BadLevelOrCategory. It is for a level over 255 and for a set with a bit that is no category.
 ///
 /// ```
 /// use balqirven::{Record, Refusal, Set, lowest_in_run};
@@ -120,6 +128,8 @@ pub fn lowest_in_run(run: &[Record], level: u64, set: Set) -> Result<Option<usiz
 /// As [`lowest_in_run`], with each field of the records in a slice of its own, a set as its three words one after another. There are as many records as the
 /// shortest of the three has room for.
 ///
+/// Refused with: 9 BadLevelOrCategory.
+///
 /// ```
 /// use balqirven::{Refusal, Set, lowest_of};
 ///
@@ -140,7 +150,7 @@ pub fn lowest_of(labels: &[u64], levels: &[u64], set_words: &[u64], level: u64, 
 /// An old record as a rule line in the listing's form, with its newline. It goes to the front of `out`, and the answer is that front; the rest stays, and on
 /// a refusal all of it. [`LONGEST_FIXED_LINE`] bytes are enough for any.
 ///
-/// Refused with 14, 3 (without a place), 4, 5 and 12.
+/// Refused with: 14 BadRecord, 3 BadLabel, 4 BadAccess, 5 SameLabels, 12 OutputTooShort. No place is told.
 ///
 /// ```
 /// use balqirven::{LONGEST_FIXED_LINE, Refusal, record_to_line};
@@ -167,7 +177,7 @@ pub fn record_to_line(record: impl AsRef<[u8]>, out: &mut [u8]) -> Result<&[u8],
 /// A rule line, with or without a closing newline, as an old record, which is [`FIXED_RECORD`] bytes. It goes to the front of `out`, and the answer is that
 /// front; the rest stays, and on a refusal all of it. A label is never cut, and a b is dropped.
 ///
-/// Refused with 1, 2, 3 (without a place), 4, 5, 15 and 12.
+/// Refused with: 1 TooLong, 2 WrongFields, 3 BadLabel, 4 BadAccess, 5 SameLabels, 15 NotInARecord, 12 OutputTooShort. No place is told.
 ///
 /// ```
 /// use balqirven::{FIXED_RECORD, Refusal, line_to_record};
@@ -181,57 +191,4 @@ pub fn line_to_record(line: impl AsRef<[u8]>, out: &mut [u8]) -> Result<&[u8], R
     let line = line.as_ref();
     // SAFETY: valid: two slices, each with its own length; apart: `out` is borrowed by `&mut`, so `line` is not of it; alone: both are borrowed.
     front(unsafe { bq_line_to_record(line.as_ptr(), line.len(), out.as_mut_ptr(), out.len()) }, out)
-}
-
-/// What a call wrote, at the front of its output.
-fn front(answer: bq_length, out: &[u8]) -> Result<&[u8], Refused> {
-    if answer.refused {
-        return Err(Refused::without_place(answer.number));
-    }
-    Ok(out.get(..answer.length).unwrap_or_else(|| panic!("libbalqirven.a says that it wrote {} bytes to an output of {}", answer.length, out.len())))
-}
-
-/// What a search found.
-fn found(answer: bq_lowest) -> Result<Option<usize>, Refused> {
-    match answer.kind {
-        BQ_LABEL => Ok(Some(answer.label)),
-        BQ_NO_LABEL => Ok(None),
-        BQ_SEARCH_REFUSED => Err(Refused::without_place(answer.number)),
-        kind => unknown_kind("search", kind),
-    }
-}
-
-/// For an answer of a kind that the header does not have.
-fn unknown_kind(call: &str, kind: u8) -> ! {
-    panic!("libbalqirven.a answered a {call} by kind {kind}, which the header does not have")
-}
-
-/// No right library gives these answers, so no call reaches them.
-#[cfg(test)]
-mod answers_that_cannot_be {
-    use super::*;
-
-    #[test]
-    #[should_panic = "libbalqirven.a answered a search by kind 3, which the header does not have"]
-    fn a_kind() {
-        let _ = found(bq_lowest { kind: 3, number: 0, label: 0 });
-    }
-
-    #[test]
-    #[should_panic = "libbalqirven.a gave refusal 20, which the header does not have"]
-    fn a_refusal() {
-        let _ = found(bq_lowest { kind: BQ_SEARCH_REFUSED, number: 20, label: 0 });
-    }
-
-    #[test]
-    #[should_panic = "libbalqirven.a says that it wrote 5 bytes to an output of 4"]
-    fn a_length() {
-        let _ = front(bq_length { refused: false, number: 0, length: 5 }, &[0; 4]);
-    }
-
-    #[test]
-    #[should_panic = "libbalqirven.a reported 1 refused lines, and line 0 as the first"]
-    fn a_report() {
-        let _ = Report::of(header::bq_report { refused: 1, ..Default::default() });
-    }
 }

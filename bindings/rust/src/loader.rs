@@ -75,6 +75,14 @@ impl Report {
 /// assert_eq!(table.rules()?.last().unwrap(), b"Recorder Air ra\n");
 /// # Ok::<(), balqirven::Refused>(())
 /// ```
+///
+/// A line under way is in one loader, and is not copied unseen, only by `clone`:
+///
+/// ```compile_fail,E0382
+/// let loader = balqirven::Loader::fresh();
+/// let other = loader;
+/// loader.report();
+/// ```
 #[derive(Clone)]
 pub struct Loader {
     line: [u8; LINE],
@@ -97,7 +105,7 @@ impl Loader {
     /// Takes a piece of rule text, cut anywhere, of any length. Each line (subject, object, access) is judged at its newline, whole, against the table as it
     /// then is. A refused line does nothing but enter the report: the piece is done all the same.
     ///
-    /// Refused with 0, for a damaged table. Then the loader is as it was.
+    /// Refused with: 0 Damaged. Then the loader is as it was.
     ///
     /// ```
     /// use balqirven::{Loader, Refusal, Table};
@@ -143,7 +151,7 @@ impl Loader {
 
     /// Ends the text: bytes after the last newline are one more line. Answers the report, and the loader is fresh again; the table stays.
     ///
-    /// Refused with 0, for a damaged table. Then the loader is as it was.
+    /// Refused with: 0 Damaged. Then the loader is as it was.
     ///
     /// ```
     /// use balqirven::{Loader, Table};

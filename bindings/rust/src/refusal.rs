@@ -15,11 +15,23 @@ use std::fmt;
 /// assert_eq!(refused.refusal as u8, 5);
 /// assert_eq!(format!("{}", refused.refusal), "subject and object are the same label");
 /// ```
+///
+/// These are all of now, and not enough:
+///
+/// ```compile_fail,E0004
+/// use balqirven::Refusal::*;
+///
+/// match balqirven::Table::fresh().change("").unwrap_err().refusal {
+///     Damaged | TooLong | WrongFields | BadLabel | BadAccess | SameLabels | LabelsFull | RulesFull | BadRequest | BadLevelOrCategory | MappingsFull
+///     | TooManyOverrides | OutputTooShort | NoSuchNumber | BadRecord | NotInARecord | BadOption | OtherDoi | BadOptionCategory | NotInAnOption
+///     | NoSuchMapping => (),
+/// }
+/// ```
 #[non_exhaustive]
 #[repr(u8)]
 #[derive(Clone, Copy, Debug, PartialEq, Eq, Hash)]
 pub enum Refusal {
-    /// A count or a length in the table is over its limit, a number in it names no stored label, or it has an unknown mode or category bit (the mode bit of b,
+    /// A count in the table is over its limit, a number in it names no stored label, or it has an unknown mode or category bit (the mode bit of b,
     /// from before version 5, too). This comes before every other refusal.
     Damaged = 0,
     /// A line or a write has over 600 bytes, a mapping write over 1,000.
@@ -124,6 +136,7 @@ impl Refusal {
     /// assert_eq!(Refusal::OtherDoi.sentence(), "it has another DOI than 3");
     /// assert_eq!(Refusal::OtherDoi.to_string(), Refusal::OtherDoi.sentence());
     /// ```
+    #[rustfmt::skip]
     pub const fn sentence(self) -> &'static str {
         match self {
             Damaged => "the state in memory is damaged",
@@ -135,7 +148,7 @@ impl Refusal {
             LabelsFull => "the table has no room for the new labels",
             RulesFull => "the table has no room for one more rule",
             BadRequest => "the request is empty or has something else than the letters r, w, x and a",
-            BadLevelOrCategory => "a level or a category is wrong: levels are 0 to 255 (in a mapping not 250), categories 1 to 184, each in 1 to 3 digits",
+            BadLevelOrCategory => "a level or a category is wrong: levels are 0 to 255 (in a mapping not 250), categories 1 to 184; in a write each has 1 to 3 digits",
             MappingsFull => "the table has no room for one more mapping",
             TooManyOverrides => "the override list has over 8 different labels",
             OutputTooShort => "the buffer that was lent for the output is too short",

@@ -1,7 +1,8 @@
 //! The table, and what its calls answer.
 
+use crate::answer::{counted, decided, found, front, labelled, mapped, part, peer, written};
 use crate::header::*;
-use crate::{ENTRIES, LABELS, LONGEST_LABEL, LONGEST_RULE, Refusal, Refused, Set, WORDS, found, front, unknown_kind};
+use crate::{ENTRIES, LABELS, LONGEST_LABEL, LONGEST_RULE, Refusal, Refused, Set, WORDS};
 use std::fmt;
 
 /// The answer to a question. The rule is one of the seven of Smack, by its number.
@@ -19,7 +20,15 @@ use std::fmt;
 /// assert_eq!(table.question("Alarm", "Air", "r", false)?, Decision::Granted { rule: 6 });
 /// assert_eq!(table.question("Desk", "Air", "r", false)?, Decision::Denied { rule: 7 });
 /// assert_eq!(table.question("Desk", "Air", "r", true)?, Decision::Override { rule: 7 });
+/// assert_eq!(table.question("*", "Air", "r", true)?, Decision::Override { rule: 1 });
 /// # Ok::<(), balqirven::Refused>(())
+/// ```
+///
+/// An answer that nobody looks at is a warning, or an error where the host wants it:
+///
+/// ```compile_fail
+/// #![deny(unused_must_use)]
+/// balqirven::Table::fresh().question("Desk", "Air", "r", false).unwrap();
 /// ```
 #[must_use = "an answer can be a denial"]
 #[derive(Clone, Copy, Debug, PartialEq, Eq, Hash)]
@@ -52,6 +61,13 @@ pub enum Decision {
 /// assert_eq!(table.new_object("Alarm", "Records", false, false)?, NewObject::CreatorLabel);
 /// assert_eq!(table.new_object("Desk", "Records", true, false)?, NewObject::Denied);
 /// # Ok::<(), balqirven::Refused>(())
+/// ```
+///
+/// It is to be looked at, as a [`Decision`] is:
+///
+/// ```compile_fail
+/// #![deny(unused_must_use)]
+/// balqirven::Table::fresh().new_object("Desk", "Records", true, false).unwrap();
 /// ```
 #[must_use = "an answer can be a denial"]
 #[derive(Clone, Copy, Debug, PartialEq, Eq, Hash)]
@@ -101,8 +117,8 @@ pub struct Mapping {
 /// ```
 #[derive(Clone, PartialEq, Eq)]
 pub struct PeerLabel {
-    length: usize,
-    bytes: [u8; LONGEST_LABEL],
+    pub(crate) length: usize,
+    pub(crate) bytes: [u8; LONGEST_LABEL],
 }
 
 impl PeerLabel {
@@ -256,7 +272,7 @@ impl Table {
     /// Changes a rule: subject, object, modes to allow, modes to deny. The pair's new modes are (old or allow) without deny; a pair with no rule starts from
     /// none and goes last. Letters are r w x a t and the dash, either case.
     ///
-    /// Refused with 0, 1, 2, 3, 4, 5, 6 and 7.
+    /// Refused with: 0 Damaged, 1 TooLong, 2 WrongFields, 3 BadLabel, 4 BadAccess, 5 SameLabels, 6 LabelsFull, 7 RulesFull.
     ///
     /// ```
     /// use balqirven::{Refusal, Refused, Table};
@@ -279,7 +295,7 @@ impl Table {
     /// Revokes: every rule with this subject gets no modes and keeps its place. Answers how many rules these are, 0 for an unknown label. The whole text is
     /// one label, without blanks.
     ///
-    /// Refused with 0, 1 and 3.
+    /// Refused with: 0 Damaged, 1 TooLong, 3 BadLabel.
     ///
     /// ```
     /// use balqirven::{Refusal, Refused, Table};
@@ -293,6 +309,13 @@ impl Table {
     /// assert_eq!(table.revoke("Alarm "), Err(Refused { refusal: Refusal::BadLabel, place: Some(5) }));
     /// # Ok::<(), balqirven::Refused>(())
     /// ```
+    ///
+    /// It writes, so it needs the table alone:
+    ///
+    /// ```compile_fail,E0596
+    /// let table = balqirven::Table::fresh();
+    /// table.revoke("Alarm");
+    /// ```
     pub fn revoke(&mut self, label: impl AsRef<[u8]>) -> Result<usize, Refused> {
         let label = label.as_ref();
         let Parts { labels, entries, words } = &mut *self.parts;
@@ -300,13 +323,13 @@ impl Table {
         // three fields, and by `&mut self` `label` is not of them; alone: `&mut self`.
         let answer =
             unsafe { bq_revoke(labels.as_ptr(), labels.len(), entries.as_mut_ptr(), entries.len(), words.as_ptr(), words.len(), label.as_ptr(), label.len()) };
-        if answer.refused { Err(Refused::with_place(answer.number, answer.place)) } else { Ok(answer.count) }
+        counted(answer)
     }
 
     /// Replaces the override list (onlycap) by 1 to 8 different labels, or clears it by a lone dash. Where the list is not empty, only a subject of it has
     /// its denial overridden.
     ///
-    /// Refused with 0, 1, 2, 3, 11 and 6.
+    /// Refused with: 0 Damaged, 1 TooLong, 2 WrongFields, 3 BadLabel, 11 TooManyOverrides, 6 LabelsFull.
     ///
     /// ```
     /// use balqirven::{Decision, Refusal, Table};
@@ -330,7 +353,7 @@ impl Table {
     /// Maps a label: label, level, then no or more categories, in any order, repeats allowed. Level 250 is refused: in a packet option it is for labels
     /// without a mapping.
     ///
-    /// Refused with 0, 1, 2, 3, 9, 6 and 10.
+    /// Refused with: 0 Damaged, 1 TooLong, 2 WrongFields, 3 BadLabel, 9 BadLevelOrCategory, 6 LabelsFull, 10 MappingsFull.
     ///
     /// ```
     /// use balqirven::{Refusal, Table};
@@ -354,7 +377,7 @@ impl Table {
 impl Table {
     /// The mapping of a label, if it has one.
     ///
-    /// Refused with 0 and 3.
+    /// Refused with: 0 Damaged, 3 BadLabel.
     ///
     /// ```
     /// use balqirven::{Refusal, Refused, Table};
@@ -372,18 +395,12 @@ impl Table {
         let label = label.as_ref();
         // SAFETY: valid: the parts are whole arrays and `label` is a slice, each with its own length, and the words are aligned as `u64`; apart: nothing is
         // written; alone: table and label are borrowed, so nobody writes them.
-        let answer = unsafe { lend!(bq_by_label, read self, label.as_ptr(), label.len()) };
-        match answer.kind {
-            BQ_MAPPED => Ok(Some(Mapping { level: answer.level, set: Set::from_words(answer.set.word), count: answer.count })),
-            BQ_UNMAPPED => Ok(None),
-            BQ_LOOKUP_REFUSED => Err(Refused::with_place(answer.number, answer.place)),
-            kind => unknown_kind("look-up", kind),
-        }
+        mapped(unsafe { lend!(bq_by_label, read self, label.as_ptr(), label.len()) })
     }
 
     /// The lowest-numbered label whose mapping has this level and this set, if there is one: its number, for [`Table::label`].
     ///
-    /// Refused with 0; with 9 for a level over 255 and for a set with a bit that is no category.
+    /// Refused with: 0 Damaged, 9 BadLevelOrCategory. The last is for a level over 255 and for a set with a bit that is no category.
     ///
     /// ```
     /// use balqirven::{Refusal, Set, Table};
@@ -409,7 +426,7 @@ impl Table {
 impl Table {
     /// May subject have the access that request asks for, one or more of r w x a, either case, to object? `capable`: the asker has the override capability.
     ///
-    /// Refused with 0, 3 and 8.
+    /// Refused with: 0 Damaged, 3 BadLabel, 8 BadRequest.
     ///
     /// ```
     /// use balqirven::{Decision, Refusal, Refused, Table};
@@ -446,19 +463,13 @@ impl Table {
         // nothing is written; alone: table and texts are borrowed, so nobody writes them.
         let answer =
             unsafe { lend!(bq_question, read self, subject.as_ptr(), subject.len(), object.as_ptr(), object.len(), request.as_ptr(), request.len(), capable) };
-        match answer.kind {
-            BQ_GRANTED => Ok(Decision::Granted { rule: answer.number }),
-            BQ_DENIED => Ok(Decision::Denied { rule: answer.number }),
-            BQ_OVERRIDE => Ok(Decision::Override { rule: answer.number }),
-            BQ_REFUSED => Err(Refused::with_place(answer.number, answer.place)),
-            kind => unknown_kind("question", kind),
-        }
+        decided(answer)
     }
 
     /// The label of a new object that a process with the label `creator` makes in a folder with the label `folder`. `folder_transmutes`: the folder does
     /// (SMACK64TRANSMUTE); `is_folder`: the new object is a folder itself. Nothing changes, and override is not considered.
     ///
-    /// Refused with 0; with 3, without a place, for either label: [`Table::question`] for w with the same two labels tells the place.
+    /// Refused with: 0 Damaged, 3 BadLabel. The last is for either label, and no place is told: [`Table::question`] for w with the same two labels tells it.
     ///
     /// ```
     /// use balqirven::{NewObject, Refusal, Refused, Table};
@@ -479,13 +490,7 @@ impl Table {
         // SAFETY: valid: the parts are whole arrays and the two labels are slices, each with its own length, and the words are aligned as `u64`; apart:
         // nothing is written; alone: table and labels are borrowed, so nobody writes them.
         let answer = unsafe { lend!(bq_new_object, read self, creator.as_ptr(), creator.len(), folder.as_ptr(), folder.len(), folder_transmutes, is_folder) };
-        match answer.kind {
-            BQ_CREATOR_LABEL => Ok(NewObject::CreatorLabel),
-            BQ_CREATION_DENIED => Ok(NewObject::Denied),
-            BQ_FOLDER_LABEL => Ok(NewObject::FolderLabel { transmutes: answer.transmutes }),
-            BQ_CREATION_REFUSED => Err(Refused::without_place(answer.number)),
-            kind => unknown_kind("new object", kind),
-        }
+        labelled(answer)
     }
 }
 
@@ -494,7 +499,7 @@ impl Table {
     /// The rule of this number, from 0, as a line: subject, space, object, space, modes or a dash, newline. It goes to the front of `out`, and the answer is
     /// that front; the rest stays, and on a refusal all of it. [`LONGEST_RULE`] bytes are enough for any rule.
     ///
-    /// Refused with 0, 13 and 12.
+    /// Refused with: 0 Damaged, 13 NoSuchNumber, 12 OutputTooShort.
     ///
     /// ```
     /// use balqirven::{LONGEST_RULE, Refusal, Table};
@@ -523,7 +528,7 @@ impl Table {
 
     /// Every rule, as [`Table::list_rule`] writes it.
     ///
-    /// Refused with 0.
+    /// Refused with: 0 Damaged.
     ///
     /// ```
     /// use balqirven::Table;
@@ -542,7 +547,7 @@ impl Table {
 
     /// The label of this number, from 0: the very bytes of the table's label store. A label keeps its number.
     ///
-    /// Refused with 0 and 13.
+    /// Refused with: 0 Damaged, 13 NoSuchNumber.
     ///
     /// ```
     /// use balqirven::{Refusal, Table};
@@ -568,17 +573,12 @@ impl Table {
     pub fn label(&self, number: usize) -> Result<&[u8], Refused> {
         // SAFETY: valid: the parts are whole arrays, each with its own length, and the words are aligned as `u64`; apart: nothing is written; alone: the
         // table is borrowed, so nobody writes it.
-        let answer = unsafe { lend!(bq_label, read self, number) };
-        if answer.refused {
-            return Err(Refused::without_place(answer.number));
-        }
-        let label = self.parts.labels.get(answer.start..).and_then(|rest| rest.get(..answer.length));
-        Ok(label.expect("libbalqirven.a says that a label stands outside of the label store"))
+        part(unsafe { lend!(bq_label, read self, number) }, &self.parts.labels)
     }
 
     /// Every label, as [`Table::label`] has it.
     ///
-    /// Refused with 0.
+    /// Refused with: 0 Damaged.
     ///
     /// ```
     /// use balqirven::Table;
@@ -595,7 +595,7 @@ impl Table {
 
     /// What [`Table::label`] would be refused with, without the label.
     ///
-    /// Refused with 0 and 13.
+    /// Refused with: 0 Damaged, 13 NoSuchNumber.
     ///
     /// ```
     /// use balqirven::{Refusal, Refused, Table};
@@ -625,7 +625,7 @@ impl Table {
     /// [`LONGEST_OPTION`](crate::LONGEST_OPTION) bytes are enough for any. A label with a mapping goes at its level with its categories. Any other, stored or
     /// not, goes at level 250 as its own bits, and has at most 23 bytes.
     ///
-    /// Refused with 0, 3 (without a place), 19 and 12.
+    /// Refused with: 0 Damaged, 3 BadLabel, 19 NotInAnOption, 12 OutputTooShort. No place is told.
     ///
     /// ```
     /// use balqirven::{LONGEST_OPTION, Refusal, Table};
@@ -648,7 +648,8 @@ impl Table {
     /// The label that an option says. `option` is the one option, without padding. At level 250 it is the label that its own bits make, stored or not; at any
     /// other the lowest-numbered label with this level and these categories.
     ///
-    /// Refused with 0, 16, 17 and 18, then 3 (without a place) at level 250, 21 at any other.
+    /// Refused with: 0 Damaged, 16 BadOption, 17 OtherDoi, 18 BadOptionCategory, 3 BadLabel, 21 NoSuchMapping. At level 250
+    /// it is 3, without a place, and never 21; at any other it is 21, and never 3.
     ///
     /// ```
     /// use balqirven::{Refusal, Table};
@@ -665,9 +666,7 @@ impl Table {
         let option = option.as_ref();
         // SAFETY: valid: the parts are whole arrays and `option` is a slice, each with its own length, and the words are aligned as `u64`; apart: nothing is
         // written; alone: table and option are borrowed, so nobody writes them.
-        let answer = unsafe { lend!(bq_read_option, read self, option.as_ptr(), option.len()) };
-        assert!(answer.length <= LONGEST_LABEL, "libbalqirven.a gave a label of {} bytes", answer.length);
-        if answer.refused { Err(Refused::without_place(answer.number)) } else { Ok(PeerLabel { length: answer.length, bytes: answer.bytes }) }
+        peer(unsafe { lend!(bq_read_option, read self, option.as_ptr(), option.len()) })
     }
 }
 
@@ -681,11 +680,6 @@ impl fmt::Debug for Table {
     fn fmt(&self, f: &mut fmt::Formatter<'_>) -> fmt::Result {
         f.debug_struct("Table").finish_non_exhaustive()
     }
-}
-
-/// What a write answered.
-fn written(answer: bq_written) -> Result<(), Refused> {
-    if answer.refused { Err(Refused::with_place(answer.number, answer.place)) } else { Ok(()) }
 }
 
 /// What a walk over all numbers makes of an answer: the first number that there is not ends it. An undamaged table that nobody changes has no other refusal.

@@ -115,3 +115,34 @@ fn lines_of_a_full_table() {
     assert_eq!(first_of(&mut full, "L58 L58 r").refusal, Refusal::SameLabels);
     assert_eq!(full.by_level(9, Set::of([32]).unwrap()), Ok(Some(5 + 31)));
 }
+
+#[test]
+#[rustfmt::skip]
+fn every_sentence() {
+    let sentences = [
+        (0, "the state in memory is damaged"),
+        (1, "it is too long: a line or a write has at most 600 bytes, a mapping 1,000"),
+        (2, "the number of fields is wrong: a line has 3, a change 4, a mapping 2 or more, an override list 1 or more"),
+        (3, "a label is not well formed"),
+        (4, "an access byte is not allowed where it stands"),
+        (5, "subject and object are the same label"),
+        (6, "the table has no room for the new labels"),
+        (7, "the table has no room for one more rule"),
+        (8, "the request is empty or has something else than the letters r, w, x and a"),
+        (9, "a level or a category is wrong: levels are 0 to 255 (in a mapping not 250), categories 1 to 184; in a write each has 1 to 3 digits"),
+        (10, "the table has no room for one more mapping"),
+        (11, "the override list has over 8 different labels"),
+        (12, "the buffer that was lent for the output is too short"),
+        (13, "the rules, or the labels, end before that number"),
+        (14, "it does not have 53 bytes, or a label place is all spaces, has another byte after a space or does not end in a space"),
+        (15, "a label has over 23 bytes; no old record holds that, and a label is never cut"),
+        (16, "it is not laid out as one packet option with one tag of type 1 and nothing behind it"),
+        (17, "it has another DOI than 3"),
+        (18, "it has category 0 or one above 184"),
+        (19, "a label without a mapping has over 23 bytes; no packet option holds that, and a label is never cut"),
+        (21, "no label has a mapping with its level and categories"),
+    ];
+    let refusals: Vec<_> = (0..=255).filter_map(Refusal::from_number).collect();
+    assert_eq!(refusals.iter().map(|refusal| (refusal.number(), refusal.sentence())).collect::<Vec<_>>(), sentences);
+    assert!(refusals.iter().all(|refusal| refusal.to_string() == refusal.sentence()));
+}
