@@ -4,7 +4,7 @@
  *
  *   gcc -O2 -Iinclude examples/host.c target/staticlib/libbalqirven.a -o host && ./host examples/store_north.rules examples/old_logger.records
  *
- * examples/host.rs is the same in Rust; both write examples/host.expected. */
+ * examples/host.rs is the same in Rust, examples/host.py in Python; all three write examples/host.expected, and say a refusal in the same words. */
 #include "balqirven.h"
 
 #include <ctype.h>
@@ -69,16 +69,16 @@ static bool done(const char *call, bq_written w)
     return !w.refused;
 }
 
-/* What a line of rule text, or one of the calls of old records, of the packet option and of new objects, is refused for, in words. */
+/* What a call, or a line of rule text, is refused for, in words. */
 static const char *in_words(uint8_t number)
 {
     switch (number) {
     case BQ_DAMAGED:
-        return "the lent state is damaged";
+        return "the state in memory is damaged";
     case BQ_TOO_LONG:
-        return "it has over 600 bytes";
+        return "it is too long: a line or a write has at most 600 bytes, a mapping 1,000";
     case BQ_WRONG_FIELDS:
-        return "it does not have three fields";
+        return "the number of fields is wrong: a line has 3, a change 4, a mapping 2 or more, an override list 1 or more";
     case BQ_BAD_LABEL:
         return "a label is not well formed";
     case BQ_BAD_ACCESS:
@@ -86,17 +86,27 @@ static const char *in_words(uint8_t number)
     case BQ_SAME_LABELS:
         return "subject and object are the same label";
     case BQ_LABELS_FULL:
-        return "there is no room for its new labels";
+        return "the table has no room for the new labels";
     case BQ_RULES_FULL:
-        return "there is no room for one more rule";
+        return "the table has no room for one more rule";
+    case BQ_BAD_REQUEST:
+        return "the request is empty or has something else than the letters r, w, x and a";
+    case BQ_BAD_LEVEL_OR_CATEGORY:
+        return "a level or a category is wrong: levels are 0 to 255 (in a mapping not 250), categories 1 to 184; in a write each has 1 to 3 digits";
+    case BQ_MAPPINGS_FULL:
+        return "the table has no room for one more mapping";
+    case BQ_TOO_MANY_OVERRIDES:
+        return "the override list has over 8 different labels";
     case BQ_OUTPUT_TOO_SHORT:
-        return "the lent output is too short";
+        return "the buffer that was lent for the output is too short";
+    case BQ_NO_SUCH_NUMBER:
+        return "the rules, or the labels, end before that number";
     case BQ_BAD_RECORD:
         return "it does not have 53 bytes, or a label place is all spaces, has another byte after a space or does not end in a space";
     case BQ_NOT_IN_A_RECORD:
         return "a label has over 23 bytes; no old record holds that, and a label is never cut";
     case BQ_BAD_OPTION:
-        return "it is not the one option with one tag of type 1, or not whole, or has bytes behind it";
+        return "it is not laid out as one packet option with one tag of type 1 and nothing behind it";
     case BQ_OTHER_DOI:
         return "it has another DOI than 3";
     case BQ_BAD_OPTION_CATEGORY:
@@ -106,7 +116,7 @@ static const char *in_words(uint8_t number)
     case BQ_NO_SUCH_MAPPING:
         return "no label has a mapping with its level and categories";
     default:
-        return "no reason that is given here";
+        return "for no reason that the header has";
     }
 }
 
@@ -161,12 +171,15 @@ static bool load(const char *path)
 static void ask(const char *subject, const char *object, const char *request, bool capable)
 {
     static const char *const kinds[] = {[BQ_GRANTED] = "granted", [BQ_DENIED] = "denied", [BQ_OVERRIDE] = "override"};
+    const size_t known = sizeof kinds / sizeof *kinds;
     bq_decision d = bq_question(TABLES, TEXT(subject), TEXT(object), TEXT(request), capable);
     printf("may %s have %s to %s%s: ", subject, request, object, capable ? " (override capability)" : "");
     if (d.kind == BQ_REFUSED)
         print_refused(d.number, d.place, "the subject or, where that is well formed, of the object");
-    else
+    else if (d.kind < known)
         printf("%s %d\n", kinds[d.kind], d.number);
+    else
+        printf("no such answer\n");
 }
 
 static void revoke(const char *subject)
@@ -206,11 +219,12 @@ static void show_mapping(const char *label)
         print_refused(m.number, m.place, "that label");
     else if (m.kind == BQ_UNMAPPED)
         printf("none\n");
-    else {
+    else if (m.kind == BQ_MAPPED) {
         printf("level %d, %u categories:", m.level, m.count);
         print_categories(m.set);
         printf("\n");
-    }
+    } else
+        printf("no such answer\n");
 }
 
 /* What was sought, in the table or in a run. */
@@ -226,9 +240,9 @@ static void show_label_of(uint64_t level, bq_set set)
     bq_lowest found = bq_by_level(TABLES, level, set);
     if (refused("mapping by level and set", found.kind == BQ_SEARCH_REFUSED, found.number))
         return;
-    if (found.kind == BQ_NO_LABEL) {
+    if (found.kind != BQ_LABEL) {
         print_sought(level, set);
-        printf("no label\n");
+        printf("%s\n", found.kind == BQ_NO_LABEL ? "no label" : "no such answer");
         return;
     }
     bq_part part = bq_label(TABLES, found.label);
@@ -244,10 +258,10 @@ static void show_lowest(const bq_record *run, size_t records, uint64_t level, bq
     if (refused("search of a run", found.kind == BQ_SEARCH_REFUSED, found.number))
         return;
     print_sought(level, set);
-    if (found.kind == BQ_NO_LABEL)
-        printf("none of the run\n");
-    else
+    if (found.kind == BQ_LABEL)
         printf("lowest of the run is label %zu\n", found.label);
+    else
+        printf("%s\n", found.kind == BQ_NO_LABEL ? "none of the run" : "no such answer");
 }
 
 /* Every rule by its number, up to the first number that is no rule's. */
@@ -442,8 +456,11 @@ static void create(const char *creator, const char *folder, bool folder_transmut
     case BQ_CREATION_DENIED:
         printf("denied\n");
         break;
-    default:
+    case BQ_CREATION_REFUSED:
         printf("refused %d: %s\n", object.number, in_words(object.number));
+        break;
+    default:
+        printf("no such answer\n");
     }
 }
 
@@ -469,14 +486,11 @@ static bool shared_folder(void)
     return true;
 }
 
-int main(int argc, char **argv)
+/* All of it. False where a file could not be read, or something was refused that no part of this host expects. */
+static bool run(const char *rule_file, const char *record_file)
 {
-    if (argc != 3) {
-        fprintf(stderr, "usage: host RULEFILE RECORDFILE\n");
-        return 2;
-    }
-    if (!done("fresh table", bq_fresh_table(TABLES)) || !load(argv[1]))
-        return 1;
+    if (!done("fresh table", bq_fresh_table(TABLES)) || !load(rule_file))
+        return false;
     ask("ClimateProbe_StoreNorth_01_Temp", "Air_StoreNorth_01", "w", false);
     ask("ClimateProbe_StoreNorth_01_Temp", "Air_StoreNorth_02", "w", false);
     ask("Alarm", "Air_StoreNorth_02", "r", false);  /* its line is an old one, with rB: r counts */
@@ -524,10 +538,24 @@ int main(int argc, char **argv)
     words[1] = 257; /* a damaged state: every call refuses it with BQ_DAMAGED, and leaves it as it is */
     done("change on 257 rules", bq_change(TABLES, TEXT("Alarm Archive r -")));
 
-    if (!old_records(argv[2]))
-        return 1;
+    if (!old_records(record_file))
+        return false;
     show_record("Alarm Archive ra");
     show_record("Alarm Archive rab"); /* the same record */
     show_record("ClimateProbe_StoreNorth_01_Temp Air_StoreNorth_01 w"); /* BQ_NOT_IN_A_RECORD */
-    return packets() && shared_folder() ? 0 : 1;
+    return packets() && shared_folder();
+}
+
+int main(int argc, char **argv)
+{
+    if (argc != 3) {
+        fprintf(stderr, "usage: host RULEFILE RECORDFILE\n");
+        return 2;
+    }
+    bool good = run(argv[1], argv[2]);
+    if (fflush(stdout) != 0 || ferror(stdout)) {
+        perror("standard output");
+        return 1;
+    }
+    return good ? 0 : 1;
 }

@@ -11,6 +11,7 @@ or without:
   export BALQIRVEN_LIBRARY=target/python/libbalqirven.so.5 PYTHONPATH=bindings/python
   python3 examples/host.py examples/store_north.rules examples/old_logger.records
 """
+import os
 import sys
 
 from balqirven import FIXED_PLACE, FIXED_RECORD, HIGHEST_CATEGORY, OWN_LEVEL, Loader, Record, Refusal, Refused, Set, Table
@@ -314,6 +315,12 @@ if __name__ == "__main__":
         print("usage: host.py RULEFILE RECORDFILE", file=sys.stderr)
         sys.exit(2)
     try:
-        sys.exit(main(*sys.argv[1:]))
-    except (OSError, Refused) as error:  # a file that cannot be read, or a refusal that no part of this host expects
+        status = main(*sys.argv[1:])
+        sys.stdout.flush()
+    except (OSError, Refused) as error:  # a file or an output that cannot be read or written, or a refusal that no part of this host expects
+        try:
+            sys.stdout.flush()
+        except OSError:  # Python would try once more at its end, and exit with 120
+            os.dup2(os.open(os.devnull, os.O_WRONLY), sys.stdout.fileno())
         sys.exit(f"host.py: {error}")
+    sys.exit(status)

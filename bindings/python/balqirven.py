@@ -24,20 +24,29 @@ The header's three duties of a host are kept here:
 - Nobody else writes during a call: the library is loaded with ctypes.PyDLL, which keeps the interpreter's lock, since the calls are short and never wait,
   and a lock of each table would not cover the views of its parts and the lent buffers. (Code that writes a view without that lock, as readinto in another
   thread does, must not run during a call.)
+
+A loader's call takes the state, calls the library and stores the new state in one step of the interpreter: so another thread, a signal handler (also one that
+raises, as that of Ctrl-C does) and a fork come before it or after it, and nothing ever waits. Only code that the collector runs within that step, a __del__,
+can find the loader in use: then a second use is a RuntimeError, and `report` and `kept` are those from before the step.
+
+Text is bytes, a bytearray or a memoryview, and nothing else. An `out` is any object that lends writable memory in one run: a bytearray, a memoryview of one, an
+array.array, an mmap.
 """
 import ctypes
 import ctypes.util
 import enum
+import itertools
 import operator
 import os
 import sys
-import threading
 from ctypes import POINTER, Structure, c_bool, c_char_p, c_size_t, c_uint8, c_uint32, c_uint64
 from typing import NamedTuple, Optional
 
 __all__ = [
     "Table", "Loader", "Report", "Decision", "NewObject", "Mapping", "Record", "Set", "Refusal", "Refused", "Impossible",
-    "lowest_in_run", "lowest_of", "record_to_line", "line_to_record",
+    "lowest_in_run", "lowest_of", "record_to_line", "line_to_record", "LIBRARY",
+    "VERSION_MAJOR", "VERSION_MINOR", "LABELS", "ENTRIES", "WORDS", "LINE", "LONGEST_LABEL", "LONGEST_RULE", "FIXED_RECORD", "FIXED_PLACE", "FIXED_LABEL",
+    "LONGEST_FIXED_LINE", "LONGEST_MAPPING", "HIGHEST_CATEGORY", "OWN_LEVEL", "LONGEST_OWN_LABEL", "LONGEST_OPTION", "LONGEST_OPTION_READ",
 ]
 
 # The sizes and numbers of the header, under its names without BQ_.
@@ -215,7 +224,8 @@ class Refusal(enum.IntEnum):
     LABELS_FULL = 6, "the table has no room for the new labels"
     RULES_FULL = 7, "the table has no room for one more rule"
     BAD_REQUEST = 8, "the request is empty or has something else than the letters r, w, x and a"
-    BAD_LEVEL_OR_CATEGORY = 9, "a level or a category is wrong: levels are 0 to 255 (in a mapping not 250), categories 1 to 184, each in 1 to 3 digits"
+    BAD_LEVEL_OR_CATEGORY = 9, \
+        "a level or a category is wrong: levels are 0 to 255 (in a mapping not 250), categories 1 to 184; in a write each has 1 to 3 digits"
     MAPPINGS_FULL = 10, "the table has no room for one more mapping"
     TOO_MANY_OVERRIDES = 11, "the override list has over 8 different labels"
     OUTPUT_TOO_SHORT = 12, "the buffer that was lent for the output is too short"
@@ -236,8 +246,10 @@ class Refusal(enum.IntEnum):
 
 
 class Refused(Exception):
-    """A call was refused, and changed nothing. `refusal` says why. `place` is where the first bad byte of the first bad label stands, from 0; it is None
-    beside every refusal but BAD_LABEL, and in the calls that tell no place: new_object, write_option, read_option, record_to_line and line_to_record.
+    """A call was refused, and changed nothing. `refusal` says why. `place` is where the first bad byte of the first bad label stands, from 0: in a write of
+    fields (change, override_list, mapping) counted from the first byte of the write, blanks too; where the label itself is given (revoke, by_label) from the
+    label's first byte; in a question from the first byte of the subject or, where that is well formed, of the object. It is None beside every refusal but
+    BAD_LABEL, and in the calls that tell no place: new_object, write_option, read_option, record_to_line and line_to_record.
 
     >>> try:
     ...     Table.fresh().change(b"Alarm Archive/2026 r -")
@@ -316,9 +328,16 @@ def _text(value, name):
     return text, len(text)
 
 
+def _index(value, name):
+    """An integer. True and False are none here: where one is given, an argument stands in the wrong place."""
+    if isinstance(value, bool):
+        raise TypeError(f"{name} is {value}, and not a number")
+    return operator.index(value)
+
+
 def _number(value, name):
     """A number that C holds in 64 bits without a sign. ctypes would cut any other to such a one."""
-    number = operator.index(value)
+    number = _index(value, name)
     if not 0 <= number < 1 << 64:
         raise ValueError(f"{name} is {number}, and not 0 to {(1 << 64) - 1}")
     return number
@@ -395,7 +414,8 @@ class Set:
 
     def __init__(self, *categories):
         words = [0, 0, 0]
-        for category in map(operator.index, categories):
+        for category in categories:
+            category = _index(category, "a category")
             if not 1 <= category <= HIGHEST_CATEGORY:
                 raise ValueError(f"{category} is no category: they are 1 to {HIGHEST_CATEGORY}")
             words[(category - 1) // 64] |= 1 << 63 - (category - 1) % 64
@@ -410,10 +430,10 @@ class Set:
         Set(1, 63, 184)
         >>> Set.from_words(0, 0, 1)
         Set.from_words(0x0, 0x0, 0x1)
-        >>> Table.fresh().by_level(9, Set.from_words(0, 0, 1))
+        >>> Table.fresh().by_level(9, Set.from_words(0, 0, 1))  # doctest: +ELLIPSIS
         Traceback (most recent call last):
         ...
-        balqirven.Refused: refused 9: a level or a category is wrong: levels are 0 to 255 (in a mapping not 250), categories 1 to 184, each in 1 to 3 digits
+        balqirven.Refused: refused 9: a level or a category is wrong: levels are 0 to 255 (in a mapping not 250), categories 1 to 184; ...
         """
         made = cls()
         made._words = tuple(_number(word, "a word of a set") for word in (first, second, third))
@@ -535,32 +555,59 @@ def _report(c):
 
 # ---- the table
 
+class _Parts(Structure):
+    """The three parts as one piece of memory, which can be copied in one step."""
+    _fields_ = [("words", c_uint64 * WORDS), ("labels", c_uint8 * LABELS), ("entries", c_uint8 * ENTRIES)]
+
+
 class Table:
-    """Labels, rules, mappings and the override list, in three parts of memory that the table owns. A new one is fresh.
+    """Labels, rules, mappings and the override list, in three parts of memory that the table owns. A new one is fresh. A copy, by copy.copy or
+    copy.deepcopy, is a table of its own with the same parts; so is what pickle reads.
 
     >>> table = Table()
     >>> table.change(b"Alarm Archive r -")
-    >>> list(table.rules()), table.label(5)
+    >>> table.rules(), table.label(5)
     ([b'Alarm Archive r\\n'], b'Alarm')
     """
-    __slots__ = ("_labels", "_entries", "_words", "_lent", "__weakref__")
+    __slots__ = ("_parts", "_labels", "_entries", "_words", "_lent", "__weakref__")
 
     def __init__(self):
-        self._labels, self._entries, self._words = (c_uint8 * LABELS)(), (c_uint8 * ENTRIES)(), (c_uint64 * WORDS)()
-        self._lent = self._labels, LABELS, self._entries, ENTRIES, self._words, WORDS
+        self._own(_Parts())
         self.make_fresh()
+
+    def _own(self, parts):
+        self._parts, self._labels, self._entries, self._words = parts, parts.labels, parts.entries, parts.words
+        self._lent = self._labels, LABELS, self._entries, ENTRIES, self._words, WORDS
+
+    def _at_once(self):
+        """A copy, made in one step, for what takes more than one: nobody else has it."""
+        copied = Table.__new__(Table)
+        copied._own(_Parts.from_buffer_copy(self._parts))
+        return copied
+
+    def __getstate__(self):
+        return self.parts(), getattr(self, "__dict__", None)
+
+    def __setstate__(self, state):
+        parts, more = state
+        self._own(_Parts())
+        self._fill(*parts)
+        if more:
+            self.__dict__.update(more)
 
     @classmethod
     def fresh(cls):
-        """A fresh table: the labels _ ^ * ? @ alone.
+        """A fresh table: the labels _ ^ * ? @ alone. Of a subclass it is one of the subclass.
 
-        >>> list(Table.fresh().stored_labels())
+        >>> Table.fresh().stored_labels()
         [b'_', b'^', b'*', b'?', b'@']
         """
         return cls()
 
     def make_fresh(self):
         """Makes this table a fresh one again, also where it is damaged. Bytes that no entry holds stay as they were.
+
+        Refusals: none.
 
         >>> table = Table.fresh()
         >>> table.words[1] = 257
@@ -574,11 +621,12 @@ class Table:
 
     @classmethod
     def from_parts(cls, labels, entries, words):
-        """A table with these contents, which are copied: 16,384, 840 and 800 bytes. They may be damaged: then every call is refused with 0.
+        """A table with these contents, which are copied: 16,384, 840 and 800 bytes. They may be damaged: then every call but make_fresh is refused with 0. Of a
+        subclass it is one of the subclass. (Views of a table that another thread writes are copied one after another: take copy.copy, or its parts().)
 
         >>> table = Table.fresh()
         >>> table.change(b"Alarm Archive r -")
-        >>> list(Table.from_parts(*table.parts()).rules())
+        >>> Table.from_parts(*table.parts()).rules()
         [b'Alarm Archive r\\n']
         >>> Table.from_parts(b"", b"", b"")
         Traceback (most recent call last):
@@ -586,20 +634,24 @@ class Table:
         ValueError: labels has 0 bytes, and not 16384
         """
         made = cls()
-        for name, value, part in ("labels", labels, made._labels), ("entries", entries, made._entries), ("words", words, made._words):
+        made._fill(labels, entries, words)
+        return made
+
+    def _fill(self, labels, entries, words):
+        for name, value, part in ("labels", labels, self._labels), ("entries", entries, self._entries), ("words", words, self._words):
             content = _bytes(value, name)
             if len(content) != ctypes.sizeof(part):
                 raise ValueError(f"{name} has {len(content)} bytes, and not {ctypes.sizeof(part)}")
-            ctypes.memmove(part, content, len(content))
-        return made
+            memoryview(part).cast("B")[:] = content
 
     def parts(self):
-        """Copies of the three parts: labels, entries and words, as bytes.
+        """Copies of the three parts, of one moment: labels, entries and words, as bytes.
 
         >>> [len(part) for part in Table.fresh().parts()]
         [16384, 840, 800]
         """
-        return bytes(self._labels), bytes(self._entries), bytes(self._words)
+        copied = _Parts.from_buffer_copy(self._parts)
+        return bytes(copied.labels), bytes(copied.entries), bytes(copied.words)
 
     @property
     def labels(self):
@@ -639,7 +691,9 @@ class Table:
     # -- single writes
 
     def change(self, text):
-        """Changes a rule: subject, object, modes to allow, modes to deny. Refusals: 0 1 2 3 4 5 6 7.
+        """Changes a rule: subject, object, modes to allow, modes to deny. Letters are r w x a t and the dash, either case.
+
+        Refusals: 0 1 2 3 4 5 6 7.
 
         >>> table = Table.fresh()
         >>> table.change(b"Alarm Archive rw -")
@@ -650,7 +704,9 @@ class Table:
         _done(_library.bq_change(*self._lent, *_text(text, "text")))
 
     def revoke(self, label):
-        """Takes all modes from each rule with this subject, and answers how many rules that are. Refusals: 0 1 3.
+        """Takes all modes from each rule with this subject, and answers how many rules that are.
+
+        Refusals: 0 1 3.
 
         >>> table = Table.fresh()
         >>> table.change(b"Alarm Archive r -")
@@ -666,7 +722,9 @@ class Table:
         return _done(_library.bq_revoke(*self._lent, *_text(label, "label"))).count
 
     def override_list(self, text):
-        """Sets the override list (onlycap) to 1 to 8 labels, or clears it by a lone dash. Refusals: 0 1 2 3 11 6.
+        """Sets the override list (onlycap) to 1 to 8 labels, or clears it by a lone dash.
+
+        Refusals: 0 1 2 3 11 6.
 
         >>> table = Table.fresh()
         >>> table.override_list(b"Desk Alarm")
@@ -675,7 +733,9 @@ class Table:
         _done(_library.bq_onlycap(*self._lent, *_text(text, "text")))
 
     def mapping(self, text):
-        """Maps a label (CIPSO): label, level, no or more categories. Refusals: 0 1 2 3 9 6 10.
+        """Maps a label (CIPSO): label, level, no or more categories.
+
+        Refusals: 0 1 2 3 9 6 10.
 
         >>> table = Table.fresh()
         >>> table.mapping(b"Archive 9 1 63")
@@ -685,7 +745,9 @@ class Table:
     # -- look-ups of mappings
 
     def by_label(self, label):
-        """The Mapping of a label, or None where it has none. Refusals: 0 3.
+        """The Mapping of a label, or None where it has none.
+
+        Refusals: 0 3.
 
         >>> table = Table.fresh()
         >>> table.mapping(b"Archive 9 1 63")
@@ -702,7 +764,9 @@ class Table:
         return Mapping(answer.level, Set.from_words(*answer.set.word), answer.count) if answer.kind == _MAPPED else None
 
     def by_level(self, level, set):
-        """The lowest number of a label that is mapped to this level and this set, or None. Number 0 is a label's too: compare with None. Refusals: 0 9.
+        """The lowest number of a label that is mapped to this level and this set, or None. Number 0 is a label's too: compare with None.
+
+        Refusals: 0 9.
 
         >>> table = Table.fresh()
         >>> table.mapping(b"Archive 9 1 63")
@@ -714,8 +778,10 @@ class Table:
     # -- questions
 
     def question(self, subject, object, request, *, capable=False):
-        """May subject have to object the access that request asks for, one or more of r w x a? `capable`: the asker has the override capability.
-        Refusals: 0 3 8. The place beside 3 is in the subject or, where that is well formed, in the object.
+        """May subject have to object the access that request asks for, one or more of r w x a, either case? `capable`: the asker has the override capability.
+        The place beside 3 is in the subject or, where that is well formed, in the object.
+
+        Refusals: 0 3 8.
 
         >>> table = Table.fresh()
         >>> table.change(b"Alarm Archive r -")
@@ -737,7 +803,9 @@ class Table:
 
     def new_object(self, creator, folder, *, folder_transmutes, is_folder):
         """Which label does an object get that a process with the label `creator` makes in a folder with the label `folder`? Override is not considered.
-        Refusals: 0 3. No place is told.
+        No place is told.
+
+        Refusals: 0 3.
 
         >>> table = Table.fresh()
         >>> table.change(b"Alarm Records wt -")
@@ -761,9 +829,10 @@ class Table:
     # -- listing
 
     def list_rule(self, k, out=None):
-        """Rule k, from 0, as a line with its newline. Refusals: 0 13 12.
+        """Rule k, from 0, as a line with its newline. It is returned; or, where a writable buffer `out` is lent, written to its front, and its length is
+        returned. The rest of `out` stays.
 
-        It is returned; or, where a writable buffer `out` is lent, written to its front, and its length is returned. The rest of `out` stays.
+        Refusals: 0 13 12.
 
         >>> table = Table.fresh()
         >>> table.change(b"Alarm Archive r -")
@@ -780,7 +849,9 @@ class Table:
         return _output(_library.bq_list_rule, (*self._lent, _number(k, "k")), LONGEST_RULE, out, (self._labels, self._entries, self._words))
 
     def label(self, k):
-        """Label k, from 0. Refusals: 0 13.
+        """Label k, from 0.
+
+        Refusals: 0 13.
 
         >>> Table.fresh().label(4)
         b'@'
@@ -789,40 +860,49 @@ class Table:
         ...
         balqirven.Refused: refused 13: the rules, or the labels, end before that number
         """
-        answer = _done(_library.bq_label(*self._lent, _number(k, "k")))
+        copied = self._at_once()  # so where the label stands and its bytes are of one moment
+        answer = _done(_library.bq_label(*copied._lent, _number(k, "k")))
         if answer.start + answer.length > LABELS:
             raise Impossible(f"label {k} was said to stand at {answer.start} and to have {answer.length} bytes")
-        return self.labels[answer.start:answer.start + answer.length].tobytes()
+        return copied.labels[answer.start:answer.start + answer.length].tobytes()
 
     def label_check(self, k):
-        """Refused where label(k) is, and nothing else. Refusals: 0 13.
+        """Refused where label(k) is, and nothing else.
+
+        Refusals: 0 13.
 
         >>> Table.fresh().label_check(4)
         """
         _done(_library.bq_label_check(*self._lent, _number(k, "k")))
 
     def rules(self):
-        """Every rule, as list_rule gives it.
+        """Every rule, as list_rule gives it: a list, of one moment.
+
+        Refusals: 0.
 
         >>> table = Table.fresh()
         >>> table.change(b"Alarm Archive r -")
-        >>> list(table.rules())
+        >>> table.rules()
         [b'Alarm Archive r\\n']
         """
-        return _each(self.list_rule)
+        return _each(self._at_once().list_rule)
 
     def stored_labels(self):
-        """Every label, as label gives it.
+        """Every label, as label gives it: a list, of one moment.
+
+        Refusals: 0.
 
         >>> b"".join(Table.fresh().stored_labels())
         b'_^*?@'
         """
-        return _each(self.label)
+        return _each(self._at_once().label)
 
     # -- the packet option
 
     def write_option(self, label, out=None):
-        """The packet option of a label; `out` is as in list_rule. Refusals: 0 3 19 12. No place is told.
+        """The packet option of a label; `out` is as in list_rule. No place is told.
+
+        Refusals: 0 3 19 12.
 
         >>> list(Table.fresh().write_option(b"A"))
         [134, 12, 0, 0, 0, 3, 1, 6, 0, 250, 32, 128]
@@ -831,7 +911,9 @@ class Table:
         return _output(_library.bq_write_option, before, LONGEST_OPTION, out, (self._labels, self._entries, self._words))
 
     def read_option(self, option):
-        """The label that a packet option says. `option` is the one option and nothing else. Refusals: 0 16 17 18 3 21. No place is told.
+        """The label that a packet option says. `option` is the one option and nothing else. No place is told.
+
+        Refusals: 0 16 17 18 3 21.
 
         >>> Table.fresh().read_option(bytes([134, 12, 0, 0, 0, 3, 1, 6, 0, 250, 32, 128]))
         b'A'
@@ -844,22 +926,24 @@ class Table:
 
 def _each(call):
     """What a call answers for 0, 1 and so on, up to the first number that is none."""
-    k = 0
+    answers = []
     while True:
         try:
-            answer = call(k)
+            answers.append(call(len(answers)))
         except Refused as refused:
             if refused.refusal is Refusal.NO_SUCH_NUMBER:
-                return
+                return answers
             raise
-        yield answer
-        k += 1
 
 
 # ---- rule text
 
+_STATE, _REPORT = operator.attrgetter("loader"), operator.attrgetter("report")
+
+
 class Loader:
-    """Takes a rule text in pieces, cut anywhere. It owns the line under way; a lock lets in one call at a time.
+    """Takes a rule text in pieces, cut anywhere. It owns the line under way. A copy, by copy.copy or copy.deepcopy, is a loader of its own that stands where
+    this one does; so is what pickle reads.
 
     >>> table, loader = Table.fresh(), Loader()
     >>> loader.piece(table, b"Alarm Air_1 r\\nAlarm A")
@@ -869,27 +953,55 @@ class Loader:
     >>> loader.end(table).accepted
     2
     """
-    __slots__ = ("_line", "_state", "_lock", "__weakref__")
+    __slots__ = ("_line", "_state", "_mark", "__weakref__")
 
     def __init__(self):
-        self._line, self._state, self._lock = (c_uint8 * LINE)(), _library.bq_fresh_loader(), threading.Lock()
+        self._own(_library.bq_fresh_loader())
+
+    def _own(self, state):
+        # The state is never changed, but replaced by another: so whoever reads it has it whole. The mark is one item, which is out while the loader is in use.
+        self._line, self._state, self._mark = (c_uint8 * LINE)(), state, [True]
+
+    def _alone(self, *steps):
+        """Takes the mark, one item of each of these iterators, one after another, and gives the mark back. That is one step of the interpreter: zip, map,
+        repeat and tee are C and run no code of Python, so no other thread and no signal handler runs before `next` is over. Only the collector can begin
+        within it, where it runs a __del__: that finds no mark. (Where memory runs out within the step, the mark does not come back.)"""
+        try:
+            return next(zip(map(self._mark.pop, (0,)), *steps, map(self._mark.append, (True,))))[1:-1]
+        except IndexError:
+            raise RuntimeError("this loader is in use: a call of it is under way, or was broken off (then make a new loader)") from None
+
+    def _now(self):
+        """Gives the state, as it is when it is asked for."""
+        return map(getattr, (self,), ("_state",))
+
+    def _store(self, states):
+        """Stores the state that it is given, when it is asked to."""
+        return map(setattr, (self,), ("_state",), states)
 
     def _call(self, function, table, *text):
-        """One call with the state. It is not there meanwhile: so a call that a signal breaks off (Ctrl-C) before the new one is kept leaves none."""
-        lent = _of(Table, table, "table")._lent
-        with self._lock:
-            state, self._state = self._ready(), None
-            answer = function(*lent, self._line, LINE, state, *text)
-            self._state = answer.loader
-        return _done(answer)
+        """One call: from the state now to the answer's state."""
+        before = map(itertools.repeat, (*_of(Table, table, "table")._lent, self._line, LINE))
+        answers, again = itertools.tee(map(function, *before, self._now(), *map(itertools.repeat, text)))
+        self._alone(self._store(map(_STATE, answers)))
+        return _done(next(again))
 
-    def _ready(self):
-        if self._state is None:
-            raise RuntimeError("a call of this loader was interrupted, and where it stands is not known: make a new loader")
-        return self._state
+    def __getstate__(self):
+        return *self._alone(map(bytes, (self._line,)), map(bytes, self._now())), getattr(self, "__dict__", None)
+
+    def __setstate__(self, state):
+        line, numbers, more = state
+        if len(line) != LINE or len(numbers) != ctypes.sizeof(_bq_loader):
+            raise ValueError("this is no loader's line and state")
+        self._own(_bq_loader.from_buffer_copy(numbers))
+        self.line[:] = line
+        if more:
+            self.__dict__.update(more)
 
     def piece(self, table, text):
-        """Takes a piece of rule text. A line that is refused enters the report, and the piece is done all the same. Refusals: 0.
+        """Takes a piece of rule text. A line that is refused enters the report, and the piece is done all the same.
+
+        Refusals: 0.
 
         >>> table, loader = Table.fresh(), Loader()
         >>> loader.piece(table, b"Alarm Archive r\\n")
@@ -897,7 +1009,9 @@ class Loader:
         self._call(_library.bq_piece, table, *_text(text, "text"))
 
     def end(self, table):
-        """Ends the text: bytes after the last newline are one more line. Answers the Report; the loader is fresh again. Refusals: 0.
+        """Ends the text: bytes after the last newline are one more line. Answers the Report; the loader is fresh again.
+
+        Refusals: 0.
 
         >>> table, loader = Table.fresh(), Loader()
         >>> loader.piece(table, b"Alarm Archive")
@@ -915,8 +1029,7 @@ class Loader:
         >>> Loader().report
         Report(lines=0, accepted=0, skipped=0, refused=0, first=None, reason=None, place=None, bringup=0)
         """
-        with self._lock:
-            return _report(self._ready().report)
+        return _report(self._state.report)
 
     @property
     def kept(self):
@@ -929,13 +1042,11 @@ class Loader:
         ...
         balqirven.Refused: refused 0: the state in memory is damaged
         """
-        with self._lock:
-            return self._ready().kept
+        return self._state.kept
 
     @kept.setter
     def kept(self, number):
-        with self._lock:
-            self._ready().kept = _number(number, "kept")
+        self._alone(self._store(map(_bq_loader, (_number(number, "kept"),), map(_REPORT, self._now()))))
 
     @property
     def line(self):
@@ -950,7 +1061,9 @@ class Loader:
 # ---- calls without a table
 
 def lowest_in_run(records, level, set):
-    """The lowest label number of those records of a run whose level and set are these, or None. Refusals: 9.
+    """The lowest label number of those records of a run whose level and set are these, or None.
+
+    Refusals: 9.
 
     >>> run = [Record(7, 9, Set(1)), Record(5, 9, Set(1)), Record(3, 8, Set(1))]
     >>> lowest_in_run(run, 9, Set(1))
@@ -969,7 +1082,9 @@ def lowest_in_run(records, level, set):
 
 def lowest_of(run_labels, run_levels, run_set_words, level, set):
     """The same with the labels, the levels and the words of the sets each by themselves, three words for a set. There are as many records as the shortest has
-    room for. Refusals: 9.
+    room for.
+
+    Refusals: 9.
 
     >>> lowest_of([7, 5, 3], [9, 9, 8], [*Set(1).words, *Set(1).words, *Set(1).words], 9, Set(1))
     5
@@ -979,7 +1094,9 @@ def lowest_of(run_labels, run_levels, run_set_words, level, set):
 
 
 def record_to_line(record, out=None):
-    """An old record of 53 bytes as a rule line with its newline; `out` is as in Table.list_rule. Refusals: 14 3 4 5 12. No place is told.
+    """An old record of 53 bytes as a rule line with its newline; `out` is as in Table.list_rule. No place is told.
+
+    Refusals: 14 3 4 5 12.
 
     >>> record_to_line(b"Alarm                   Archive                 R--a-")
     b'Alarm Archive ra\\n'
@@ -988,7 +1105,9 @@ def record_to_line(record, out=None):
 
 
 def line_to_record(line, out=None):
-    """A rule line, with or without a closing newline, as an old record; `out` is as in Table.list_rule. Refusals: 1 2 3 4 5 15 12. No place is told.
+    """A rule line, with or without a closing newline, as an old record; `out` is as in Table.list_rule. No place is told.
+
+    Refusals: 1 2 3 4 5 15 12.
 
     >>> line_to_record(b"Alarm Archive ra")
     b'Alarm                   Archive                 r--a-'

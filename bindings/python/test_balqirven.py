@@ -2,11 +2,14 @@
 import copy
 import ctypes
 import doctest
+import gc
+import inspect
 import os
 import pathlib
 import pickle
 import re
 import shutil
+import signal
 import subprocess
 import sys
 import tempfile
@@ -216,16 +219,21 @@ class AgainstTheHeader(unittest.TestCase):
         self.assertEqual({int(number): name for number, name in told.items()}, {int(member): member.name for member in Refusal})
 
     def test_sentences(self):
-        """A refusal says the same in Rust."""
+        """A refusal says the same in Rust, and in the host in C."""
         source = (ROOT / "bindings" / "rust" / "src" / "refusal.rs").read_text(encoding="ascii")
         rust = dict(re.findall(r'^ {12}(\w+) => "(.*)",$', source, re.MULTILINE))
         self.assertEqual({member.name.title().replace("_", ""): member.sentence for member in Refusal}, rust)
+        source = (ROOT / "examples" / "host.c").read_text(encoding="ascii")
+        in_words = re.search(r"^static const char \*in_words\(uint8_t number\)\n\{\n(.*?)^\}", source, re.MULTILINE | re.DOTALL).group(1)
+        c = re.findall(r'^    case BQ_(\w+):\n        return "(.*)";$', in_words, re.MULTILINE)
+        self.assertEqual(c, [(member.name, member.sentence) for member in Refusal])
 
     def test_defines(self):
         names = [name for name in re.findall(r"^#define (BQ_\w+)\s", HEADER, re.MULTILINE)]
         self.assertGreaterEqual(len(names), 18)
         values = run_c([("%lld", f"(long long)({name})") for name in names])
         self.assertEqual({name: getattr(balqirven, name[3:], None) for name in names}, {name: int(value) for name, value in zip(names, values)})
+        self.assertEqual({name[3:] for name in names} - set(balqirven.__all__), set(), "not in __all__")
 
     def test_kinds(self):
         kinds = re.findall(r"BQ_(\w+) = (\d+)", " ".join(re.findall(r"enum \{(.*?)\}", BARE)))
@@ -285,6 +293,51 @@ class AgainstTheHeader(unittest.TestCase):
         self.assertEqual(set(listed), set(balqirven._FUNCTIONS))
         here = {name: {number for called, number, *_ in REFUSALS if called == name} for name in listed}
         self.assertEqual(here, listed)
+
+
+    def test_told_refusals(self):
+        """The line "Refusals: .." of each docstring has the numbers of the header's list for the call that is made there, in its order."""
+        odd = {  # where the header lists them in another way than by numbers alone: its words, and the numbers here
+            "bq_fresh_table": ("0, only for a part not of its full size", []),  # which no table here has
+            "bq_fresh_loader": (None, None),  # no list, and no docstring's either
+            "bq_piece": ("0, also for a line part that is not 600 bytes and for `kept` over 601", [0]),
+            "bq_end": ("as bq_piece", [0]),
+            "bq_by_level": ("0; 9 for a level over 255 or a bit in the set that is no category", [0, 9]),
+            "bq_lowest_in_run": ("9, as bq_by_level", [9]),
+            "bq_lowest_of": ("9, as bq_by_level", [9]),
+            "bq_new_object": ("0; 3 for either label: bq_question for w with the same two labels is refused alike, and tells the place", [0, 3]),
+            "bq_label_check": (None, [0, 13]),  # told with bq_label
+            "bq_read_option": ("0 16 17 18, then 3 at level 250, 21 at any other", [0, 16, 17, 18, 3, 21]),
+        }
+        header = {}
+        for comment, name in re.findall(r"/\*((?:(?!\*/).)*)\*/\s+bq_\w+ (bq_\w+)\(", HEADER, re.DOTALL):
+            words = " ".join(re.sub(r"\n \*", " ", comment).split())
+            header[name] = words.partition("Refusals: ")[2].rstrip(". ") or None
+        header["bq_label_check"] = None
+        self.assertIn("bq_label_check answers the same refusals alone. Refusals: 0 13. */", HEADER)
+        self.assertEqual(set(header), set(balqirven._FUNCTIONS))
+        self.assertEqual({name: header[name] for name in odd}, {name: words for name, (words, _) in odd.items()})
+        wanted = {name: odd[name][1] if name in odd else [int(number) for number in header[name].split()] for name in header}
+
+        told, nothing_called = {}, {"rules": [0], "stored_labels": [0]}  # these two call list_rule and label, up to 13
+        public = [value for value in vars(balqirven).values() if inspect.isfunction(value) and value.__name__ in balqirven.__all__]
+        for kind in (Table, Loader):
+            public += [getattr(value, "__func__", value) for name, value in vars(kind).items() if inspect.isroutine(getattr(value, "__func__", value))]
+        for function in public:
+            calls = re.findall(r"_library\.(bq_\w+)", inspect.getsource(function))
+            lines = re.findall(r"^ *Refusals:(.*)$", function.__doc__ or "", re.MULTILINE)
+            self.assertEqual((function.__doc__ or "").count("Refusals"), len(lines), function.__name__)
+            numbers = [[] if line == " none." else [int(number) for number in re.fullmatch(r"((?: \d+)+)\.", line).group(1).split()] for line in lines]
+            if function.__name__ in nothing_called:
+                self.assertEqual((calls, numbers), ([], [nothing_called.pop(function.__name__)]), function.__name__)
+            elif calls:
+                self.assertEqual(len(calls), 1, function.__name__)
+                self.assertNotIn(calls[0], told)
+                told[calls[0]] = numbers[0] if numbers else None
+            else:
+                self.assertEqual(numbers, [], function.__name__)
+        self.assertEqual(told, wanted)
+        self.assertEqual(nothing_called, {})
 
 
 class Refusals(unittest.TestCase):
@@ -432,8 +485,10 @@ class Answers(unittest.TestCase):
         loader.piece(again, b"".join(rules))
         self.assertEqual(loader.end(again), Report(256, 256, 0, 0, None, None, None, 0))
         self.assertEqual(again.parts(), table.parts())
-        with self.assertRaises(Refused):
-            list(damaged().rules())
+        for call in (damaged().rules, damaged().stored_labels):
+            with self.assertRaises(Refused) as caught:
+                call()
+            self.assertIs(caught.exception.refusal, Refusal.DAMAGED)
 
     def test_longest(self):
         """The module's own outputs have room for the longest."""
@@ -442,6 +497,11 @@ class Answers(unittest.TestCase):
         table.change(LONG + b" " + other + b" rwxat -")
         self.assertEqual(len(table.list_rule(0)), balqirven.LONGEST_RULE)
         self.assertEqual(table.label(5), LONG)
+        full = [*Table.fresh().stored_labels(), *(b"L%d".ljust(255, b"l") % k for k in range(10, 69))]
+        filled = Table.fresh()
+        for label in full[5:]:
+            filled.override_list(label)
+        self.assertEqual((len(full), filled.label(63), filled.stored_labels()), (64, full[63], full), "the last one ends where the part ends")
         table.mapping(LONG + b" 9 184")
         self.assertEqual(len(table.write_option(LONG)), balqirven.LONGEST_OPTION)
         self.assertEqual(table.read_option(table.write_option(LONG)), LONG)
@@ -470,6 +530,24 @@ class Answers(unittest.TestCase):
         run = subprocess.run([sys.executable, example / "host.py", example / "store_north.rules", example / "old_logger.records"], stdout=subprocess.PIPE,
                              env={**os.environ, "BALQIRVEN_LIBRARY": balqirven.LIBRARY, "PYTHONPATH": os.path.dirname(balqirven.__file__)}, check=True)
         self.assertEqual(run.stdout, (example / "host.expected").read_bytes())
+
+    def test_hosts_without_output(self):
+        """The hosts in C and in Python say by their exit status that their output could not be written."""
+        example = ROOT / "examples"
+        with tempfile.TemporaryDirectory() as folder:
+            host = os.path.join(folder, "host")
+            built = ["gcc", "-Wall", "-Wextra", "-Werror", f"-I{ROOT / 'include'}", example / "host.c", balqirven.LIBRARY, f"-Wl,-rpath,{folder}", "-o", host]
+            subprocess.run(built, check=True)
+            os.symlink(balqirven.LIBRARY, os.path.join(folder, "libbalqirven.so.5"))
+            for command in ([host], [sys.executable, example / "host.py"]):
+                environment = {**os.environ, "BALQIRVEN_LIBRARY": balqirven.LIBRARY, "PYTHONPATH": os.path.dirname(balqirven.__file__)}
+                command += [example / "store_north.rules", example / "old_logger.records"]
+                with open("/dev/full", "wb") as full:
+                    run = subprocess.run(command, stdout=full, stderr=subprocess.PIPE, env=environment)
+                self.assertEqual(run.returncode, 1)
+                self.assertIn(b"No space left on device", run.stderr)
+                run = subprocess.run(command, stdout=subprocess.PIPE, env=environment, check=True)
+                self.assertEqual(run.stdout, (example / "host.expected").read_bytes())
 
 
 class Given(unittest.TestCase):
@@ -536,6 +614,10 @@ class Given(unittest.TestCase):
                 self.assertRaises(ValueError, call, number)
             for number in (1.0, "1", None, b"1"):
                 self.assertRaises(TypeError, call, number)
+        for call in calls[:-1]:  # all but the write to a view, which is Python's own
+            for number in (True, False):
+                with self.assertRaisesRegex(TypeError, f" is {number}, and not a number"):
+                    call(number)
         self.assertEqual(loader.kept, 0)
         for number in (256, 2**8 + 9, 2**32 + 9, 2**63 + 9, 2**64 - 1):
             with self.assertRaises(Refused) as caught:
@@ -551,10 +633,11 @@ class Given(unittest.TestCase):
     def test_sets(self):
         for number in (0, -1, 185, 192, 2**64, 2**64 + 1):
             self.assertRaises(ValueError, Set, 1, number)
-        for number in (1.0, "1", None):
+        for number in (1.0, "1", None, True):
             self.assertRaises(TypeError, Set, number)
-        self.assertEqual(Set(1, 1, 2), Set(2, 1))
-        self.assertEqual(hash(Set(1, 2)), hash(Set(2, 1)))
+        one, other = Set(1, 1, 2), Set(2, 1)  # both are there at once, so that they have two addresses
+        self.assertEqual(one, other)
+        self.assertEqual((hash(one), len({one, other}), {one: "it"}[other]), (hash(other), 1, "it"))
         self.assertNotEqual(Set(), STRAY)
         self.assertNotEqual(Set(1), (1 << 63, 0, 0))
         self.assertEqual((len(STRAY), list(STRAY), 185 in STRAY, 0 in STRAY), (0, [], False, False))
@@ -676,10 +759,85 @@ class Given(unittest.TestCase):
         self.assertEqual((len(table.labels), len(table.entries), len(table.words)), (16384, 840, 100))
         for name in ("labels", "entries", "words", "anything"):
             self.assertRaises(AttributeError, setattr, table, name, b"")
+        broken = Table.from_parts(*damaged().parts())
+        self.assertRaises(Refused, broken.label, 0)
+        broken.make_fresh()
+        self.assertEqual(broken.label(0), b"_")
         view = table.words
         del table
         self.assertEqual(view[1], 1, "a view keeps the memory")
         self.assertEqual(Table().parts(), Table.fresh().parts())
+
+
+class Copies(unittest.TestCase):
+    """Copies, pickles and subclasses."""
+
+    WAYS = [copy.copy, copy.deepcopy, *(lambda thing, p=p: pickle.loads(pickle.dumps(thing, p)) for p in range(pickle.HIGHEST_PROTOCOL + 1))]
+
+    def test_tables(self):
+        for make in (one_rule, damaged, full_rules):
+            for way in self.WAYS:
+                table = make()
+                before = table.parts()
+                again = way(table)
+                self.assertIs(type(again), Table)
+                self.assertEqual(again.parts(), before)
+                again.make_fresh()
+                again.labels[16383] = again.entries[839] = again.words[99] = 7
+                again.change(b"New Newer r -")
+                self.assertEqual(table.parts(), before, "memory of its own")
+                table.make_fresh()
+                self.assertEqual(again.rules(), [b"New Newer r\n"])
+        self.assertRaises(ValueError, Table.__new__(Table).__setstate__, ((b"", b"", b""), None))
+
+    def test_loaders(self):
+        for way in self.WAYS:
+            table, loader = Table.fresh(), Loader()
+            loader.piece(table, b"A B r\nA/ B r\nC ")
+            again = way(loader)
+            self.assertIs(type(again), Loader)
+            self.assertEqual((again.kept, again.report, again.line.tobytes()), (2, loader.report, loader.line.tobytes()))
+            other = copy.copy(table)
+            again.piece(other, b"D w")
+            self.assertEqual((loader.kept, loader.line[:6].tobytes() == again.line[:6].tobytes(), again.kept), (2, False, 5))
+            loader.piece(table, b"E x\n")
+            self.assertEqual(again.end(other), Report(3, 2, 0, 1, 2, Refusal.BAD_LABEL, 1, 0))
+            self.assertEqual(loader.end(table), Report(3, 2, 0, 1, 2, Refusal.BAD_LABEL, 1, 0))
+            self.assertEqual((table.rules(), other.rules()), ([b"A B r\n", b"C E x\n"], [b"A B r\n", b"C D w\n"]))
+        for line, state in ((b"", bytes(ctypes.sizeof(balqirven._bq_loader))), (bytes(600), b"")):
+            self.assertRaises(ValueError, Loader.__new__(Loader).__setstate__, (line, state, None))
+
+    def test_subclasses(self):
+        """A class method of a subclass gives the subclass, made by its __init__; a copy has what it was given."""
+        for kind in (NamedTable, NamedLoader):
+            thing = kind()
+            self.assertEqual(thing.names, ["new"])
+            thing.names.append("old")
+            for way in self.WAYS:
+                again = way(thing)
+                self.assertIs(type(again), kind)
+                self.assertEqual(again.names, ["new", "old"])
+                self.assertEqual(again.names is thing.names, way is copy.copy)
+        for made in (NamedTable.fresh(), NamedTable.from_parts(*one_rule().parts())):
+            self.assertIs(type(made), NamedTable)
+            self.assertEqual(made.names, ["new"])
+        self.assertEqual(made.rules(), [b"Alarm Archive r\n"])
+        made.change(b"C D r -")
+        loader = NamedLoader()
+        loader.piece(made, b"E F r\n")
+        self.assertEqual((loader.end(made).accepted, len(made.rules())), (1, 3))
+
+
+class NamedTable(Table):
+    def __init__(self):
+        super().__init__()
+        self.names = ["new"]
+
+
+class NamedLoader(Loader):
+    def __init__(self):
+        super().__init__()
+        self.names = ["new"]
 
 
 class Watched:
@@ -799,36 +957,290 @@ class Duties(unittest.TestCase):
         rules = [b"A%d B%d r\n" % (k, n) for k in range(4) for n in range(8)] + [b"A%d C r\n" % k for k in range(4)] + [b"D%d E w\n" % k for k in range(4)]
         self.assertEqual(sorted(table.rules()), sorted(rules))
 
-    def test_one_at_a_time(self):
-        """While a call of a loader is under way, others wait for it."""
-        table, loader, real = Table.fresh(), Loader(), balqirven._library
-        for other in (lambda: loader.piece(table, b"A B r"), lambda: loader.report, lambda: loader.kept, lambda: setattr(loader, "kept", 0)):
-            done = []
-            thread = threading.Thread(target=lambda: done.append(other()))
+    def test_in_use(self):
+        """What runs within a call of a loader, as a __del__ can, cannot use it and does not wait; the report is the one before."""
+        table, loader, real, seen = Table.fresh(), Loader(), balqirven._library, []
+        loader.piece(table, b"A B r\nC ")
+        before, kept = loader.report, loader.kept
+        uses = (lambda: loader.piece(table, b"E F r\n"), lambda: loader.end(table), lambda: setattr(loader, "kept", 0), lambda: copy.copy(loader),
+                lambda: copy.deepcopy(loader), lambda: pickle.dumps(loader))
 
-            def end(*arguments):
-                thread.start()
-                thread.join(0.02)
-                self.assertFalse(done, "it did not wait")
-                return real.bq_end(*arguments)
+        def look():
+            for use in uses:
+                with self.assertRaisesRegex(RuntimeError, "^this loader is in use: "):
+                    use()
+            self.assertEqual((loader.report, loader.kept), (before, kept))
+            seen.append(threading.current_thread())
 
-            with mock.patch.object(balqirven, "_library", mock.Mock(bq_end=end, bq_piece=real.bq_piece)):
-                loader.end(table)
-                thread.join()
-            self.assertEqual(len(done), 1)
+        def piece(*arguments):
+            look()
+            answer = real.bq_piece(*arguments)
+            thread = threading.Thread(target=look)  # the line is changed now, and the state not stored yet
+            thread.start()
+            thread.join()
+            return answer
 
-    def test_interrupted(self):
-        """A loader whose call was broken off says so, and makes nothing up."""
+        with mock.patch.object(balqirven, "_library", mock.Mock(bq_piece=piece, bq_end=real.bq_end)):
+            loader.piece(table, b"D r\n")
+        self.assertEqual(len(set(seen)), 2)
+        self.assertEqual(loader.end(table), Report(2, 2, 0, 0, None, None, None, 0))
+        self.assertEqual(table.rules(), [b"A B r\n", b"C D r\n"])
+
+    def test_broken_off(self):
+        """A loader whose call was broken off within, which no handler can do, says so, and makes nothing up."""
         table, loader = Table.fresh(), Loader()
+        loader.piece(table, b"A B r\n")
+        before = loader.report
 
         def broken_off(*_):
-            raise KeyboardInterrupt
+            raise MemoryError
 
         with mock.patch.object(balqirven, "_library", mock.Mock(bq_piece=broken_off)):
-            self.assertRaises(KeyboardInterrupt, loader.piece, table, b"A B r\n")
-        for call in (lambda: loader.piece(table, b""), lambda: loader.end(table), lambda: loader.report, lambda: loader.kept):
+            self.assertRaises(MemoryError, loader.piece, table, b"A B r\n")
+        for call in (lambda: loader.piece(table, b""), lambda: loader.end(table), lambda: setattr(loader, "kept", 0), lambda: copy.copy(loader)):
             with self.assertRaisesRegex(RuntimeError, "make a new loader"):
                 call()
+        self.assertEqual((loader.report, loader.kept), (before, 0))
+
+    def on_alarm(self, handler):
+        """Sets the handler of the timer, for this test."""
+        previous = signal.signal(signal.SIGALRM, lambda *_: handler())
+        self.addCleanup(signal.signal, signal.SIGALRM, previous)
+        self.addCleanup(signal.setitimer, signal.ITIMER_REAL, 0)
+
+    def test_handler(self):
+        """A signal handler that reads and uses the loader that it interrupts does not hang, and every line counts."""
+        table, loader, handled = Table.fresh(), Loader(), []
+
+        def handler():
+            before = loader.report.lines
+            loader.piece(table, b"C D r\n")
+            handled.append((copy.copy(loader).report.lines - before, loader.kept))
+            signal.setitimer(signal.ITIMER_REAL, 0.0002)
+
+        self.on_alarm(handler)
+        signal.setitimer(signal.ITIMER_REAL, 0.0002)
+        pieces, until = 0, time.monotonic() + 0.2
+        while time.monotonic() < until or len(handled) < 20:
+            loader.piece(table, b"A B r\nA E w\n")
+            pieces += 1
+            loader.kept, loader.report
+        signal.setitimer(signal.ITIMER_REAL, 0)
+        lines = 2 * pieces + len(handled)
+        self.assertEqual(set(handled), {(1, 0)})
+        self.assertEqual(loader.end(table), Report(lines, lines, 0, 0, None, None, None, 0))
+
+    def test_raising_handler(self):
+        """Wherever a handler raises, as that of Ctrl-C does, a call of a loader is done or not, and the loader goes on."""
+        class Raised(Exception):
+            pass
+
+        def handler():
+            raise Raised
+
+        self.on_alarm(handler)
+        table = Table.fresh()
+        for text, lines, turns in ((b"A B r\n", 1, 4000), (b"A B r\n" * 300, 300, 400)):
+            loader, done, broken = Loader(), 0, 0
+            for turn in range(turns):
+                try:
+                    signal.setitimer(signal.ITIMER_REAL, 1e-6 * (1 + turn % 40))
+                    loader.piece(table, text)
+                    done += 1
+                    signal.setitimer(signal.ITIMER_REAL, 0)
+                except Raised:
+                    broken += 1
+            report = loader.end(table)
+            self.assertGreater(broken, 0)
+            self.assertEqual((report.lines % lines, report.accepted, report.refused), (0, report.lines, 0))
+            self.assertTrue(done <= report.lines // lines <= done + broken, (done, broken, report))
+
+        text = b"A B r\n" * 400_000  # one call, so long that the handler is due in it
+        for _ in range(20):  # where this process had to wait before the call, the handler came too early
+            loader = Loader()
+            with self.assertRaises(Raised):
+                signal.setitimer(signal.ITIMER_REAL, 0.001)
+                loader.piece(table, text)
+                time.sleep(1)
+            if loader.report.lines:
+                break
+        self.assertEqual(loader.report.lines, 400_000, "the call was made, and its answer was lost")
+        loader.piece(table, b"A B r\n")
+        self.assertEqual(loader.end(table).accepted, 400_001)
+
+    def test_collector(self):
+        """A __del__ that the collector runs anywhere can use the loader or is told that it is in use; what was done counts."""
+        table, loader, done, told = Table.fresh(), Loader(), [], []
+
+        class Cycle:
+            def __init__(self):
+                self.own = self
+
+            def __del__(self):
+                try:
+                    lines = loader.report.lines
+                    loader.piece(table, b"C D r\n")
+                    done.append(loader.report.lines - lines)
+                except RuntimeError as error:
+                    told.append(str(error)[:22])
+
+        threshold = gc.get_threshold()
+        self.addCleanup(gc.set_threshold, *threshold)
+        pieces = 0
+        for first in (1, 2, 3, 4, 5, 7, 11):
+            gc.set_threshold(first, 1, 1)
+            for _ in range(60):
+                Cycle()
+                loader.piece(table, b"A B r\n")
+                pieces += 1
+        gc.set_threshold(*threshold)
+        gc.collect()
+        self.assertEqual(len(done) + len(told), 420)
+        self.assertEqual((set(done), set(told) - {"this loader is in use:"}), ({1}, set()))
+        lines = pieces + len(done)
+        self.assertEqual(loader.end(table), Report(lines, lines, 0, 0, None, None, None, 0))
+
+    @unittest.skipIf(sys.version_info >= (3, 12), "since 3.12 the collector runs between two steps alone")
+    def test_collector_within_a_call(self):
+        """The mark is not for nothing: in this Python the collector does run within the step."""
+        told = []
+        gc.freeze()  # so that it has little to look at
+        self.addCleanup(gc.unfreeze)
+        for count in range(20, 100):
+            loader, table = Loader(), Table.fresh()
+
+            class Cycle:
+                def __del__(self, loader=loader):
+                    try:
+                        loader.kept = 0
+                    except RuntimeError:
+                        told.append(count)
+
+            threshold = gc.get_threshold()
+            gc.collect()
+            cycle = Cycle()
+            cycle.own = cycle
+            del cycle
+            gc.set_threshold(count)
+            try:
+                loader.piece(table, b"A B r\n")
+            finally:
+                gc.set_threshold(*threshold)
+            self.assertEqual(loader.end(table).accepted, 1)
+            gc.collect()
+        self.assertTrue(told)
+
+    def test_fork(self):
+        """A child that is forked while other threads use a loader can use it: it does not hang, and the loader is not torn."""
+        table, loader, stop = Table.fresh(), Loader(), threading.Event()
+
+        def work():
+            while not stop.is_set():
+                loader.piece(table, b"A B r\nA ")
+                loader.piece(table, b"")
+                loader.piece(table, b"B w\nC B r\n")
+
+        def child():
+            signal.signal(signal.SIGALRM, signal.SIG_DFL)
+            signal.setitimer(signal.ITIMER_REAL, 10)  # ends it, where it hangs
+            report, kept = loader.report, loader.kept
+            loader.piece(table, b"B w\n" if kept else b"")
+            again = copy.copy(loader)
+            end = loader.end(table)
+            return kept in (0, 2) and end.refused == 0 and end.accepted == end.lines == report.lines + (kept > 0) and again.report == end
+
+        interval = sys.getswitchinterval()
+        sys.setswitchinterval(1e-6)
+        thread = threading.Thread(target=work)
+        thread.start()
+        try:
+            for _ in range(40):
+                pid = os.fork()
+                if pid == 0:
+                    status = 1
+                    try:
+                        status = 0 if child() else 2
+                    finally:
+                        os._exit(status)
+                self.assertEqual(os.waitpid(pid, 0)[1], 0)
+        finally:
+            stop.set()
+            thread.join()
+            sys.setswitchinterval(interval)
+        self.assertEqual(loader.end(table).refused, 0)
+
+    def test_of_one_moment(self):
+        """What takes more than one step is of one moment all the same: here a write comes right behind each call of the library."""
+        real = balqirven._library
+
+        class Written:
+            def __getattr__(self, name):
+                def call(*arguments):
+                    answer = getattr(real, name)(*arguments)
+                    real.bq_fresh_table(*table._lent)
+                    for text in (b"N" * 255 + b" M - -", b"M O w -"):
+                        real.bq_change(*table._lent, text, len(text))
+                    return answer
+                return call
+
+        for call in (lambda t: t.label(5), Table.rules, Table.stored_labels, lambda t: t.list_rule(0), Table.parts, lambda t: copy.copy(t).parts()):
+            table = one_rule()
+            table.change(b"Alarm Other rw -")
+            wanted = call(table)
+            with mock.patch.object(balqirven, "_library", Written()):
+                self.assertEqual(call(table), wanted)
+
+        def bytes_before_a_write(part):
+            content = bytes(part)
+            table.make_fresh()
+            return content
+
+        table = one_rule()
+        wanted = table.parts()
+        with mock.patch.object(balqirven, "bytes", bytes_before_a_write, create=True):
+            self.assertEqual(table.parts(), wanted)
+        self.assertNotEqual(table.parts(), wanted)
+
+    def test_of_one_moment_in_threads(self):
+        """Two rules go from (-, -) to (r, -) to (r, r) and back, so never is (-, r); of another table label 5 is one of two, and the parts are of few kinds."""
+        table, named, stop, wrong, kinds = Table.fresh(), Table.fresh(), threading.Event(), [], set()
+        for text in (b"A B - -", b"C D - -"):
+            table.change(text)
+        steps = named.make_fresh, lambda: named.override_list(b"N" * 255), named.make_fresh, lambda: named.mapping(b"M 9 1")
+        for step in 2 * steps:
+            step()
+            kinds.add(named.parts())
+
+        def write():
+            while not stop.is_set():
+                for text in (b"A B r -", b"C D r -", b"C D - r", b"A B - r"):
+                    table.change(text)
+                for step in steps:
+                    step()
+
+        interval = sys.getswitchinterval()
+        sys.setswitchinterval(1e-6)
+        thread = threading.Thread(target=write)
+        thread.start()
+        try:
+            until = time.monotonic() + 0.3
+            while time.monotonic() < until:
+                for rules in (table.rules(), Table.from_parts(*table.parts()).rules(), copy.copy(table).rules()):
+                    if rules == [b"A B -\n", b"C D r\n"]:
+                        wrong.append(rules)
+                if named.parts() not in kinds:
+                    wrong.append("parts of several moments")
+                try:
+                    labels = {named.label(5), *named.stored_labels()[5:]}
+                except Refused as refused:
+                    self.assertIs(refused.refusal, Refusal.NO_SUCH_NUMBER)
+                else:
+                    wrong.extend(labels - {b"N" * 255, b"M"})
+        finally:
+            stop.set()
+            thread.join()
+            sys.setswitchinterval(interval)
+        self.assertEqual(wrong, [])
 
     def test_without_interpreter_lock(self):
         with mock.patch.object(sys, "_is_gil_enabled", lambda: False, create=True), self.assertRaisesRegex(ImportError, "PYTHON_GIL=1"):
@@ -936,6 +1348,16 @@ class Finding(unittest.TestCase):
         (self.folder / "system" / "libbalqirven.so").symlink_to("libbalqirven.so.5")
         self.assertEqual(self.imported(self.folder / "a" / "b" / "c", LD_LIBRARY_PATH=str(self.folder / "system")), "libbalqirven.so.5")
 
+    def test_other_major_known_to_the_system(self):
+        """It has all the functions, and is not loaded."""
+        (self.folder / "system").mkdir()
+        source = "".join(f"int {name}(void) {{ return 0; }}\n" for name in balqirven._FUNCTIONS)
+        subprocess.run(["gcc", "-shared", "-x", "c", "-", "-Wl,-soname,libbalqirven.so.6", "-o", self.folder / "system" / "libbalqirven.so.6"], input=source,
+                       text=True, check=True)
+        (self.folder / "system" / "libbalqirven.so").symlink_to("libbalqirven.so.6")
+        said = self.imported(self.folder / "a" / "b" / "c", LD_LIBRARY_PATH=str(self.folder / "system"))
+        self.assertRegex(said, r"^ImportError: libbalqirven\.so\.5 is not there: .* found libbalqirven\.so\.6$")
+
     def test_not_there(self):
         said = self.imported(self.folder / "a" / "b" / "c")
         self.assertTrue(said.startswith("ImportError: libbalqirven.so.5 is not there: BALQIRVEN_LIBRARY is not set; no "), said)
@@ -956,6 +1378,8 @@ class Examples(unittest.TestCase):
         public = {"balqirven"}
         for name in balqirven.__all__:
             thing = getattr(balqirven, name)
+            if isinstance(thing, (int, str)):
+                continue
             public.add(f"balqirven.{name}")
             if isinstance(thing, type):
                 public.update(f"balqirven.{name}.{member}" for member, value in vars(thing).items()
