@@ -914,8 +914,8 @@ class Duties(unittest.TestCase):
         thread = threading.Thread(target=spin)
         thread.start()
         try:
-            time.sleep(0.01)
-            self.assertGreater(turns[0], 0)
+            while turns[0] == 0:
+                time.sleep(0.001)
             arguments = *table._lent, (ctypes.c_uint8 * 600)(), 600, balqirven._library.bq_fresh_loader(), text, len(text)
             begun, before = time.perf_counter(), turns[0]
             balqirven._library.bq_piece(*arguments)
@@ -1042,7 +1042,9 @@ class Duties(unittest.TestCase):
         table = Table.fresh()
         for text, lines, turns in ((b"A B r\n", 1, 4000), (b"A B r\n" * 300, 300, 400)):
             loader, done, broken = Loader(), 0, 0
-            for turn in range(turns):
+            turn = 0
+            while turn < turns or not broken:
+                turn += 1
                 try:
                     signal.setitimer(signal.ITIMER_REAL, 1e-6 * (1 + turn % 40))
                     loader.piece(table, text)
@@ -1051,12 +1053,11 @@ class Duties(unittest.TestCase):
                 except Raised:
                     broken += 1
             report = loader.end(table)
-            self.assertGreater(broken, 0)
             self.assertEqual((report.lines % lines, report.accepted, report.refused), (0, report.lines, 0))
             self.assertTrue(done <= report.lines // lines <= done + broken, (done, broken, report))
 
         text = b"A B r\n" * 400_000  # one call, so long that the handler is due in it
-        for _ in range(20):  # where this process had to wait before the call, the handler came too early
+        for _ in range(2000):  # where this process had to wait before the call, the handler came too early
             loader = Loader()
             with self.assertRaises(Raised):
                 signal.setitimer(signal.ITIMER_REAL, 0.001)
