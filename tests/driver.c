@@ -5,7 +5,8 @@
  *   driver               every lent part is memory of its own, of exactly its size, so that valgrind sees one byte too far
  *   driver guard-end     every lent part ends at the end of a page, and the page behind it can neither be read nor written
  *   driver guard-front   every lent part begins at the beginning of a page, and the page before it can neither be read nor written
- *   driver read-only     as guard-end; and the pages of a part that a call is lent only to read, or not at all, cannot be written meanwhile
+ *   driver odd           as guard-front, but an element behind the beginning of the page: bytes at an odd address, words at one that is no multiple of 16
+ *   driver read-only     as guard-end; and the pages of what a call is lent only to read cannot be written meanwhile, nor those of a part that it is not lent
  *
  * Beyond FORMAT.md the driver tests what a second implementation cannot show. Each of these words in an answer is a fault of the library:
  *   astray    a label's part does not lie where label k's place in the lent store is
@@ -29,7 +30,7 @@
 
 /* ---- memory of exactly its size */
 
-static enum { EXACT, GUARD_END, GUARD_FRONT } guard;
+static enum { EXACT, GUARD_END, GUARD_FRONT, GUARD_ODD } guard;
 static bool read_only_parts;
 
 static void no_memory(void) {
@@ -45,25 +46,26 @@ static struct slot {
 } slots[256];
 static size_t slot_count;
 
-static void *lend_guarded(size_t bytes) {
-    size_t page = 4096, room = page;
-    while (room < bytes) room *= 2;
+static void *lend_guarded(size_t bytes, size_t element) {
+    size_t page = 4096, room = page, guarded = 1 << 20;
+    while (room < bytes + element) room *= 2;
     struct slot *slot = slots;
     while (slot < slots + slot_count && (slot->taken || slot->room != room)) slot++;
     if (slot == slots + slot_count) {
         if (slot_count == sizeof slots / sizeof *slots) no_memory();
-        uint8_t *all = mmap(NULL, room + 2 * page, PROT_NONE, MAP_PRIVATE | MAP_ANONYMOUS, -1, 0);
-        if (all == MAP_FAILED || mprotect(all + page, room, PROT_READ | PROT_WRITE) != 0) no_memory();
+        uint8_t *all = mmap(NULL, room + 2 * guarded, PROT_NONE, MAP_PRIVATE | MAP_ANONYMOUS, -1, 0);
+        if (all == MAP_FAILED || mprotect(all + guarded, room, PROT_READ | PROT_WRITE) != 0) no_memory();
         slot_count++;
-        slot->pages = all + page;
+        slot->pages = all + guarded;
         slot->room = room;
     }
     slot->taken = true;
-    return guard == GUARD_FRONT ? slot->pages : slot->pages + (room - bytes);
+    return slot->pages + (guard == GUARD_FRONT ? 0 : guard == GUARD_ODD ? element : room - bytes);
 }
 
-static void *lend(size_t bytes) {
-    if (guard != EXACT) return lend_guarded(bytes);
+/* So many bytes, of elements of this size. */
+static void *lend(size_t bytes, size_t element) {
+    if (guard != EXACT) return lend_guarded(bytes, element);
     void *memory = malloc(bytes); /* glibc gives a pointer that is not NULL for 0 bytes too */
     if (memory == NULL) no_memory();
     return memory;
@@ -78,13 +80,23 @@ static struct slot *slot_of(void *memory) {
     return NULL;
 }
 
+/* From now on what is lent there can only be read, or written too; where the driver is to see to it. */
+static void let_write(void *memory, bool yes) {
+    if (!read_only_parts) return;
+    struct slot *slot = slot_of(memory);
+    if (slot == NULL || mprotect(slot->pages, slot->room, yes ? PROT_READ | PROT_WRITE : PROT_READ) != 0) no_memory();
+}
+
 static void back(void *memory) {
     if (guard == EXACT) {
         free(memory);
         return;
     }
     struct slot *slot = slot_of(memory);
-    if (slot != NULL) slot->taken = false;
+    if (slot != NULL) {
+        let_write(memory, true);
+        slot->taken = false;
+    }
 }
 
 /* ---- output */
@@ -157,8 +169,8 @@ static bq_loader loader;
 
 #define TABLES labels, labels_len, entries, entries_len, words, words_len
 
-static void *zeros(size_t bytes) {
-    void *memory = lend(bytes);
+static void *zeros(size_t bytes, size_t element) {
+    void *memory = lend(bytes, element);
     memset(memory, 0, bytes);
     return memory;
 }
@@ -168,21 +180,21 @@ static bq_written fresh(void) {
     back(labels);
     back(entries);
     back(words);
-    labels = zeros(labels_len = BQ_LABELS);
-    entries = zeros(entries_len = BQ_ENTRIES);
-    words = zeros((words_len = BQ_WORDS) * sizeof *words);
+    labels = zeros(labels_len = BQ_LABELS, 1);
+    entries = zeros(entries_len = BQ_ENTRIES, 1);
+    words = zeros((words_len = BQ_WORDS) * sizeof *words, sizeof *words);
     return bq_fresh_table(TABLES);
 }
 
 static void fresh_loader(void) {
     back(line_part);
-    line_part = zeros(line_len = BQ_LINE);
+    line_part = zeros(line_len = BQ_LINE, 1);
     loader = bq_fresh_loader();
 }
 
 /* The part gets another size: it is cut at its end, or zeros are added. */
-static void *resized(void *part, size_t old, size_t new) {
-    uint8_t *memory = lend(new);
+static void *resized(void *part, size_t old, size_t new, size_t element) {
+    uint8_t *memory = lend(new, element);
     size_t both = old < new ? old : new;
     memcpy(memory, part, both);
     memset(memory + both, 0, new - both);
@@ -269,7 +281,7 @@ static bool read_hex(word w, text *t) {
     bool none = w.length == 1 && w.text[0] == '-', plain = w.length > 1 && w.text[0] == '=';
     if (w.length == 0 || (!none && !plain && w.length % 2 != 0)) return false;
     size_t length = none ? 0 : plain ? w.length - 1 : w.length / 2;
-    uint8_t *bytes = lend(length);
+    uint8_t *bytes = lend(length, 1);
     for (size_t i = 0; i < length; i++) {
         if (plain && w.text[i + 1] >= 33 && w.text[i + 1] <= 126) {
             bytes[i] = (uint8_t)w.text[i + 1];
@@ -284,8 +296,16 @@ static bool read_hex(word w, text *t) {
     }
     t->bytes = bytes;
     t->length = length;
-    t->copy = lend(length);
+    t->copy = lend(length, 1);
     memcpy(t->copy, bytes, length);
+    let_write(bytes, false);
+    return true;
+}
+
+/* Bytes that a call is lent to write. */
+static bool read_output(word w, text *t) {
+    if (!read_hex(w, t)) return false;
+    let_write(t->bytes, true);
     return true;
 }
 
@@ -459,7 +479,7 @@ static bool call_run(const char *at, const char *end) {
     if (!read_number(next_word(&at, end), &level) || !read_set(next_word(&at, end), &set)) return false;
     size_t count = 0;
     for (const char *p = at; next_word(&p, end).length > 0;) count++;
-    bq_record *records = lend(count * sizeof *records);
+    bq_record *records = lend(count * sizeof *records, sizeof(uint64_t));
     for (size_t i = 0; i < count; i++) {
         if (!read_record(next_word(&at, end), &records[i])) {
             back(records);
@@ -469,7 +489,7 @@ static bool call_run(const char *at, const char *end) {
     /* How many elements more than the records have: of labels, of levels, of set words. None of the turns has room for one more record. */
     static const int8_t turns[][3] = {{0, 0, 0}, {1, 0, 0},  {0, 1, 0},  {1, 1, 0},  {0, 0, 3}, {1, 0, 3}, {0, 1, 3}, {1, 1, 1},
                                       {1, 1, 2}, {0, 0, 1},  {0, 0, 2},  {5, 5, 2},  {0, 0, -1}, {0, 0, -2}, {0, 0, -3}, {1, 1, -1},
-                                      {1, 1, -2}, {1, 0, -3}};
+                                      {1, 1, -2}, {1, 0, -3}, {2, 0, 6}, {0, 2, 6}, {7, 0, 30}, {0, 7, 30}};
     const int8_t *more = turns[turn++ % (sizeof turns / sizeof *turns)];
     bool fewer = more[2] < 0 && count > 0;
     size_t kept = fewer ? count - 1 : count, length[3];
@@ -477,7 +497,7 @@ static bool call_run(const char *at, const char *end) {
     for (int f = 0; f < 3; f++) {
         size_t wide = f == 2 ? 3 : 1;
         length[f] = more[f] < 0 && count == 0 ? 0 : (size_t)((int64_t)(wide * count) + more[f]);
-        field[f] = lend(length[f] * sizeof *field[f]);
+        field[f] = lend(length[f] * sizeof *field[f], sizeof *field[f]);
         for (size_t i = 0; i < length[f]; i++) {
             size_t k = i / wide;
             if (k < count) {
@@ -487,6 +507,8 @@ static bool call_run(const char *at, const char *end) {
             }
         }
     }
+    let_write(records, false);
+    for (int f = 0; f < 3; f++) let_write(field[f], false);
     bq_lowest one = bq_lowest_in_run(records, count, level, set);
     bq_lowest alike = fewer ? bq_lowest_in_run(records, kept, level, set) : one;
     bq_lowest other = bq_lowest_of(field[0], length[0], field[1], length[1], field[2], length[2], level, set);
@@ -578,16 +600,16 @@ static bool call_resize(const char *at, const char *end) {
     uint64_t size;
     if (!read_number(next_word(&at, end), &size) || next_word(&at, end).length > 0 || size > 1 << 20) return false;
     if (is(part, "labels")) {
-        labels = resized(labels, labels_len, size);
+        labels = resized(labels, labels_len, size, 1);
         labels_len = size;
     } else if (is(part, "entries")) {
-        entries = resized(entries, entries_len, size);
+        entries = resized(entries, entries_len, size, 1);
         entries_len = size;
     } else if (is(part, "words")) {
-        words = resized(words, words_len * sizeof *words, size * sizeof *words);
+        words = resized(words, words_len * sizeof *words, size * sizeof *words, sizeof *words);
         words_len = size;
     } else if (is(part, "line")) {
-        line_part = resized(line_part, line_len, size);
+        line_part = resized(line_part, line_len, size, 1);
         line_len = size;
     } else {
         return false;
@@ -708,13 +730,13 @@ static bool call(const char *at, const char *end) {
         return true;
     }
     if (given == 2 && is(name, "list")) {
-        if (!read_number(a, &number) || !read_hex(b, &t)) return false;
+        if (!read_number(a, &number) || !read_output(b, &t)) return false;
         put_length(bq_list_rule(TABLES, number, t.bytes, t.length), &t);
         return true;
     }
     if (given == 2 && is(name, "writeoption")) {
         if (!read_hex(a, &t)) return false;
-        if (!read_hex(b, &out)) {
+        if (!read_output(b, &out)) {
             give_back(&t);
             return false;
         }
@@ -724,7 +746,7 @@ static bool call(const char *at, const char *end) {
     }
     if (given == 2 && (is(name, "recordtoline") || is(name, "linetorecord"))) {
         if (!read_hex(a, &t)) return false;
-        if (!read_hex(b, &out)) {
+        if (!read_output(b, &out)) {
             give_back(&t);
             return false;
         }
@@ -780,12 +802,9 @@ static unsigned writes(word name) {
     return 15;
 }
 
-static void let_write(unsigned which) {
+static void let_write_parts(unsigned which) {
     void *parts[] = {labels, entries, words, line_part};
-    for (size_t i = 0; i < sizeof parts / sizeof *parts; i++) {
-        struct slot *slot = slot_of(parts[i]);
-        if (slot == NULL || mprotect(slot->pages, slot->room, which >> i & 1 ? PROT_READ | PROT_WRITE : PROT_READ) != 0) no_memory();
-    }
+    for (size_t i = 0; i < sizeof parts / sizeof *parts; i++) let_write(parts[i], which >> i & 1);
 }
 
 static void do_line(const char *at, const char *end) {
@@ -793,9 +812,9 @@ static void do_line(const char *at, const char *end) {
     word first = next_word(&p, end);
     if (first.length == 0 || first.text[0] == '#') return;
     unsigned written = read_only_parts ? writes(first) : 15;
-    if (written != 15) let_write(written);
+    if (written != 15) let_write_parts(written);
     if (!call(at, end)) put("bad line");
-    if (written != 15) let_write(15);
+    if (written != 15) let_write_parts(15);
     put("\n");
 }
 
@@ -806,11 +825,13 @@ int main(int count, char **arguments) {
         guard = GUARD_END;
     } else if (count == 2 && strcmp(arguments[1], "guard-front") == 0) {
         guard = GUARD_FRONT;
+    } else if (count == 2 && strcmp(arguments[1], "odd") == 0) {
+        guard = GUARD_ODD;
     } else if (count == 2 && strcmp(arguments[1], "read-only") == 0) {
         guard = GUARD_END;
         read_only_parts = true;
     } else if (count != 1) {
-        fprintf(stderr, "usage: driver [guard-end | guard-front | read-only]\n");
+        fprintf(stderr, "usage: driver [guard-end | guard-front | odd | read-only]\n");
         return 2;
     }
     size_t room = 1 << 20, start = 0, stop = 0;

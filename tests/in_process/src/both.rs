@@ -7,7 +7,7 @@ use second::raw;
 use second::script::{Call, Machine, Part, Poke};
 
 use crate::header::*;
-use crate::lent::{Lent, Parts};
+use crate::lent::Lent;
 use crate::wide;
 
 /// What the library answers and what the second implementation does, or which lent bytes differ.
@@ -113,6 +113,20 @@ macro_rules! library {
             $call($lent.labels.start(), $lent.labels.len(), $lent.entries.start(), $lent.entries.len(), $lent.words.start(), $lent.words.len() $(, $more)*)
         }
     };
+}
+
+/// The same of a call that takes them with const.
+macro_rules! library_reads {
+    ($lent:expr, $call:ident $(, $more:expr)*) => {
+        unsafe {
+            $call($lent.labels.shown(), $lent.labels.len(), $lent.entries.shown(), $lent.entries.len(), $lent.words.shown(), $lent.words.len() $(, $more)*)
+        }
+    };
+}
+
+/// A fresh table, of entries that are taken with const.
+fn fresh_table(lent: &Lent) -> bq_written {
+    unsafe { bq_fresh_table(lent.labels.start(), lent.labels.len(), lent.entries.shown(), lent.entries.len(), lent.words.start(), lent.words.len()) }
 }
 
 #[cold]
@@ -235,7 +249,7 @@ fn record(record: &Record) -> bq_record {
 /// turn the arrays have more elements than the records, in which the set is sought that is at hand, or too few for the last record. The turns are the
 /// driver's, so that the driver gives a list of calls the same ones.
 fn search_run(lent: &mut Lent, level: u64, set: [u64; 3], records: &[Record], counts: &mut Counts) -> Result<(), Difference> {
-    const TURNS: [[isize; 3]; 18] = [
+    const TURNS: [[isize; 3]; 22] = [
         [0, 0, 0],
         [1, 0, 0],
         [0, 1, 0],
@@ -254,6 +268,10 @@ fn search_run(lent: &mut Lent, level: u64, set: [u64; 3], records: &[Record], co
         [1, 1, -1],
         [1, 1, -2],
         [1, 0, -3],
+        [2, 0, 6],
+        [0, 2, 6],
+        [7, 0, 30],
+        [0, 7, 30],
     ];
     let more = TURNS[lent.turn % TURNS.len()];
     lent.turn += 1;
@@ -281,13 +299,13 @@ fn search_run(lent: &mut Lent, level: u64, set: [u64; 3], records: &[Record], co
     let narrow = |answer: Result<Option<u64>, Refusal>| lowest(answer.map(|label| label.map(|number| number as usize)));
 
     let expected = narrow(raw::by_run(records, level, &set));
-    let answer = unsafe { bq_lowest_in_run(lent.records.start(), lent.records.len(), level, sought) };
+    let answer = unsafe { bq_lowest_in_run(lent.records.shown(), lent.records.len(), level, sought) };
     same(answer, expected)?;
     counts.count(Name::LowestInRun, answer.kind == BQ_SEARCH_REFUSED, answer.number, answer.kind);
 
     let expected = narrow(raw::by_run(&records[..kept], level, &set));
     let [labels, levels, set_words] = &lent.fields;
-    let answer = unsafe { bq_lowest_of(labels.start(), labels.len(), levels.start(), levels.len(), set_words.start(), set_words.len(), level, sought) };
+    let answer = unsafe { bq_lowest_of(labels.shown(), labels.len(), levels.shown(), levels.len(), set_words.shown(), set_words.len(), level, sought) };
     same(answer, expected)?;
     counts.count(Name::LowestOf, answer.kind == BQ_SEARCH_REFUSED, answer.number, answer.kind);
 
@@ -298,28 +316,6 @@ fn search_run(lent: &mut Lent, level: u64, set: [u64; 3], records: &[Record], co
         same_words("fields of records", room.seen(), field)?;
     }
     Ok(())
-}
-
-/// Which parts a call is lent to write. The calls that set the memory are none of the library's and write as they like.
-pub fn writes(call: &Call) -> Parts {
-    match call {
-        Call::Fresh | Call::FreshLoader | Call::Poke(_) | Call::Resize { .. } | Call::Piece(_) | Call::End => Parts::ALL,
-        Call::Freshen => Parts { entries: false, line: false, ..Parts::ALL },
-        Call::Change(_) | Call::Override(_) | Call::Mapping(_) => Parts { line: false, ..Parts::ALL },
-        Call::Revoke(_) => Parts { entries: true, ..Parts::NONE },
-        Call::ByLabel(_)
-        | Call::ByLevel { .. }
-        | Call::Run { .. }
-        | Call::Question { .. }
-        | Call::List { .. }
-        | Call::Label { .. }
-        | Call::RecordToLine { .. }
-        | Call::LineToRecord { .. }
-        | Call::WriteOption { .. }
-        | Call::ReadOption { .. }
-        | Call::NewObject { .. }
-        | Call::Dump => Parts::NONE,
-    }
 }
 
 /// A write: its answer, and the text that it was lent.
@@ -363,7 +359,7 @@ pub fn make(machine: &mut Machine, lent: &mut Lent, call: &Call, counts: &mut Co
             lent.labels.fill(LABELS, 0);
             lent.entries.fill(ENTRIES, 0);
             lent.words.fill(WORDS, 0);
-            let answer = library!(lent, bq_fresh_table);
+            let answer = fresh_table(lent);
             same(answer, bq_written::default())?;
             counts.count(Name::FreshTable, answer.refused, answer.number, 0);
         }
@@ -375,7 +371,7 @@ pub fn make(machine: &mut Machine, lent: &mut Lent, call: &Call, counts: &mut Co
         }
         Call::Freshen => {
             let expected = written(machine.fresh_table());
-            let answer = library!(lent, bq_fresh_table);
+            let answer = fresh_table(lent);
             same(answer, expected)?;
             counts.count(Name::FreshTable, answer.refused, answer.number, 0);
         }
@@ -409,7 +405,18 @@ pub fn make(machine: &mut Machine, lent: &mut Lent, call: &Call, counts: &mut Co
                 Err(refusal) => bq_counted { refused: true, number: refusal.number(), count: 0, place: refusal.place() },
             };
             let (label, label_len) = lent.text(0, bytes);
-            let answer = library!(lent, bq_revoke, label, label_len);
+            let answer = unsafe {
+                bq_revoke(
+                    lent.labels.shown(),
+                    lent.labels.len(),
+                    lent.entries.start(),
+                    lent.entries.len(),
+                    lent.words.shown(),
+                    lent.words.len(),
+                    label,
+                    label_len,
+                )
+            };
             same(answer, expected)?;
             same_bytes("label", lent.texts[0].seen(), bytes)?;
             counts.count(Name::Revoke, answer.refused, answer.number, 0);
@@ -427,14 +434,14 @@ pub fn make(machine: &mut Machine, lent: &mut Lent, call: &Call, counts: &mut Co
                 Err(refusal) => bq_mapped { kind: BQ_LOOKUP_REFUSED, number: refusal.number(), place: refusal.place(), ..bq_mapped::default() },
             };
             let (label, label_len) = lent.text(0, bytes);
-            let answer = library!(lent, bq_by_label, label, label_len);
+            let answer = library_reads!(lent, bq_by_label, label, label_len);
             same(answer, expected)?;
             same_bytes("label", lent.texts[0].seen(), bytes)?;
             counts.count(Name::ByLabel, answer.kind == BQ_LOOKUP_REFUSED, answer.number, answer.kind);
         }
         Call::ByLevel { level, set } => {
             let expected = lowest(machine.by_level(*level, set));
-            let answer = library!(lent, bq_by_level, *level, bq_set { word: *set });
+            let answer = library_reads!(lent, bq_by_level, *level, bq_set { word: *set });
             same(answer, expected)?;
             counts.count(Name::ByLevel, answer.kind == BQ_SEARCH_REFUSED, answer.number, answer.kind);
         }
@@ -447,7 +454,7 @@ pub fn make(machine: &mut Machine, lent: &mut Lent, call: &Call, counts: &mut Co
             let (s, s_len) = lent.text(0, subject);
             let (o, o_len) = lent.text(1, object);
             let (r, r_len) = lent.text(2, request);
-            let answer = library!(lent, bq_question, s, s_len, o, o_len, r, r_len, *capable);
+            let answer = library_reads!(lent, bq_question, s, s_len, o, o_len, r, r_len, *capable);
             same(answer, expected)?;
             same_bytes("subject", lent.texts[0].seen(), subject)?;
             same_bytes("object", lent.texts[1].seen(), object)?;
@@ -466,7 +473,7 @@ pub fn make(machine: &mut Machine, lent: &mut Lent, call: &Call, counts: &mut Co
         }
         Call::List { k, output } => {
             to_output!(lent, counts, Name::ListRule, &[], output, |buffer| machine.list(*k, &mut buffer), |_text, _text_len, out, out_len| {
-                library!(lent, bq_list_rule, *k as usize, out, out_len)
+                library_reads!(lent, bq_list_rule, *k as usize, out, out_len)
             })
         }
         Call::Label { k } => {
@@ -479,10 +486,10 @@ pub fn make(machine: &mut Machine, lent: &mut Lent, call: &Call, counts: &mut Co
                 }
                 Err(refusal) => bq_part { refused: true, number: refusal.number(), start: 0, length: 0 },
             };
-            let answer = library!(lent, bq_label, *k as usize);
+            let answer = library_reads!(lent, bq_label, *k as usize);
             same(answer, expected)?;
             counts.count(Name::Label, answer.refused, answer.number, 0);
-            let answer = library!(lent, bq_label_check, *k as usize);
+            let answer = library_reads!(lent, bq_label_check, *k as usize);
             same(answer, written(check))?;
             counts.count(Name::LabelCheck, answer.refused, answer.number, 0);
             library_calls = 2;
@@ -499,7 +506,7 @@ pub fn make(machine: &mut Machine, lent: &mut Lent, call: &Call, counts: &mut Co
         }
         Call::WriteOption { label, output } => {
             to_output!(lent, counts, Name::WriteOption, label, output, |buffer| machine.write_option(label, &mut buffer), |text, text_len, out, out_len| {
-                library!(lent, bq_write_option, text, text_len, out, out_len)
+                library_reads!(lent, bq_write_option, text, text_len, out, out_len)
             })
         }
         Call::ReadOption { option } => {
@@ -512,7 +519,7 @@ pub fn make(machine: &mut Machine, lent: &mut Lent, call: &Call, counts: &mut Co
                 Err(refusal) => bq_peer { refused: true, number: refusal.number(), length: 0, bytes: [0; LONGEST_LABEL] },
             };
             let (text, text_len) = lent.text(0, option);
-            let answer = library!(lent, bq_read_option, text, text_len);
+            let answer = library_reads!(lent, bq_read_option, text, text_len);
             same(answer, expected)?;
             same_bytes("option", lent.texts[0].seen(), option)?;
             counts.count(Name::ReadOption, answer.refused, answer.number, 0);

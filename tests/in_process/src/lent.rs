@@ -1,22 +1,29 @@
-//! Memory that is lent to the library: every part and every buffer lies between two pages that cannot be touched, and ends at the one or begins at the
-//! other, so that a read or write past what was lent ends the process.
+//! Memory that is lent to the library: every part and every buffer lies between pages that cannot be touched, and ends where these begin or begins where these
+//! end, so that a read or write past what was lent ends the process. And each lies in memory twice, once where it can only be read: a call that takes it with
+//! const is lent it there, so that a write ends the process even where it puts back what was there.
 
-use std::ffi::{c_int, c_void};
+use std::ffi::{c_char, c_int, c_uint, c_void};
 use std::ptr::null_mut;
 
 use crate::header::*;
 
 const PAGE: usize = 4096;
+/// So much cannot be touched on either side: more than any number of the tables, a byte, times the size of a label's place.
+const GUARD: usize = 1 << 20;
+
 const NOTHING: c_int = 0;
 const READ: c_int = 1;
 const READ_AND_WRITE: c_int = 3;
 const PRIVATE_NEW_MEMORY: c_int = 0x22;
 const SHARED_NEW_MEMORY: c_int = 0x21;
+const SHARED_AT_THIS_PLACE: c_int = 0x11;
 
 unsafe extern "C" {
     fn mmap(at: *mut c_void, bytes: usize, access: c_int, flags: c_int, file: c_int, offset: i64) -> *mut c_void;
-    fn mprotect(at: *mut c_void, bytes: usize, access: c_int) -> c_int;
     fn munmap(at: *mut c_void, bytes: usize) -> c_int;
+    fn memfd_create(name: *const c_char, flags: c_uint) -> c_int;
+    fn ftruncate(file: c_int, bytes: i64) -> c_int;
+    fn close(file: c_int) -> c_int;
 }
 
 fn mapped(bytes: usize, access: c_int, flags: c_int) -> *mut u8 {
@@ -32,14 +39,16 @@ pub fn shared<T>() -> &'static mut T {
     unsafe { &mut *mapped(bytes, READ_AND_WRITE, SHARED_NEW_MEMORY).cast() }
 }
 
-/// Where in its room a part lies: it ends where the page begins that cannot be touched, or begins where such a page ends.
+/// Where in its room a part lies: it ends where that begins which cannot be touched, or begins where such memory ends, or one element behind that: bytes at
+/// an odd address, words at one that is no multiple of 16.
 #[derive(Clone, Copy, PartialEq, Eq, Debug)]
 pub enum Place {
     End,
     Front,
+    Odd,
 }
 
-/// Pages between two that cannot be touched, and what is lent of them now: `length` elements from `start` on.
+/// Pages that lie in memory twice, between others that cannot be touched, and what is lent of them now: `length` elements from `start` on.
 pub struct Room<T> {
     pages: *mut u8,
     bytes: usize,
@@ -51,9 +60,13 @@ pub struct Room<T> {
 impl<T: Copy> Room<T> {
     pub fn new(bytes: usize, place: Place) -> Room<T> {
         let bytes = bytes.next_multiple_of(PAGE);
-        let all = mapped(bytes + 2 * PAGE, NOTHING, PRIVATE_NEW_MEMORY);
-        let pages = unsafe { all.add(PAGE) };
-        assert!(unsafe { mprotect(pages.cast(), bytes, READ_AND_WRITE) } == 0);
+        let pages = unsafe { mapped(2 * bytes + 3 * GUARD, NOTHING, PRIVATE_NEW_MEMORY).add(GUARD) };
+        let file = unsafe { memfd_create(c"lent".as_ptr(), 0) };
+        assert!(file >= 0 && unsafe { ftruncate(file, bytes as i64) } == 0, "no memory");
+        for (at, access) in [(pages, READ_AND_WRITE), (unsafe { pages.add(bytes + GUARD) }, READ)] {
+            assert!(unsafe { mmap(at.cast(), bytes, access, SHARED_AT_THIS_PLACE, file, 0) } == at.cast(), "no memory");
+        }
+        unsafe { close(file) };
         let mut room = Room { pages, bytes, place, start: pages.cast(), length: 0 };
         room.set_length(0);
         room
@@ -62,10 +75,11 @@ impl<T: Copy> Room<T> {
     /// Lends so many elements; what they hold is left open.
     fn set_length(&mut self, length: usize) {
         let bytes = length * size_of::<T>();
-        assert!(bytes <= self.bytes, "{bytes} bytes are more than a room has");
+        assert!(bytes + size_of::<T>() <= self.bytes, "{bytes} bytes are more than a room has");
         self.length = length;
         self.start = match self.place {
             Place::Front => self.pages.cast(),
+            Place::Odd => unsafe { self.pages.add(size_of::<T>()).cast() },
             Place::End => unsafe { self.pages.add(self.bytes - bytes).cast() },
         };
     }
@@ -99,30 +113,24 @@ impl<T: Copy> Room<T> {
         unsafe { std::slice::from_raw_parts(self.start, self.length) }
     }
 
+    /// Where it can be written.
     pub fn start(&self) -> *mut T {
         self.start
+    }
+
+    /// Where it can only be read: for a call that takes it with const.
+    pub fn shown(&self) -> *const T {
+        unsafe { self.start.byte_add(self.bytes + GUARD) }
     }
 
     pub fn len(&self) -> usize {
         self.length
     }
-
-    /// From now on what is lent can only be read, or written too.
-    fn writable(&mut self, yes: bool) {
-        let access = if yes { READ_AND_WRITE } else { READ };
-        // The pages that hold what is lent, and no others: it lies at one end of the room.
-        let bytes = (self.length * size_of::<T>()).next_multiple_of(PAGE);
-        let first = match self.place {
-            Place::Front => self.pages,
-            Place::End => unsafe { self.pages.add(self.bytes - bytes) },
-        };
-        assert!(bytes == 0 || unsafe { mprotect(first.cast(), bytes, access) } == 0);
-    }
 }
 
 impl<T> Drop for Room<T> {
     fn drop(&mut self) {
-        unsafe { munmap(self.pages.sub(PAGE).cast(), self.bytes + 2 * PAGE) };
+        unsafe { munmap(self.pages.sub(GUARD).cast(), 2 * self.bytes + 3 * GUARD) };
     }
 }
 
@@ -141,22 +149,6 @@ pub struct Lent {
     pub fields: [Room<u64>; 3],
     /// How often a run was searched: bq_lowest_of gets arrays of other lengths from turn to turn.
     pub turn: usize,
-    /// Which parts can be written now.
-    writable: Parts,
-}
-
-/// Of each part something that is said of it.
-#[derive(Clone, Copy, PartialEq, Eq, Debug)]
-pub struct Parts {
-    pub labels: bool,
-    pub entries: bool,
-    pub words: bool,
-    pub line: bool,
-}
-
-impl Parts {
-    pub const ALL: Parts = Parts { labels: true, entries: true, words: true, line: true };
-    pub const NONE: Parts = Parts { labels: false, entries: false, words: false, line: false };
 }
 
 const ROOM: usize = 1 << 20;
@@ -177,7 +169,6 @@ impl Lent {
             records: Room::new(8 * ROOM, place),
             fields: [words(), words(), words()],
             turn: 0,
-            writable: Parts::ALL,
         };
         lent.clear();
         lent
@@ -185,30 +176,12 @@ impl Lent {
 
     /// All parts of their full size and zero, as before the first call.
     pub fn clear(&mut self) {
-        self.let_write(Parts::ALL);
         self.labels.fill(LABELS, 0);
         self.entries.fill(ENTRIES, 0);
         self.words.fill(WORDS, 0);
         self.line.fill(LINE, 0);
         self.loader = bq_loader::default();
         self.turn = 0;
-    }
-
-    /// From now on these parts can be written and no others: a call that writes to another ends the process, even where it puts back what was there.
-    pub fn let_write(&mut self, parts: Parts) {
-        let now = std::mem::replace(&mut self.writable, parts);
-        if now.labels != parts.labels {
-            self.labels.writable(parts.labels);
-        }
-        if now.entries != parts.entries {
-            self.entries.writable(parts.entries);
-        }
-        if now.words != parts.words {
-            self.words.writable(parts.words);
-        }
-        if now.line != parts.line {
-            self.line.writable(parts.line);
-        }
     }
 
     pub fn place(&self) -> Place {
@@ -220,7 +193,7 @@ impl Lent {
     /// A copy of the bytes as text number `which` of a call: where it stands and how long it is.
     pub fn text(&mut self, which: usize, bytes: &[u8]) -> (*const u8, usize) {
         self.texts[which].lend(bytes);
-        (self.texts[which].start(), bytes.len())
+        (self.texts[which].shown(), bytes.len())
     }
 
     /// A copy of the bytes as a call's output.

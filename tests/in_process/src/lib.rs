@@ -28,7 +28,7 @@ use second::script::{Call, Machine};
 
 use both::{ANSWERS, Counts};
 use lent::{Lent, Place};
-use quick::{May, Quick};
+use quick::Quick;
 
 /// The kinds of scripts in turn.
 const KINDS: [Kind; 12] = [
@@ -46,32 +46,22 @@ const KINDS: [Kind; 12] = [
     Kind::Every,
 ];
 
-/// How many calls of its own a script has, and how many quick ones come behind each; behind damage; and in one go while nothing can be written.
+/// How many calls of its own a script has, and how many quick ones come behind each, and behind damage.
 const OWN_CALLS: u64 = 300;
 const QUICK: u64 = 20;
 const QUICK_IN_DAMAGE: u64 = 10;
-const QUICK_READS: u64 = 150;
 
 /// So many calls have to meet each answer that the header lists for each call.
 const ENOUGH: u64 = 5_000_000;
 
-/// How a script lends its memory.
-#[derive(Clone, Copy, PartialEq, Eq, Debug)]
-pub struct Lending {
-    pub place: Place,
-    /// Whether what a call is lent only to read cannot be written meanwhile.
-    pub guarded: bool,
-}
-
-fn lending(script: u64) -> Lending {
-    // In each kind of script, each way comes in its turn.
-    let place = if (script + script / KINDS.len() as u64).is_multiple_of(2) { Place::End } else { Place::Front };
-    Lending { place, guarded: script % 7 == 5 }
+/// How a script lends its memory: in each kind of script, each way comes in its turn.
+fn place_of(script: u64) -> Place {
+    const PLACES: [Place; 5] = [Place::End, Place::Front, Place::End, Place::Front, Place::Odd];
+    PLACES[((script + script / KINDS.len() as u64) % 5) as usize]
 }
 
 /// Makes the calls of one script: the generator's, and quick ones between. `make` makes a call and answers whether to go on.
 fn run_script(seed: u64, script: u64, make: &mut dyn FnMut(&mut Machine, &Call) -> bool) {
-    let guarded = lending(script).guarded;
     let kind = KINDS[(script % KINDS.len() as u64) as usize];
     let own_seed = seed.wrapping_mul(0x9e37_79b9_7f4a_7c15).wrapping_add(script);
     let mut quick = Quick::new(own_seed);
@@ -83,20 +73,8 @@ fn run_script(seed: u64, script: u64, make: &mut dyn FnMut(&mut Machine, &Call) 
             return true;
         }
         quick.learn(call);
-        if guarded {
-            if quick.below(8) != 0 {
-                return true;
-            }
-            // Many that only read, so that not each has to change what can be written.
-            for _ in 0..QUICK_READS {
-                if !make(machine, quick.next(machine, May::Read)) {
-                    return false;
-                }
-            }
-            return true;
-        }
         for _ in 0..QUICK {
-            if !make(machine, quick.next(machine, May::ReadAndWrite)) {
+            if !make(machine, quick.next(machine)) {
                 return false;
             }
         }
@@ -108,7 +86,7 @@ fn run_script(seed: u64, script: u64, make: &mut dyn FnMut(&mut Machine, &Call) 
                 return false;
             }
             for _ in 0..QUICK_IN_DAMAGE {
-                if !make(machine, quick.next(machine, May::ReadAndWrite)) {
+                if !make(machine, quick.next(machine)) {
                     return false;
                 }
             }
@@ -132,14 +110,14 @@ struct Progress {
 
 /// Makes the calls; ends with status 1 at a difference.
 fn work(calls: u64, seed: u64, progress: &mut Progress) {
-    let mut lents = [Lent::new(Place::End), Lent::new(Place::Front)];
+    let mut lents = [Place::End, Place::Front, Place::Odd].map(Lent::new);
     for script in 0.. {
         progress.script = script;
         progress.call = 0;
         progress.scripts = script + 1;
         processes::end_after(30);
-        let Lending { place, guarded } = lending(script);
-        let lent = lents.iter_mut().find(|lent| lent.place() == place).expect("both places are there");
+        let place = place_of(script);
+        let lent = lents.iter_mut().find(|lent| lent.place() == place).expect("each place is there");
         lent.clear();
         // The generator's machine is fresh, and so is what is lent to the library.
         let mut machine = Machine::new();
@@ -150,9 +128,6 @@ fn work(calls: u64, seed: u64, progress: &mut Progress) {
         }
         run_script(seed, script, &mut |machine, call| {
             progress.call += 1;
-            if guarded {
-                lent.let_write(both::writes(call));
-            }
             match both::make(machine, lent, call, &mut progress.counts) {
                 Ok(made) => {
                     progress.total += made.expect("what is poked lies in its part");
@@ -196,7 +171,7 @@ fn run(calls: u64, seed: u64, file: &str) -> i32 {
     let started = std::time::Instant::now();
     let ended = processes::in_a_child(|| work(calls, seed, progress));
     let seconds = started.elapsed().as_secs_f64();
-    if ended == processes::Ended::Well {
+    if ended == processes::Ended::Well && progress.total >= calls {
         if std::env::var_os("COUNTS").is_some() {
             tell(&progress.counts);
         }
@@ -213,15 +188,19 @@ fn run(calls: u64, seed: u64, file: &str) -> i32 {
         );
         return 0;
     }
-    let lending = lending(progress.script);
+    let place = place_of(progress.script);
     println!("seed {seed}: a difference in script {}, call {}, after {} calls and {seconds:.3} s ({ended})", progress.script, progress.call, progress.total);
     let calls = recorded(seed, progress.script, progress.call);
-    let short = reduce::reduced(calls, lending);
+    let mut short = reduce::reduced(calls, place);
+    if short.is_empty() {
+        // What is made before every list shows it.
+        short = vec![Call::Fresh, Call::FreshLoader];
+    }
     let text: String = short.iter().map(|call| call.write() + "\n").collect();
-    println!("reduced to {} calls, lent as {lending:?}:\n{text}{}", short.len(), reduce::what_differs(&short, lending));
     if let Err(error) = fs::write(file, &text) {
         eprintln!("{file}: {error}");
     }
+    println!("reduced to {} calls, lent as {place:?}:\n{text}{}", short.len(), reduce::what_differs(&short, place));
     1
 }
 

@@ -12,6 +12,9 @@ unsafe extern "C" {
     fn alarm(seconds: c_uint) -> c_uint;
 }
 
+/// The exit status of work that was done. Not 0, with which a library might end the process.
+const DONE: c_int = 3;
+
 /// How a process came to its end.
 #[derive(Clone, Copy, PartialEq, Eq, Debug)]
 pub enum Ended {
@@ -41,13 +44,13 @@ pub fn in_a_child(work: impl FnOnce()) -> Ended {
     let child = unsafe { fork() };
     assert!(child >= 0, "no further process");
     if child == 0 {
-        let status = if catch_unwind(AssertUnwindSafe(work)).is_ok() { 0 } else { 2 };
+        let status = if catch_unwind(AssertUnwindSafe(work)).is_ok() { DONE } else { 2 };
         unsafe { _exit(status) }
     }
     let mut status = 0;
     assert!(unsafe { waitpid(child, &mut status, 0) } == child);
     match (status & 0x7f, status >> 8 & 0xff) {
-        (0, 0) => Ended::Well,
+        (0, DONE) => Ended::Well,
         (0, status) => Ended::With(status),
         (signal, _) => Ended::By(signal),
     }

@@ -4,7 +4,9 @@
 use second::plain::{self, Record, Table, Words, category_bit, option_bytes, own_bits, words_of};
 use second::random::Xorshift;
 use second::raw;
-use second::script::{Call, Machine, Poke};
+use second::script::{Call, Machine, Part, Poke};
+
+use crate::header::{ENTRIES, LABELS, LINE, WORDS};
 
 const REMEMBERED: usize = 64;
 
@@ -47,7 +49,7 @@ const MODES: [&[u8]; 24] = [
 const BLANKS: [&[u8]; 8] = [b" ", b" ", b" ", b" ", b" ", b" ", b"  ", b"\t"];
 const OUTPUT_LENGTHS: [usize; 10] = [0, 5, 9, 10, 12, 33, 34, 53, 54, 518];
 const OPTION_LENGTHS: [usize; 8] = [0, 9, 10, 12, 33, 34, 40, 64];
-const ODD_BYTES: [u8; 16] = [b'A', b'a', b'_', b'*', b'@', b'?', b'^', b'-', b'/', b' ', b'\t', b'\n', b'~', 127, 0, 255];
+const ODD_BYTES: [u8; 17] = [b'A', b'a', b'_', b'*', b'@', b'?', b'^', b'-', b'/', b' ', b'\t', b'\n', b'~', 127, 128, 0, 255];
 const BIG: [u64; 6] = [64, 256, 257, 1 << 32, 1 << 63, u64::MAX];
 
 /// What arguments are drawn from.
@@ -106,10 +108,26 @@ impl Pool {
                 into.extend_from_slice(&table.labels[at]);
             }
             (10, _) => into.extend_from_slice(OWN_LABELS[self.below(5)]),
+            (11, _) if self.below(8) == 0 => {
+                let (length, byte) = (if self.below(4) == 0 { 255 } else { self.below(258) }, b'A' + self.below(26) as u8);
+                into.resize(from + length, byte);
+            }
             _ => self.of(|pool| &pool.labels, into),
         }
-        if self.below(16) == 0 {
-            self.mutate(into, from);
+        match self.below(4096) {
+            // Its length is the same as before in 16 bits, or in eight.
+            0 => into.resize(into.len() + 65536, b'L'),
+            1..=7 => into.resize(into.len() + 256, b'L'),
+            8..=255 => self.mutate(into, from),
+            _ => {}
+        }
+    }
+
+    /// Over 255 fields, of which eight bits tell few.
+    fn many_fields(&mut self, into: &mut Vec<u8>) {
+        for _ in 0..256 + self.below(12) {
+            let names = b"AAAAAAAAAAAr1BCDEFGHIJ";
+            into.extend_from_slice(&[names[self.below(names.len())], b' ']);
         }
     }
 
@@ -146,6 +164,9 @@ impl Pool {
 
     /// The fields of a rule line, or of a change.
     fn fields(&mut self, table: Option<&Table>, change: bool, into: &mut Vec<u8>) {
+        if self.below(256) == 0 {
+            return self.many_fields(into);
+        }
         self.label(table, into);
         self.blank(into);
         self.label(table, into);
@@ -188,12 +209,18 @@ impl Pool {
     fn number_of(&mut self, count: usize) -> u64 {
         match self.below(32) {
             0 => BIG[self.below(6)],
+            1 => self.random.below(count as u64 + 2) | 1 << self.below(64),
             _ => self.random.below(count as u64 + 2),
         }
     }
 
     fn output(&mut self, lengths: &[usize], into: &mut Vec<u8>) {
-        let length = lengths[self.below(lengths.len())];
+        let length = match self.below(2048) {
+            0 => 65536 + self.below(54),
+            1..=8 => 519 + self.below(1000),
+            9..=255 => self.below(80),
+            _ => lengths[self.below(lengths.len())],
+        };
         let byte = self.below(256) as u8;
         into.clear();
         into.resize(length, byte);
@@ -217,6 +244,9 @@ impl Pool {
                 into.push(byte);
             }
         }
+        if self.below(256) == 0 {
+            into.resize(into.len() + 256, b' ');
+        }
         if self.below(4) == 0 {
             self.mutate(into, 0);
         }
@@ -237,17 +267,14 @@ impl Pool {
                 into.extend_from_slice(&option_bytes(plain::LABEL_LEVEL, &own_bits(&label)));
             }
         }
+        if self.below(256) == 0 {
+            // As many bytes as the option says, in eight bits.
+            into.resize(into.len() + 256, 0);
+        }
         if self.below(4) == 0 {
             self.mutate(into, 0);
         }
     }
-}
-
-/// What a quick call may do.
-#[derive(Clone, Copy, PartialEq, Eq)]
-pub enum May {
-    ReadAndWrite,
-    Read,
 }
 
 /// The quick calls of one script.
@@ -359,21 +386,41 @@ impl Quick {
     }
 
     /// The next quick call.
-    pub fn next(&mut self, machine: &Machine, may: May) -> &Call {
+    pub fn next(&mut self, machine: &Machine) -> &Call {
         let table = machine.table();
         let pool = &mut self.pool;
-        let sorts = if may == May::Read { 105 } else { 128 };
-        match pool.below(sorts) {
+        let state = machine.state();
+        let cut = (state.label_store.len(), state.entries.len(), state.words.len()) != (LABELS, ENTRIES, WORDS);
+        if cut && pool.below(16) == 0 {
+            // It is refused, and the state stays.
+            return &Call::Freshen;
+        }
+        match pool.below(128) {
             0..=43 => {
                 slot!(self.question, Call::Question { subject, object, request, capable });
+                if pool.below(8) == 0 {
+                    // The same once more: there may be a write between, of the same pair.
+                    return &self.question;
+                }
                 pool.pair(table, subject, object);
                 request.clear();
                 pool.of(|pool| &pool.requests, request);
+                if pool.below(32) == 0 {
+                    pool.mutate(request, 0);
+                }
+                if !request.is_empty() && pool.below(4096) == 0 {
+                    let length = [5, 256, 257, 65536, 65537][pool.below(5)];
+                    let last = request[request.len() - 1];
+                    request.resize(length, last);
+                }
                 *capable = pool.below(4) == 0;
                 &self.question
             }
             44..=57 => {
                 slot!(self.new_object, Call::NewObject { creator, folder, folder_transmutes, is_folder });
+                if pool.below(8) == 0 {
+                    return &self.new_object;
+                }
                 pool.pair(table, creator, folder);
                 *folder_transmutes = pool.below(4) != 0;
                 *is_folder = pool.below(2) == 0;
@@ -381,6 +428,9 @@ impl Quick {
             }
             58..=65 => {
                 slot!(self.by_label, Call::ByLabel(label));
+                if pool.below(8) == 0 {
+                    return &self.by_label;
+                }
                 label.clear();
                 pool.label(table, label);
                 &self.by_label
@@ -419,8 +469,18 @@ impl Quick {
                 *level = pool.level(table);
                 *set = pool.set(table);
                 records.clear();
-                for _ in 0..pool.below(6) {
-                    let level = if pool.below(4) == 0 { pool.level(table) } else { *level };
+                let count = match pool.below(1024) {
+                    0 => 256 + pool.below(64),
+                    1 => 4096 + pool.below(8),
+                    2..=63 => pool.below(40),
+                    _ => pool.below(6),
+                };
+                for _ in 0..count {
+                    let level = match pool.below(8) {
+                        0 => pool.level(table),
+                        1 => *level ^ 1 << pool.below(64),
+                        _ => *level,
+                    };
                     let set = if pool.below(4) == 0 { pool.set(table) } else { *set };
                     records.push(Record { label: pool.number_of(64), level, set });
                 }
@@ -447,6 +507,21 @@ impl Quick {
                 text.clear();
                 match pool.below(8) {
                     0 => pool.of(|pool| &pool.writes, text),
+                    sort @ (1 | 2) => {
+                        // The pair of the last question, or of the last new object.
+                        let (one, other) = match (sort, &self.question, &self.new_object) {
+                            (1, Call::Question { subject, object, .. }, _) => (subject, object),
+                            (_, _, Call::NewObject { creator, folder, .. }) => (creator, folder),
+                            _ => unreachable!(),
+                        };
+                        text.extend_from_slice(one);
+                        pool.blank(text);
+                        text.extend_from_slice(other);
+                        for _ in 0..2 {
+                            pool.blank(text);
+                            pool.modes(text);
+                        }
+                    }
                     _ => pool.fields(table, true, text),
                 }
                 &self.change
@@ -461,6 +536,7 @@ impl Quick {
                 slot!(self.override_list, Call::Override(text));
                 text.clear();
                 match pool.below(4) {
+                    0 if pool.below(16) == 0 => pool.many_fields(text),
                     0 => text.push(b'-'),
                     1 => pool.of(|pool| &pool.writes, text),
                     count => {
@@ -477,8 +553,11 @@ impl Quick {
                 text.clear();
                 match pool.below(4) {
                     0 => pool.of(|pool| &pool.mappings, text),
-                    _ => {
-                        pool.label(table, text);
+                    sort => {
+                        match &self.by_label {
+                            Call::ByLabel(label) if sort == 1 => text.extend_from_slice(label),
+                            _ => pool.label(table, text),
+                        }
                         pool.blank(text);
                         pool.number(text, 258);
                         for _ in 0..pool.below(5) {
@@ -493,6 +572,15 @@ impl Quick {
                 slot!(self.piece, Call::Piece(text));
                 text.clear();
                 match pool.below(8) {
+                    0 if pool.below(4) == 0 => text.extend_from_slice([b"".as_slice(), b"\n", b" \n", b"b\n", b"B\n", b"\n\n"][pool.below(6)]),
+                    0 if pool.below(256) == 0 => {
+                        // Many lines, and many bytes.
+                        pool.fields(table, false, text);
+                        text.push(b'\n');
+                        let times = [256, 257, 65536 / text.len() + 1][pool.below(3)];
+                        *text = text.repeat(times);
+                        text.truncate(1 << 19);
+                    }
                     0 => pool.of(|pool| &pool.pieces, text),
                     cut => {
                         pool.fields(table, false, text);
@@ -534,6 +622,16 @@ impl Quick {
             let poke = |value| Call::Poke(Poke::Words { index, value });
             Some((poke(value), poke(old)))
         };
+        if pool.below(16) == 0 {
+            let (part, full, now) = [
+                (Part::Labels, LABELS, state.label_store.len()),
+                (Part::Entries, ENTRIES, state.entries.len()),
+                (Part::Words, WORDS, state.words.len()),
+                (Part::Line, LINE, machine.loader().line.len()),
+            ][pool.below(4)];
+            let resize = |size| Call::Resize { part, size };
+            return (now == full).then(|| (resize(if pool.below(2) == 0 { full - 1 } else { full + 1 }), resize(full)));
+        }
         match pool.below(8) {
             0 => {
                 let index = pool.below(4);
@@ -570,6 +668,14 @@ impl Quick {
                 };
                 let poke = |byte| Call::Poke(Poke::Labels { at, bytes: vec![byte] });
                 Some((poke(byte), poke(old)))
+            }
+            7 if pool.below(2) == 0 => {
+                // What counts the lines, near a limit of 32, 31, 16 and 8 bits.
+                let index = [raw::LINES, raw::ACCEPTED, raw::SKIPPED, raw::BRINGUP][pool.below(4)];
+                let old = machine.loader().numbers[index];
+                let value = [u32::MAX, u32::MAX - 1, i32::MAX as u32, 0xffff, 255][pool.below(5)];
+                let poke = |value| Call::Poke(Poke::Loader { index, value });
+                Some((poke(u64::from(value)), poke(old)))
             }
             _ => {
                 let old = machine.loader().numbers[raw::KEPT];

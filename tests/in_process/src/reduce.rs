@@ -4,19 +4,17 @@ use std::process::exit;
 
 use second::script::{Call, Machine};
 
-use crate::Lending;
 use crate::both::{self, Counts, Difference};
-use crate::lent::{Lent, Parts, shared};
+use crate::lent::{Lent, Place, shared};
 use crate::processes::{self, Ended};
 
 /// Makes the calls on both sides, from fresh memory on. A list with a call that does not fit shows nothing.
-fn play(calls: &[Call], lending: Lending) -> Result<(), Difference> {
+fn play(calls: &[Call], place: Place) -> Result<(), Difference> {
     let mut counts = Counts::new();
     let mut machine = Machine::new();
-    let mut lent = Lent::new(lending.place);
+    let mut lent = Lent::new(place);
     let start = [Call::Fresh, Call::FreshLoader];
     for call in start.iter().chain(calls) {
-        lent.let_write(if lending.guarded { both::writes(call) } else { Parts::ALL });
         if both::make(&mut machine, &mut lent, call, &mut counts)?.is_none() {
             return Ok(());
         }
@@ -24,11 +22,11 @@ fn play(calls: &[Call], lending: Lending) -> Result<(), Difference> {
     Ok(())
 }
 
-fn differs(calls: &[Call], lending: Lending) -> bool {
+fn differs(calls: &[Call], place: Place) -> bool {
     let ended = processes::in_a_child(|| {
         // A list of calls takes some thousandths of a second.
         processes::end_after(2);
-        if play(calls, lending).is_err() {
+        if play(calls, place).is_err() {
             exit(1);
         }
     });
@@ -36,7 +34,7 @@ fn differs(calls: &[Call], lending: Lending) -> bool {
 }
 
 /// The words for the difference that the list shows.
-pub fn what_differs(calls: &[Call], lending: Lending) -> String {
+pub fn what_differs(calls: &[Call], place: Place) -> String {
     struct Words {
         length: usize,
         bytes: [u8; 4000],
@@ -44,7 +42,7 @@ pub fn what_differs(calls: &[Call], lending: Lending) -> String {
     let words: &mut Words = shared();
     let ended = processes::in_a_child(|| {
         processes::end_after(2);
-        if let Err(difference) = play(calls, lending) {
+        if let Err(difference) = play(calls, place) {
             let bytes = difference.as_bytes();
             words.length = bytes.len().min(words.bytes.len());
             words.bytes[..words.length].copy_from_slice(&bytes[..words.length]);
@@ -71,7 +69,8 @@ fn fewer<T: Clone>(mut things: Vec<T>, still: &mut dyn FnMut(&[T]) -> bool) -> V
                 at += chunk;
             }
         }
-        if chunk == 1 {
+        // Of a very long text, whose length shows the difference, each byte is not tried.
+        if chunk == 1 || chunk < things.len() / 512 {
             return things;
         }
         chunk /= 2;
@@ -120,22 +119,26 @@ fn with_field(calls: &[Call], old: &[u8], new: &[u8]) -> Vec<Call> {
 }
 
 /// A short list that shows a difference too.
-pub fn reduced(mut calls: Vec<Call>, lending: Lending) -> Vec<Call> {
+pub fn reduced(mut calls: Vec<Call>, place: Place) -> Vec<Call> {
+    if !differs(&calls, place) {
+        println!("made again from the start of the script, the calls show no difference: something is kept between scripts. They are all given");
+        return calls;
+    }
     // An episode of a script begins with fresh memory; mostly one is enough.
     let mut starts: Vec<usize> = (0..calls.len()).filter(|&at| calls[at] == Call::Fresh).collect();
     starts.reverse();
-    if let Some(start) = starts.into_iter().take(20).find(|&start| differs(&calls[start..], lending)) {
+    if let Some(start) = starts.into_iter().take(20).find(|&start| differs(&calls[start..], place)) {
         calls.drain(..start);
     }
     loop {
         let before = calls.clone();
-        calls = fewer(calls, &mut |rest| differs(rest, lending));
+        calls = fewer(calls, &mut |rest| differs(rest, place));
         // Labels become shorter wherever they stand.
         for field in all_fields(&mut calls) {
             let lengths = [1, 2, field.len() / 4, field.len() / 2, field.len().saturating_sub(1)];
             for length in lengths.into_iter().filter(|&length| 0 < length && length < field.len()) {
                 let changed = with_field(&calls, &field, &field[..length]);
-                if differs(&changed, lending) {
+                if differs(&changed, place) {
                     calls = changed;
                     break;
                 }
@@ -149,7 +152,7 @@ pub fn reduced(mut calls: Vec<Call>, lending: Lending) -> Vec<Call> {
                     changed
                 };
                 let bytes = texts(&mut calls[at].clone())[which].clone();
-                let short = fewer(bytes, &mut |rest| differs(&with(rest), lending));
+                let short = fewer(bytes, &mut |rest| differs(&with(rest), place));
                 calls = with(&short);
             }
         }
