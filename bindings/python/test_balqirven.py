@@ -902,7 +902,7 @@ class Duties(unittest.TestCase):
 
     def test_nobody_runs_during_a_call(self):
         """Another thread that wants to run all the time does not during a long call."""
-        table, text, turns, stop = Table.fresh(), b"A B r\n" * 200_000, [0], threading.Event()
+        table, turns, stop = Table.fresh(), [0], threading.Event()
 
         def spin():
             while not stop.is_set():
@@ -916,16 +916,18 @@ class Duties(unittest.TestCase):
         try:
             while turns[0] == 0:
                 time.sleep(0.001)
-            arguments = *table._lent, (ctypes.c_uint8 * 600)(), 600, balqirven._library.bq_fresh_loader(), text, len(text)
-            begun, before = time.perf_counter(), turns[0]
-            balqirven._library.bq_piece(*arguments)
-            after, taken = turns[0], time.perf_counter() - begun
+            text, taken = b"A B r\n" * 100_000, 0
+            while taken < 0.002:  # a shorter call shows nothing
+                text += text
+                arguments = *table._lent, (ctypes.c_uint8 * 600)(), 600, balqirven._library.bq_fresh_loader(), text, len(text)
+                begun, before = time.perf_counter(), turns[0]
+                balqirven._library.bq_piece(*arguments)
+                after, taken = turns[0], time.perf_counter() - begun
+                self.assertEqual(before, after)
         finally:
             stop.set()
             thread.join()
             sys.setswitchinterval(interval)
-        self.assertGreater(taken, 0.002, "the call was too short to show anything")
-        self.assertEqual(before, after)
 
     def test_threads(self):
         """Pieces of whole lines, changes, questions and pokes of several threads on one table and one loader all count."""

@@ -20,6 +20,8 @@
 #define LOADER uint8_t *line, size_t line_len, bq_loader loader
 #define ASKED const uint8_t *subject, size_t subject_len, const uint8_t *object, size_t object_len, const uint8_t *request, size_t request_len, bool capable
 #define ASKING subject, subject_len, object, object_len, request, request_len, capable
+#define CREATED const uint8_t *creator, size_t creator_len, const uint8_t *folder, size_t folder_len, bool folder_transmutes, bool is_folder
+#define CREATING creator, creator_len, folder, folder_len, folder_transmutes, is_folder
 #define RUN                                                                                                                                     \
     const uint64_t *run_labels, size_t run_labels_len, const uint64_t *run_levels, size_t run_levels_len, const uint64_t *run_set_words,        \
         size_t run_set_words_len, uint64_t level, bq_set set
@@ -120,8 +122,8 @@ WRONG(bq_mapped, bq_by_label, TABLES_READ, LABEL) {
     return m;
 }
 #elif defined(a_file_transmutes_too)
-WRONG(bq_labelled, bq_new_object, TABLES_READ, const uint8_t *creator, size_t creator_len, const uint8_t *folder, size_t folder_len, bool folder_transmutes, bool is_folder) {
-    bq_labelled l = __real_bq_new_object(LENT, creator, creator_len, folder, folder_len, folder_transmutes, is_folder);
+WRONG(bq_labelled, bq_new_object, TABLES_READ, CREATED) {
+    bq_labelled l = __real_bq_new_object(LENT, CREATING);
     if (l.kind == BQ_FOLDER_LABEL) l.transmutes = true;
     return l;
 }
@@ -195,6 +197,15 @@ WRONG(bq_decision, bq_question, TABLES_READ, ASKED) {
         *first ^= 1;
     }
     return __real_bq_question(LENT, ASKING);
+}
+#elif defined(new_object_writes_a_length_and_puts_it_back)
+WRONG(bq_labelled, bq_new_object, TABLES_READ, CREATED) {
+    volatile uint8_t *first = (uint8_t *)labels;
+    if (labels_len > 0) {
+        first[0]++;
+        first[0]--;
+    }
+    return __real_bq_new_object(LENT, CREATING);
 }
 #elif defined(revoke_writes_a_count_and_puts_it_back)
 WRONG(bq_counted, bq_revoke, TABLES_REVOKED, LABEL) {

@@ -231,7 +231,7 @@ fn loader_of(machine: &Machine) -> bq_loader {
     }
 }
 
-/// Every byte of the tables, of the line and of the loader.
+/// Every byte of the tables and of the line.
 #[inline]
 fn same_state(machine: &Machine, lent: &Lent) -> Result<(), Difference> {
     let state = machine.state();
@@ -465,7 +465,7 @@ pub fn make(machine: &mut Machine, lent: &mut Lent, call: &Call, counts: &mut Co
             let expected = labelled(machine.new_object(creator, folder, *folder_transmutes, *is_folder));
             let (c, c_len) = lent.text(0, creator);
             let (f, f_len) = lent.text(1, folder);
-            let answer = library!(lent, bq_new_object, c, c_len, f, f_len, *folder_transmutes, *is_folder);
+            let answer = library_reads!(lent, bq_new_object, c, c_len, f, f_len, *folder_transmutes, *is_folder);
             same(answer, expected)?;
             same_bytes("creator", lent.texts[0].seen(), creator)?;
             same_bytes("folder", lent.texts[1].seen(), folder)?;

@@ -32,11 +32,9 @@ fn mapped(bytes: usize, access: c_int, flags: c_int) -> *mut u8 {
     at.cast()
 }
 
-/// Memory that a process shares with those that it forks.
-pub fn shared<T>() -> &'static mut T {
-    let bytes = size_of::<T>().next_multiple_of(PAGE);
-    // New pages are zeros; T is made of numbers alone, and nothing else gets this pointer.
-    unsafe { &mut *mapped(bytes, READ_AND_WRITE, SHARED_NEW_MEMORY).cast() }
+/// Memory that a process shares with those that it forks, of zeros at first: for types that are made of numbers alone. It is not given back.
+pub fn shared<T: Copy>() -> *mut T {
+    mapped(size_of::<T>().next_multiple_of(PAGE), READ_AND_WRITE, SHARED_NEW_MEMORY).cast()
 }
 
 /// Where in its room a part lies: it ends where that begins which cannot be touched, or begins where such memory ends, or one element behind that: bytes at
@@ -151,7 +149,8 @@ pub struct Lent {
     pub turn: usize,
 }
 
-const ROOM: usize = 1 << 20;
+/// The most elements that a part can get, a megabyte of bytes, and room for one more.
+const ROOM: usize = (1 << 20) + PAGE;
 
 impl Lent {
     pub fn new(place: Place) -> Lent {

@@ -3,8 +3,8 @@
 //!
 //!   in_process CALLS SEED FILE
 //!
-//! makes CALLS calls of the library, the same for the same seed. Exit status 1 where there is a difference; the list of calls that shows it, made short, is
-//! then in FILE, in the form of tests/second/FORMAT.md. tests/compare_in_process builds it and runs it.
+//! makes CALLS calls of the library, the same for the same seed. Exit status 1 where there is a difference, and where five million calls or more did not meet every
+//! answer that the header lists; the list of calls that shows a difference, made short, is then in FILE, in the form of tests/second/FORMAT.md. tests/compare_in_process builds it and runs it.
 //!
 //! The calls come in scripts. A script starts from fresh memory and has a seed of its own, so it can be made again. One process makes the calls; the
 //! process that started it stays behind to find out, should the first one come to an end that it must not, which call was the last.
@@ -97,6 +97,7 @@ fn run_script(seed: u64, script: u64, make: &mut dyn FnMut(&mut Machine, &Call) 
 }
 
 /// What the process that makes the calls tells the one that waits.
+#[derive(Clone, Copy)]
 struct Progress {
     script: u64,
     /// Which call of the script is being made, from 1.
@@ -115,7 +116,7 @@ fn work(calls: u64, seed: u64, progress: &mut Progress) {
         progress.script = script;
         progress.call = 0;
         progress.scripts = script + 1;
-        processes::end_after(30);
+        processes::end_after(10);
         let place = place_of(script);
         let lent = lents.iter_mut().find(|lent| lent.place() == place).expect("each place is there");
         lent.clear();
@@ -167,9 +168,11 @@ fn tell(counts: &Counts) {
 
 fn run(calls: u64, seed: u64, file: &str) -> i32 {
     assert!(wide::tried(), "the comparison of bytes does not see each of them");
-    let progress: &mut Progress = lent::shared();
+    let shared: *mut Progress = lent::shared();
     let started = std::time::Instant::now();
-    let ended = processes::in_a_child(|| work(calls, seed, progress));
+    // Only that process writes there, until it ends.
+    let ended = processes::in_a_child(|| work(calls, seed, unsafe { &mut *shared }));
+    let progress = unsafe { shared.read_volatile() };
     let seconds = started.elapsed().as_secs_f64();
     if ended == processes::Ended::Well && progress.total >= calls {
         if std::env::var_os("COUNTS").is_some() {

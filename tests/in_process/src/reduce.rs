@@ -2,6 +2,7 @@
 
 use std::process::exit;
 
+use second::plain::Record;
 use second::script::{Call, Machine};
 
 use crate::both::{self, Counts, Difference};
@@ -24,7 +25,7 @@ fn play(calls: &[Call], place: Place) -> Result<(), Difference> {
 
 fn differs(calls: &[Call], place: Place) -> bool {
     let ended = processes::in_a_child(|| {
-        // A list of calls takes some thousandths of a second.
+        // Of the processor's time a list of calls takes some thousandths of a second.
         processes::end_after(2);
         if play(calls, place).is_err() {
             exit(1);
@@ -35,20 +36,25 @@ fn differs(calls: &[Call], place: Place) -> bool {
 
 /// The words for the difference that the list shows.
 pub fn what_differs(calls: &[Call], place: Place) -> String {
+    #[derive(Clone, Copy)]
     struct Words {
         length: usize,
         bytes: [u8; 4000],
     }
-    let words: &mut Words = shared();
+    let words: *mut Words = shared();
     let ended = processes::in_a_child(|| {
         processes::end_after(2);
         if let Err(difference) = play(calls, place) {
             let bytes = difference.as_bytes();
+            // Only this process writes there, until it ends.
+            let words = unsafe { &mut *words };
             words.length = bytes.len().min(words.bytes.len());
             words.bytes[..words.length].copy_from_slice(&bytes[..words.length]);
             exit(1);
         }
     });
+    // The other process has ended.
+    let words = unsafe { words.read_volatile() };
     match words.length {
         0 => ended.to_string(),
         length => String::from_utf8_lossy(&words.bytes[..length]).into_owned(),
@@ -145,6 +151,15 @@ pub fn reduced(mut calls: Vec<Call>, place: Place) -> Vec<Call> {
             }
         }
         for at in 0..calls.len() {
+            if let Call::Run { level, set, records } = calls[at].clone() {
+                let with = |records: &[Record]| {
+                    let mut changed = calls.clone();
+                    changed[at] = Call::Run { level, set, records: records.to_vec() };
+                    changed
+                };
+                let short = fewer(records, &mut |rest| differs(&with(rest), place));
+                calls = with(&short);
+            }
             for which in 0..texts(&mut calls[at]).len() {
                 let with = |bytes: &[u8]| {
                     let mut changed = calls.clone();

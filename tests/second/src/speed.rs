@@ -1,4 +1,4 @@
-//! How quick the machine is: `second speed`. Nothing is compared here.
+//! How quick `Machine` is: `second speed`. Nothing is compared here.
 
 use std::hint::black_box;
 use std::io::{self, Write};
