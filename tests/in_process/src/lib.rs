@@ -3,8 +3,9 @@
 //!
 //!   in_process CALLS SEED FILE
 //!
-//! makes CALLS calls of the library, the same for the same seed. Exit status 1 where there is a difference, and where five million calls or more did not meet every
-//! answer that the header lists; the list of calls that shows a difference, made short, is then in FILE, in the form of tests/second/FORMAT.md. tests/compare_in_process builds it and runs it.
+//! makes CALLS calls of the library, the same for the same seed. Exit status 1 where there is a difference: the list of calls that shows it, made short, is then in
+//! FILE, in the form of tests/second/FORMAT.md. The status is 1 too where five million calls or more did not meet every answer that the header lists.
+//! tests/compare_in_process builds it and runs it.
 //!
 //! The calls come in scripts. A script starts from fresh memory and has a seed of its own, so it can be made again. One process makes the calls; the
 //! process that started it stays behind to find out, should the first one come to an end that it must not, which call was the last.
