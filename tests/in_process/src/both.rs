@@ -39,30 +39,49 @@ pub enum Name {
     ReadOption,
 }
 
-/// The calls by name, with the refusals that the header lists for each, and how many kinds of other answers it has.
-pub const ANSWERS: [(&str, &[usize], usize); 21] = [
-    ("bq_fresh_table", &[0], 1),
-    ("bq_fresh_loader", &[], 1),
-    ("bq_piece", &[0], 1),
-    ("bq_end", &[0], 1),
-    ("bq_change", &[0, 1, 2, 3, 4, 5, 6, 7], 1),
-    ("bq_revoke", &[0, 1, 3], 1),
-    ("bq_onlycap", &[0, 1, 2, 3, 6, 11], 1),
-    ("bq_mapping", &[0, 1, 2, 3, 6, 9, 10], 1),
-    ("bq_by_label", &[0, 3], 2),
-    ("bq_by_level", &[0, 9], 2),
-    ("bq_lowest_in_run", &[9], 2),
-    ("bq_lowest_of", &[9], 2),
-    ("bq_question", &[0, 3, 8], 3),
-    ("bq_new_object", &[0, 3], 3),
-    ("bq_list_rule", &[0, 12, 13], 1),
-    ("bq_label", &[0, 13], 1),
-    ("bq_label_check", &[0, 13], 1),
-    ("bq_record_to_line", &[3, 4, 5, 12, 14], 1),
-    ("bq_line_to_record", &[1, 2, 3, 4, 5, 12, 15], 1),
-    ("bq_write_option", &[0, 3, 12, 19], 1),
-    ("bq_read_option", &[0, 3, 16, 17, 18, 21], 1),
+/// The calls by name, and how many kinds of answers each has besides refusals.
+pub const CALLS: [(&str, usize); 21] = [
+    ("bq_fresh_table", 1),
+    ("bq_fresh_loader", 1),
+    ("bq_piece", 1),
+    ("bq_end", 1),
+    ("bq_change", 1),
+    ("bq_revoke", 1),
+    ("bq_onlycap", 1),
+    ("bq_mapping", 1),
+    ("bq_by_label", 2),
+    ("bq_by_level", 2),
+    ("bq_lowest_in_run", 2),
+    ("bq_lowest_of", 2),
+    ("bq_question", 3),
+    ("bq_new_object", 3),
+    ("bq_list_rule", 1),
+    ("bq_label", 1),
+    ("bq_label_check", 1),
+    ("bq_record_to_line", 1),
+    ("bq_line_to_record", 1),
+    ("bq_write_option", 1),
+    ("bq_read_option", 1),
 ];
+
+const HEADER: &str = include_str!("../../../include/balqirven.h");
+
+/// The refusals that the header lists for a call: the numbers behind `Refusals:` in the comment before its declaration, or those of the call that is named there
+/// in their place. Limits stand there too, which are no refusal numbers.
+fn listed(name: &str) -> Vec<usize> {
+    let declared = HEADER.find(&format!(" {name}(")).expect("the header declares the call");
+    let end = HEADER[..declared].rfind("*/").expect("a comment stands before it");
+    let start = HEADER[..end].rfind("/*").expect("a comment has a beginning");
+    let Some((_, text)) = HEADER[start..end].rsplit_once("Refusals:") else {
+        return Vec::new();
+    };
+    let numbers = text.split(|c: char| !c.is_ascii_digit()).filter_map(|word| word.parse().ok());
+    let refusals: Vec<usize> = numbers.filter(|&number| number < FIRST_KIND).collect();
+    match text.split_once("as bq_") {
+        Some((_, other)) if refusals.is_empty() => listed(&format!("bq_{}", other.trim_end_matches(|c: char| !c.is_ascii_alphabetic()))),
+        _ => refusals,
+    }
+}
 
 /// Behind the refusal numbers, 0 to 21, the kinds of an answer that is no refusal: done, granted, mapped, a label, the creator's label; denied, none; by
 /// override, the folder's label.
@@ -88,7 +107,8 @@ impl Counts {
     /// The outcomes that the header has and that did not occur, and those that occurred and that it does not have.
     pub fn not_as_listed(&self) -> Vec<String> {
         let mut odd = Vec::new();
-        for ((name, refusals, kinds), counts) in ANSWERS.iter().zip(&self.0) {
+        for ((name, kinds), counts) in CALLS.iter().zip(&self.0) {
+            let refusals = listed(name);
             for (outcome, &count) in counts.iter().enumerate() {
                 let listed = refusals.contains(&outcome) || (FIRST_KIND..FIRST_KIND + kinds).contains(&outcome);
                 if listed != (count > 0) {

@@ -27,7 +27,7 @@ use std::process::exit;
 use second::random::{self, Kind};
 use second::script::{Call, Machine};
 
-use both::{ANSWERS, Counts};
+use both::{CALLS, Counts};
 use lent::{Lent, Place};
 use quick::Quick;
 
@@ -160,7 +160,7 @@ fn recorded(seed: u64, script: u64, last: u64) -> Vec<Call> {
 }
 
 fn tell(counts: &Counts) {
-    for ((name, ..), outcomes) in ANSWERS.iter().zip(&counts.0) {
+    for ((name, _), outcomes) in CALLS.iter().zip(&counts.0) {
         let met = outcomes.iter().enumerate().filter(|(_, count)| **count > 0);
         let told: Vec<String> = met.map(|(outcome, count)| format!("{}: {count}", both::outcome_name(outcome))).collect();
         println!("{name}: {}", told.join(", "));
