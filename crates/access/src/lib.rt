@@ -1,5 +1,7 @@
 // The access check (01: a question): the seven published rules in their order, and the override capability (CAP_MAC_OVERRIDE with onlycap).
 // A question changes nothing.
+#![tactic(auto)]
+
 ghost use Rattle.std.specs.Prelude.{◌≡◌, [], ◌∷◌, ◌+◌, ◌<◌, ◌≤◌, length};
 ghost use Rattle.search.specs.Search.{place_of};
 ghost use Rattle.search.specs.Bytes.{same_bytes};

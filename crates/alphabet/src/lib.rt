@@ -1,4 +1,6 @@
 // The bytes of labels and lines: the class of each byte, what a well-formed label is, and the fields of a line (01, Labels and Rule text).
+#![tactic(auto)]
+
 ghost use Rattle.std.specs.Prelude.{◌≡◌, ◌+◌, ◌≤◌, drop, get_or, length};
 ghost use Rattle.refusals.specs.Refusals.{bad_label_at};
 ghost use Rattle.alphabet.specs.Alphabet.{label_byte, class_of, ByteClasses, well_formed, fault_of, bad_byte, bad_byte_in, FieldsOfALine, FirstBadByte};

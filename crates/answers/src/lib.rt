@@ -1,5 +1,7 @@
 // What each call answers, in 01's numbers: an exported function can't answer an enum, so a host gets a struct of plain numbers for it. Which
 // number and values each case has, specs/Answers.antt says once for each answer.
+#![tactic(auto)]
+
 ghost use Rattle.std.specs.Prelude.{◌≡◌};
 ghost use Rattle.access.specs.SevenRules.{denial_number};
 ghost use Rattle.answers.specs.Answers.{shown, write_shown, revoke_shown, piece_shown, end_shown, output_shown, lookup_shown, search_shown, object_shown};

@@ -1,5 +1,7 @@
 // The program (01, What the program reads and writes): standard input to standard output. What is written is decided in `program`; here it
 // is only read and written.
+#![tactic(auto)]
+
 ghost use Rattle.program.specs.Turns.{went_count};
 ghost use Rattle.program.specs.Steps.{Front};
 

@@ -1,4 +1,6 @@
 // The packet option (CIPSO, FIPS 188): written for a label, and read back to one (02, Five). Nothing is changed but the lent output.
+#![tactic(auto)]
+
 ghost use Rattle.std.specs.Prelude.{◌≡◌, ◌<◌, ◌≤◌, length};
 ghost use Rattle.output.specs.Output.{put_answer, put_out};
 ghost use Rattle.store.specs.Layout.{lent};

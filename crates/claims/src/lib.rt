@@ -1,5 +1,7 @@
 // What the users asked for, each claim under its name; demand 2 stands in the crate grown, what accepted writes do in effects, and by which number a call
 // is refused in faults. These functions do nothing: what each ensures is the claim, so the check names it as proved.
+#![tactic(auto)]
+
 ghost use Rattle.std.specs.Prelude.{◌≡◌, true, false, List, map};
 ghost use Rattle.search.specs.Search.{all};
 ghost use Rattle.alphabet.specs.Alphabet.{class_of, ByteClasses, LabelForm};

@@ -1,4 +1,6 @@
 // The damage test (01: refusal 0): every call makes it first, of the whole lent state.
+#![tactic(auto)]
+
 ghost use Rattle.std.specs.Prelude.{◌≡◌, ℕ, ◌+◌, ◌<◌, ◌≤◌, length, get_or, take, []};
 ghost use Rattle.search.specs.Search.{all, entries as listed};
 ghost use Rattle.modes.specs.Modes.{known_modes};

@@ -1,6 +1,8 @@
 // What an accepted line, change, revoke, override list and mapping do, what a mapping's text says, what override is, what the look-ups find, and that old
 // rule files load as before but for b, as contracts: these functions do nothing, and what each ensures is a theorem on the definitions. So the check names
 // each of them, and a reader finds each by its name.
+#![tactic(auto)]
+
 ghost use Rattle.std.specs.Prelude.{◌≡◌, true, ◌↔◌, List, ℕ, length};
 ghost use Rattle.numbers.specs.declared.CategorySet.{CategorySet};
 ghost use Rattle.store.specs.Table.{Table};

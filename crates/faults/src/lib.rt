@@ -1,5 +1,7 @@
 // Demand 1, that bad input is refused by a number from the list, and by which; and what the place beside that number means: as contracts. The functions do
 // nothing, and what each ensures is the claim, so the check names it as proved.
+#![tactic(auto)]
+
 ghost use Rattle.faults.specs.Faults.{FirstInOrder};
 ghost use Rattle.faults.specs.Lengths.{RefusedForLength};
 ghost use Rattle.faults.specs.Places.{PlaceOfTheFirstBadByte};

@@ -1,5 +1,7 @@
 // Old fixed records (02, One): a rule as the 53 bytes of the source's fixed load form, turned into a rule line and back. Nothing is lent but the
 // two buffers.
+#![tactic(auto)]
+
 ghost use Rattle.std.specs.Prelude.{◌≡◌, true, ◌+◌, ◌<◌, ◌≤◌, length};
 ghost use Rattle.modes.specs.Modes.{known_modes};
 ghost use Rattle.search.specs.Bytes.{written};

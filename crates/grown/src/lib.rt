@@ -1,5 +1,7 @@
 // Demand 2, and what holds of tables grown from a fresh one, as contracts: these functions do nothing, and what each ensures is a theorem on the
 // definitions. So the check names each of them, and a reader finds each by its name.
+#![tactic(auto)]
+
 ghost use Rattle.std.specs.Prelude.{◌≡◌, Bool, true, false, List, ◌↔◌, length, ℕ, ◌≤◌};
 ghost use Rattle.store.specs.Table.{Table, label_in};
 ghost use Rattle.store.specs.Layout.{Store, table_of, undamaged_of};

@@ -1,6 +1,8 @@
 // Rule lines and change-rule writes, judged by their bytes alone: refusals 1 to 5, before any table is looked at (01, Rule text and Single
 // writes). Each field is judged where it stands in the line. In a rule line b is a placeholder (02, Six): it is dropped here,
 // and nothing above knows more of it than whether a line held it.
+#![tactic(auto)]
+
 ghost use Rattle.std.specs.Prelude.{◌≡◌};
 ghost use Rattle.lines.specs.Lines.{rule_of, bring_up_in, change_of};
 ghost use Rattle.lines.specs.Within.{rule_line_at, rule_said, RuleInside, RuleHeld, change_line_at, change_said, ChangeInside};

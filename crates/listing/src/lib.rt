@@ -1,4 +1,6 @@
 // The listing: a rule by its number as a line of text, and a label by its number (01, Listing). Nothing is changed but the lent buffer.
+#![tactic(auto)]
+
 ghost use Rattle.std.specs.Prelude.{◌≡◌};
 ghost use Rattle.store.specs.Layout.{lent};
 ghost use Rattle.places.specs.Places.{PartFrom};

@@ -1,5 +1,7 @@
 // Loading rule text in pieces (01, Rule text: a piece and the end call). The text may be cut anywhere; each line is judged whole, at its
 // newline or at the end call.
+#![tactic(auto)]
+
 ghost use Rattle.std.specs.Prelude.{◌≡◌, true, length};
 ghost use Rattle.alphabet.specs.Alphabet.{line_limit};
 ghost use Rattle.store.specs.Layout.{Store, store, lent, left};

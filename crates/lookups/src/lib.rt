@@ -1,4 +1,6 @@
 // Mappings looked up, by label and by level and set (01, Single writes, the paragraph after them; 02, Four). Nothing is changed.
+#![tactic(auto)]
+
 ghost use Rattle.std.specs.Prelude.{◌≡◌, ◌<◌, get_or};
 ghost use Rattle.store.specs.Layout.{lent, table_of, Sizes};
 ghost use Rattle.store.specs.Within.{Counts};

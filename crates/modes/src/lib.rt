@@ -1,4 +1,6 @@
 // Access modes: the letters r w x a t and their bits, read from text and written to it (01, Modes), and the retired letter b (02, Six).
+#![tactic(auto)]
+
 ghost use Rattle.std.specs.Prelude.{◌≡◌, ◌+◌, ◌≤◌, length};
 ghost use Rattle.search.specs.Bytes.{written};
 ghost use Rattle.modes.specs.Modes.{bit_of, read_modes, modes_text, LettersAndBits};

@@ -1,4 +1,6 @@
 // The label of a new object that a creator makes in a folder (02, Seven). Nothing is changed, and no label enters.
+#![tactic(auto)]
+
 ghost use Rattle.std.specs.Prelude.{◌≡◌, Bool, List, ℕ};
 ghost use Rattle.store.specs.Table.{Table};
 ghost use Rattle.store.specs.Layout.{Store, lent, table_of, Sizes};

@@ -1,4 +1,6 @@
 // The decimal numbers of levels and categories, and a set of categories as bits of three u64 (01, Mapping; 02, Four and Five).
+#![tactic(auto)]
+
 ghost use Rattle.std.specs.Prelude.{◌≡◌, ◌^◌, ◌<◌, length};
 ghost use Rattle.numbers.specs.Numbers.{number_of, NumbersOfDigits};
 ghost use Rattle.numbers.specs.Categories.{is_mapping_level, categories, with_category, same_set, known_set, CategorySets};

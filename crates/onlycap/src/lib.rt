@@ -1,4 +1,6 @@
 // The onlycap list (01, Single writes, Override list): one write replaces it. Everything is judged before the first byte is written.
+#![tactic(auto)]
+
 ghost use Rattle.std.specs.Prelude.{◌≡◌, [], ◌<◌, ◌≤◌, length, take};
 ghost use Rattle.search.specs.Within.{count_after};
 ghost use Rattle.search.specs.Search.{first, all, place_of, entries};

@@ -1,4 +1,6 @@
 // What is written in a packet option is read from it (02, Five). Claims alone.
+#![tactic(auto)]
+
 ghost use Rattle.std.specs.Prelude.{◌≡◌, List, ℕ, take};
 ghost use Rattle.output.specs.declared.Output.TheVariants.{Length};
 ghost use Rattle.store.specs.Table.{Table};

@@ -1,4 +1,6 @@
 // A text written to a lent output, or refused where the output is too short (01, refusal 12).
+#![tactic(auto)]
+
 ghost use Rattle.std.specs.Prelude.{◌≡◌};
 ghost use Rattle.output.specs.Output.{put_answer, put_out, LengthAnswered};
 

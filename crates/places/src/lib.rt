@@ -1,5 +1,7 @@
 // Where a label and a pair stand in the tables: the label of a number, the first number of a label, and the first place of a pair's rule.
 // Nothing is changed.
+#![tactic(auto)]
+
 ghost use Rattle.std.specs.Prelude.{◌≡◌, cond, List, ◌∷◌, ℕ, ◌+◌, ◌<◌, ◌≤◌, length, get_or};
 ghost use Rattle.search.specs.Within.{count_after};
 ghost use Rattle.search.specs.Search.{first, place_of, entries as listed};

@@ -1,6 +1,8 @@
 // What the program writes for what it reads (01, What the program reads and writes): rule text, the first line that is exactly `?`, then
 // question lines. The input comes in pieces, cut anywhere. The line under way is the loader's: a line of rule text, whose last may turn out to be
 // `?`, and once the rule text has ended a question line.
+#![tactic(auto)]
+
 ghost use Rattle.std.specs.Prelude.{◌≡◌, true, suc, ◌+◌, ◌*◌, ◌≤◌, length};
 ghost use Rattle.alphabet.specs.Alphabet.{line_limit, fields};
 ghost use Rattle.store.specs.Layout.{store, lent};

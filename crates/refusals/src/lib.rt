@@ -1,4 +1,5 @@
 // The refusals (01, The refusal numbers; 02), each under one name. specs/Refusals.antt has the same names for the definitions.
+#![tactic(auto)]
 
 // A refusal: its number, and the place of the first bad byte beside 3 (02, Three). Beside any other number the place is 0.
 #[derive(Drop)]

@@ -1,4 +1,6 @@
 // The lines that the program writes (01, What the program reads and writes): the report and the answers, as bytes of an output.
+#![tactic(auto)]
+
 ghost use Rattle.std.specs.Prelude.{[], ◌∷◌, ◌++◌, ◌+◌, ◌≤◌, length};
 ghost use Rattle.replies.specs.Replies.{line_room, decimal, DecimalReadsBack, report_text, word_of, answer_line};
 ghost use Rattle.replies.specs.Within.{Put};

@@ -1,4 +1,6 @@
 // The loader's numbers (01, Rule text: the report; 02, Six): a fresh loader, a line counted, and the report. Each number stops at its limit.
+#![tactic(auto)]
+
 ghost use Rattle.std.specs.Prelude.{◌≡◌};
 ghost use Rattle.reports.specs.Report.{fresh_loader, more, with_line, count, with_kept};
 

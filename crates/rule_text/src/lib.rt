@@ -1,4 +1,6 @@
 // A rule as a line of text (01, Listing): written to a lent output. What such a line says when it is read is a law of the crate.
+#![tactic(auto)]
+
 ghost use Rattle.std.specs.Prelude.{◌≡◌, ◌≤◌, length};
 ghost use Rattle.alphabet.specs.Alphabet.{label_longest};
 ghost use Rattle.output.specs.Output.{put_answer, put_out};

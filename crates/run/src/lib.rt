@@ -1,5 +1,7 @@
 // A run of records that the host lends, searched for the lowest label number whose level and set both match (01, Single writes, the
 // paragraph after them; 02, Four). A run may have any length and content. It is no part of the state, so no search of it gets 0.
+#![tactic(auto)]
+
 ghost use Rattle.std.specs.Prelude.{◌≡◌};
 ghost use Rattle.run.specs.Run.{lower_of, settled_of, run_of, records_of};
 ghost use Rattle.run.specs.Within.{searched, Shortest};

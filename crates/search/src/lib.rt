@@ -1,6 +1,8 @@
 // What every table of the library shares: what a search answers, byte strings compared, copied and taken four bytes at a time, and a run of
 // numbers held to a limit.
 // Nothing here knows what a label or a rule is.
+#![tactic(auto)]
+
 ghost use Rattle.std.specs.Prelude.{◌≡◌, ◌+◌, ◌≤◌, min, ltb, length, take};
 ghost use Rattle.search.specs.Search.{all};
 ghost use Rattle.search.specs.Bytes.{same_bytes, written};

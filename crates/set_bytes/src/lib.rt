@@ -1,4 +1,6 @@
 // A set of categories as bytes, in the two orders of 02, Five: that of an option's bitmap, and that of a label's own bits.
+#![tactic(auto)]
+
 ghost use Rattle.std.specs.Prelude.{◌≡◌, ◌+◌, ◌<◌, ◌≤◌, length, get_or};
 ghost use Rattle.search.specs.Search.{entries};
 ghost use Rattle.search.specs.Bytes.{written};

@@ -1,5 +1,7 @@
 // The tables in lent memory: the label store, the rules, the CIPSO mappings and the onlycap list (01: the override list). Three lent
 // slices hold them: `labels`, `entries` and `words`, laid out as specs/Layout.antt says.
+#![tactic(auto)]
+
 ghost use Rattle.std.specs.Prelude.{◌≡◌, ◌+◌, ◌<◌, ◌≤◌, length};
 ghost use Rattle.store.specs.Table.{Table, FirstCounts, label_limit, rule_limit, mapping_limit};
 ghost use Rattle.store.specs.Layout.{store, lent, labels_size, modes_from, levels_from, thirds_from, set_at};

@@ -1,5 +1,7 @@
 // The lines of a text (01, Rule text): where the line ends that an index stands in. What the lines of a whole text are, and lines as text, is said in
 // specs/TextLines.
+#![tactic(auto)]
+
 ghost use Rattle.std.specs.Prelude.{◌≡◌, ◌+◌, ◌≤◌, ltb, length, drop};
 ghost use Rattle.text_lines.specs.Within.{before_newline};
 
