@@ -17,7 +17,7 @@ fn main() {
     } else if folder.is_relative() {
         println!("cargo::error=BALQIRVEN_LIB_DIR is to be a whole path, and is '{}'", folder.display());
     } else if !archive.is_file() {
-        println!("cargo::error={} is not there: build it (rt staticlib balqirven), or name its folder by BALQIRVEN_LIB_DIR", archive.display());
+        println!("cargo::error={} is not there: build it (./build), or name its folder by BALQIRVEN_LIB_DIR", archive.display());
     } else {
         println!("cargo::rustc-link-search=native={}", folder.display());
         println!("cargo::rustc-link-lib=static=balqirven");

@@ -6,7 +6,7 @@ ghost use Rattle.std.specs.Prelude.{◌≡◌, [], ◌∷◌, ◌+◌, ◌<◌, 
 ghost use Rattle.search.specs.Search.{place_of};
 ghost use Rattle.search.specs.Bytes.{same_bytes};
 ghost use Rattle.store.specs.Table.{label_limit, rule_limit, onlycap_limit};
-ghost use Rattle.store.specs.Layout.{store, lent, modes_from, onlycap_from, firsts_from, table_of, Sizes};
+ghost use Rattle.store.specs.Layout.{store, modes_from, onlycap_from, firsts_from, table_of, Sizes};
 ghost use Rattle.store.specs.Within.{Counts};
 ghost use Rattle.store.specs.Pairs.{rule_between};
 ghost use Rattle.access.specs.SevenRules as rules;
@@ -18,14 +18,14 @@ use refusals::Refusal;
 use search::Found;
 
 // The rule that denies: 1, the subject is *; or 7, any other access.
-#[derive(Drop)]
+#[derive(Clone, Copy)]
 pub enum Denial {
     StarSubject,
     AnyOther,
 }
 
 // What a run of the rules says: granted, with the rule's number; denied, with the rule that denies; or nothing, where none applies.
-#[derive(Drop)]
+#[derive(Clone, Copy)]
 pub enum Verdict {
     Grants(u8),
     Denies(Denial),
@@ -33,7 +33,7 @@ pub enum Verdict {
 }
 
 // What rules 5 to 7 say, and the modes of the rule by which rule 6 granted: none where another decided.
-#[derive(Drop)]
+#[derive(Clone, Copy)]
 pub struct Ruling {
     pub verdict: Verdict,
     pub modes: u8,
@@ -41,7 +41,7 @@ pub struct Ruling {
 
 // The answer to a question: granted, with the rule's number; denied, with the rule that denies; granted by override, with the rule that would have
 // denied; refused, with its number and place.
-#[derive(Drop)]
+#[derive(Clone, Copy)]
 pub enum Answer {
     Granted(u8),
     Denied(Denial),
@@ -108,8 +108,8 @@ fn same_label(subject: &[u8], object: &[u8], s: Found, o: Found) -> bool
 // Where the rule of two labels that were sought stands. The rule search, `places::find_pair`, is handed two numbers and lent no label; it is not begun
 // where a label has no number. Who calls it has tested the store, and has the numbers from searches of it.
 fn find_rule(entries: &[u8], words: &[u64], subject: Found, object: Found) -> Found
-    requires rule_limit_in_bounds { (modes_from + rule_limit ≤ length entries.now) × (firsts_from ≤ length words.now) × Counts words.now }
-    requires subject_bound { (place_of subject 0 < label_limit) × (place_of object 0 < label_limit) }
+    requires sizes { (modes_from + rule_limit ≤ length entries.now) × (firsts_from ≤ length words.now) × Counts words.now }
+    requires numbers_fit { (place_of subject 0 < label_limit) × (place_of object 0 < label_limit) }
     ensures { result ≡ rule_between (table_of (store [] entries.now words.now)) subject object }
 {
     let Found::At(s) = subject else {
@@ -194,8 +194,8 @@ pub fn by_numbers(
     o: Found,
     wanted: u8,
 ) -> Ruling
-    requires rule_limit_in_bounds { (modes_from + rule_limit ≤ length entries.now) × (firsts_from ≤ length words.now) × Counts words.now }
-    requires s_bound { (place_of s 0 < label_limit) × (place_of o 0 < label_limit) }
+    requires sizes { (modes_from + rule_limit ≤ length entries.now) × (firsts_from ≤ length words.now) × Counts words.now }
+    requires numbers_fit { (place_of s 0 < label_limit) × (place_of o 0 < label_limit) }
     ensures { result ≡ within.ruling_by (table_of (store [] entries.now words.now)) same s o wanted }
 {
     if same {
@@ -235,7 +235,7 @@ fn decide(
     capable: bool,
 ) -> Answer
     requires { Sizes labels.now entries.now words.now × Counts words.now }
-    ensures { result ≡ access.decide (table_of (lent labels entries words)) subject.now object.now wanted capable }
+    ensures { result ≡ access.decide (table_of (store labels.now entries.now words.now)) subject.now object.now wanted capable }
 {
     match by_marks(subject, object, wanted) {
         Verdict::Grants(rule) => Answer::Granted(rule),
@@ -268,7 +268,7 @@ pub fn question(
     request: &[u8],
     capable: bool,
 ) -> Answer
-    ensures { result ≡ access.question_of (lent labels entries words) subject.now object.now request.now capable }
+    ensures { result ≡ access.question_of (store labels.now entries.now words.now) subject.now object.now request.now capable }
 {
     if !damage::undamaged(labels, entries, words) {
         return Answer::Refused(refusals::DAMAGED);

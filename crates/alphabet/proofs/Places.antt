@@ -13,7 +13,7 @@ use Rattle.search.specs.Search.{first, all, place_of}
 use Rattle.search.specs.declared.Found.{Found}
 use Rattle.search.specs.declared.Found.TheVariants.{At, Nothing}
 use Rattle.search.proofs.Laws.{no, not_so, first-is, first-before, first_fails}
-use Rattle.alphabet.specs.Alphabet.{is_blank, label_byte, LabelByte, well_formed, label_longest, or_too_long, fault_of, bad_byte, BadAt, FirstBad, onto, parts, fields, is_bad, bad_byte_from, bad_byte_in, Blanks, NoBlanks, Cut, BadIn, FirstBadByte}
+use Rattle.alphabet.specs.Alphabet.{is_blank, label_byte, LabelByte, well_formed, label_longest, or_too_long, fault_of, bad_byte, BadAt, FirstBad, onto, parts, is_bad, bad_byte_from, bad_byte_in, Blanks, NoBlanks, Cut, BadIn, FirstBadByte}
 use Rattle.alphabet.specs.Within.{run, start_of, end_of, field_at, part, label_field_at}
 use Rattle.alphabet.specs.declared.Field.TheVariants.{Part, End}
 use Rattle.alphabet.specs.declared.LabelField.TheVariants as label_field

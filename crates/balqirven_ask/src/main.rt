@@ -6,17 +6,12 @@ ghost use Rattle.program.specs.Turns.{went_count};
 ghost use Rattle.program.specs.Steps.{Front};
 
 use program::{Session, Turn};
+use std::io::Read;
 
 // How much is read at once, and the room for what so much input may say: a line for each byte.
 const PIECE: usize = 1024;
 
 const OUT: usize = PIECE * program::LINE_ROOM;
-
-const STDIN: i32 = 0;
-
-const STDOUT: i32 = 1;
-
-const STDERR: i32 = 2;
 
 // What one read came to: the session to go on with, or that there is nothing more to do.
 #[derive(Drop)]
@@ -25,30 +20,32 @@ enum Next {
     Stop,
 }
 
-// Says on standard error why the run ends early.
-fn complain(why: &[u8]) {
-    io::write_all(STDERR, b"balqirven_ask: ");
-    io::write_all(STDERR, why);
-    io::write_all(STDERR, b"\n");
+// Says on standard error why the run ends early. Where that can't be written either, nobody is told.
+fn complain(rt: &impl Eprint, why: &str) {
+    let _ = eprintln!(rt; "balqirven_ask: {why}");
 }
 
 // Writes what a call of the session put at the front of the output, and answers how to go on.
-fn put_out(out: &[u8], turn: Turn) -> Next
+fn put_out(rt: &(impl Print + Eprint), out: &[u8], turn: Turn) -> Next
     requires { Front (went_count turn) out.now }
 {
     let Turn::Went(next, count) = turn else {
-        complain(b"damaged state");
+        complain(rt, "damaged state");
         return Next::Stop;
     };
-    if io::write_all(STDOUT, &out[..count]) {
-        return Next::More(next);
+    match rt.write_all(&out[..count]) {
+        Ok(()) => Next::More(next),
+        Err(_) => {
+            complain(rt, "cannot write to standard output");
+            Next::Stop
+        }
     }
-    complain(b"cannot write to standard output");
-    Next::Stop
 }
 
 // Reads once, in whatever piece comes, and answers how to go on.
 fn read_once(
+    rt: &(impl Print + Eprint),
+    input: &mut impl Read,
     labels: &mut [u8],
     entries: &mut [u8],
     words: &mut [u64],
@@ -57,28 +54,28 @@ fn read_once(
     s: Session,
 ) -> Next {
     let mut piece = [0u8; PIECE];
-    let got = libc::read(STDIN, &mut piece);
-    if got < 0 {
-        complain(b"cannot read standard input");
+    let Ok(n) = input.read(&mut piece) else {
+        complain(rt, "cannot read standard input");
         return Next::Stop;
-    }
-    if got == 0 {
+    };
+    if n == 0 {
         let last = program::finish(labels, entries, words, line, out, s);
-        put_out(out, last);
+        put_out(rt, out, last);
         return Next::Stop;
     }
-    let n = io::count(got, &piece);
     let turn = program::feed(labels, entries, words, line, out, s, &piece[..n]);
-    put_out(out, turn)
+    put_out(rt, out, turn)
 }
 
 // Says that the loop below has come to the end of its count.
-fn out_of_turns() {
-    complain(b"too many pieces of input");
+fn out_of_turns(rt: &impl Eprint) {
+    complain(rt, "too many pieces of input");
 }
 
-// A proved loop has to end, and nothing says that the input does. So the loop counts its turns down, from a number that no run uses up.
+// A proved loop has to end, and nothing says that the input does. So the loop counts its turns, up to a number that no run uses up.
 fn read_all(
+    rt: &(impl Print + Eprint),
+    input: &mut impl Read,
     labels: &mut [u8],
     entries: &mut [u8],
     words: &mut [u64],
@@ -87,9 +84,8 @@ fn read_all(
     begun: Session,
 ) {
     let mut s = begun;
-    let mut turns = u64::MAX;
-    while turns > 0 {
-        match read_once(labels, entries, words, line, out, s) {
+    for _ in 0..u64::MAX {
+        match read_once(rt, input, labels, entries, words, line, out, s) {
             Next::More(next) => {
                 s = next;
             }
@@ -97,12 +93,11 @@ fn read_all(
                 return;
             }
         }
-        turns -= 1;
     }
-    out_of_turns();
+    out_of_turns(rt);
 }
 
-fn main() {
+fn main(rt: HostRuntime) {
     let mut labels = [0u8; store::LABELS_SIZE];
     let mut entries = [0u8; store::ENTRIES_SIZE];
     let mut words = [0u64; store::WORDS_SIZE];
@@ -110,6 +105,8 @@ fn main() {
     let mut out = [0u8; OUT];
     let s = program::begin(&mut labels, &entries, &mut words);
     read_all(
+        &rt,
+        &mut rt.stdin(),
         &mut labels,
         &mut entries,
         &mut words,

@@ -1,13 +1,14 @@
 -- Two things that the list of calls rests on. The compiled routine of each exported function is known to its callers at the very `Asked` and `Learnt` that
--- specs/Calls is made of. And from every state every list of calls has a run, so that demand 3 does not speak of nothing. Assumes nothing.
+-- specs/Calls is made of: what specs/Contracts reads off its clauses is what Rattle reads off them. And from every state every list of calls has a run, so that demand 3 does not speak of nothing. Assumes nothing.
 use Prim.Native.Nat.{ℕ, ◌*◌, ◌+◌, ◌<◌}
 use native.Mathlib.Omega.{arith}
 use mathlib.Core.Path.{◌≡◌, refl, sym, ap, ◌∙◌}
 use mathlib.Core.Bool.{Bool, true, false, cond}
 use mathlib.Core.List.{List, [], ◌∷◌}
 use lib.ListN.{length, take, drop}
-use denote.Ref.{Bor}
-use prog.Routine.{Env, Name, Routine}
+use Rattle.std.specs.Borrow.{Bor, MutBor}
+use prog.Routine.{Env, Callee}
+use prog.Wired.{Code, Wired}
 use borrow.Fn.Kinds.{ParamKind, ResultKind, In, Out}
 use borrow.Fn.Run.{Over}
 use borrow.Fn.Plain.{Known}
@@ -75,7 +76,7 @@ use Rattle.balqirven.proofs.bq_label.Symbol as label-symbol
 use Rattle.balqirven.proofs.bq_label.Met as label-met
 use Rattle.store.specs.declared.Done.{Done}
 use Rattle.store.specs.declared.Done.TheVariants as d
-use Rattle.store.specs.Layout.{Store, store}
+use Rattle.store.specs.Layout.{Store}
 use Rattle.writes.specs.Writes.{change_answer, change_store}
 use Rattle.revoke.specs.Revoke.{revoke_answer, revoke_store}
 use Rattle.onlycap.specs.Onlycap.{onlycap_answer, onlycap_store}
@@ -94,64 +95,67 @@ use Rattle.load.specs.Loader.{Load, load, ready, step_piece, step_end, piece_ans
 use Rattle.answers.specs.Answers.{write_shown, revoke_shown, piece_shown, end_shown, output_shown, lookup_shown, search_shown, part_shown}
 use Rattle.listing.proofs.Laws.{label-done, label_is, label-refused}
 use Rattle.balqirven.proofs.Laws.{label-stands}
-use Rattle.lists.specs.Called.{Called}
+use Rattle.lists.specs.Called.{Called, Asked, Learnt}
+use Rattle.calls.specs.Contracts as contracts
 use Rattle.lists.specs.Reader as r
 use Rattle.lists.specs.Reader.{Ask, Write, Call, Reply}
 use Rattle.calls.specs.Calls.{Answers, Writes, Runs, none, a_piece, an_end, an_ask, a_write, a_question, a_change, a_revoke, an_onlycap, a_mapping, a_look_up, a_search, a_listing, a_label, a_check, an_option, a_peer, a_new_object, taken_reply, finished_reply}
 
 -- ---- the routines
 
--- the routine ρ, under any name in any environment, is known at P and Q
-abbrev pub Real : (n : ℕ) (ps : List (ParamKind n)) (r : ResultKind n) → In n ps → Out n ps r → Routine → Type 2
-Real n ps r P Q ρ =
-    (w : World) (γ : Env) (k : Name) →
-    γ k ≡ ρ →
+-- what a name means where the function's code is wired, under any name in any environment, is known at P and Q
+abbrev pub Real : (n : ℕ) (ps : List (ParamKind n)) (r : ResultKind n) → In n ps → Out n ps r → Callee → Code → Type 2
+Real n ps r P Q name code =
+    (w : World) →
+    Wired w.𝓡.env code →
+    (γ : Env) (k : Callee) →
+    γ k ≡ w.𝓡.env name →
     Known w.𝓛 (Over w.𝓛 w.𝓜 w.𝓡 γ) n ps r P Q k
 
-pub real_piece : Real 5 piece-kinds.ps piece-kinds.r piece-reads.Asked piece-reads.Learnt piece-symbol.routine
-real_piece w γ k e = piece-reads.known w γ k piece-symbol.routine e (piece-met.met w.𝓤 w.𝓛 w.𝓜 w.𝓡)
+pub real_piece : Real 5 piece-kinds.ps piece-kinds.r (Asked contracts.piece) (Learnt contracts.piece) piece-symbol.name piece-symbol.code
+real_piece w wired γ k e = piece-reads.known w γ k (w.𝓡.env piece-symbol.name) e (piece-met.met w.𝓤 w.𝓛 w.𝓜 w.𝓡 wired)
 
-pub real_end : Real 4 end-kinds.ps end-kinds.r end_reads.Asked end_reads.Learnt end-symbol.routine
-real_end w γ k e = end_reads.known w γ k end-symbol.routine e (end-met.met w.𝓤 w.𝓛 w.𝓜 w.𝓡)
+pub real_end : Real 4 end-kinds.ps end-kinds.r (Asked contracts.end) (Learnt contracts.end) end-symbol.name end-symbol.code
+real_end w wired γ k e = end_reads.known w γ k (w.𝓡.env end-symbol.name) e (end-met.met w.𝓤 w.𝓛 w.𝓜 w.𝓡 wired)
 
-pub real_question : Real 6 question-kinds.ps question-kinds.r question-reads.Asked question-reads.Learnt question-symbol.routine
-real_question w γ k e = question-reads.known w γ k question-symbol.routine e (question-met.met w.𝓤 w.𝓛 w.𝓜 w.𝓡)
+pub real_question : Real 6 question-kinds.ps question-kinds.r (Asked contracts.question) (Learnt contracts.question) question-symbol.name question-symbol.code
+real_question w wired γ k e = question-reads.known w γ k (w.𝓡.env question-symbol.name) e (question-met.met w.𝓤 w.𝓛 w.𝓜 w.𝓡 wired)
 
-pub real_change : Real 4 change-kinds.ps change-kinds.r change-reads.Asked change-reads.Learnt change-symbol.routine
-real_change w γ k e = change-reads.known w γ k change-symbol.routine e (change-met.met w.𝓤 w.𝓛 w.𝓜 w.𝓡)
+pub real_change : Real 4 change-kinds.ps change-kinds.r (Asked contracts.change) (Learnt contracts.change) change-symbol.name change-symbol.code
+real_change w wired γ k e = change-reads.known w γ k (w.𝓡.env change-symbol.name) e (change-met.met w.𝓤 w.𝓛 w.𝓜 w.𝓡 wired)
 
-pub real_revoke : Real 4 revoke-kinds.ps revoke-kinds.r revoke-reads.Asked revoke-reads.Learnt revoke-symbol.routine
-real_revoke w γ k e = revoke-reads.known w γ k revoke-symbol.routine e (revoke-met.met w.𝓤 w.𝓛 w.𝓜 w.𝓡)
+pub real_revoke : Real 4 revoke-kinds.ps revoke-kinds.r (Asked contracts.revoke) (Learnt contracts.revoke) revoke-symbol.name revoke-symbol.code
+real_revoke w wired γ k e = revoke-reads.known w γ k (w.𝓡.env revoke-symbol.name) e (revoke-met.met w.𝓤 w.𝓛 w.𝓜 w.𝓡 wired)
 
-pub real_onlycap : Real 4 onlycap-kinds.ps onlycap-kinds.r onlycap-reads.Asked onlycap-reads.Learnt onlycap-symbol.routine
-real_onlycap w γ k e = onlycap-reads.known w γ k onlycap-symbol.routine e (onlycap-met.met w.𝓤 w.𝓛 w.𝓜 w.𝓡)
+pub real_onlycap : Real 4 onlycap-kinds.ps onlycap-kinds.r (Asked contracts.onlycap) (Learnt contracts.onlycap) onlycap-symbol.name onlycap-symbol.code
+real_onlycap w wired γ k e = onlycap-reads.known w γ k (w.𝓡.env onlycap-symbol.name) e (onlycap-met.met w.𝓤 w.𝓛 w.𝓜 w.𝓡 wired)
 
-pub real_mapping : Real 4 mapping-kinds.ps mapping-kinds.r mapping-reads.Asked mapping-reads.Learnt mapping-symbol.routine
-real_mapping w γ k e = mapping-reads.known w γ k mapping-symbol.routine e (mapping-met.met w.𝓤 w.𝓛 w.𝓜 w.𝓡)
+pub real_mapping : Real 4 mapping-kinds.ps mapping-kinds.r (Asked contracts.mapping) (Learnt contracts.mapping) mapping-symbol.name mapping-symbol.code
+real_mapping w wired γ k e = mapping-reads.known w γ k (w.𝓡.env mapping-symbol.name) e (mapping-met.met w.𝓤 w.𝓛 w.𝓜 w.𝓡 wired)
 
-pub real_by-label : Real 4 by-label-kinds.ps by-label-kinds.r by-label-reads.Asked by-label-reads.Learnt by-label-symbol.routine
-real_by-label w γ k e = by-label-reads.known w γ k by-label-symbol.routine e (by-label-met.met w.𝓤 w.𝓛 w.𝓜 w.𝓡)
+pub real_by-label : Real 4 by-label-kinds.ps by-label-kinds.r (Asked contracts.by_label) (Learnt contracts.by_label) by-label-symbol.name by-label-symbol.code
+real_by-label w wired γ k e = by-label-reads.known w γ k (w.𝓡.env by-label-symbol.name) e (by-label-met.met w.𝓤 w.𝓛 w.𝓜 w.𝓡 wired)
 
-pub real_by-level : Real 3 by-level-kinds.ps by-level-kinds.r by-level-reads.Asked by-level-reads.Learnt by-level-symbol.routine
-real_by-level w γ k e = by-level-reads.known w γ k by-level-symbol.routine e (by-level-met.met w.𝓤 w.𝓛 w.𝓜 w.𝓡)
+pub real_by-level : Real 3 by-level-kinds.ps by-level-kinds.r (Asked contracts.by_level) (Learnt contracts.by_level) by-level-symbol.name by-level-symbol.code
+real_by-level w wired γ k e = by-level-reads.known w γ k (w.𝓡.env by-level-symbol.name) e (by-level-met.met w.𝓤 w.𝓛 w.𝓜 w.𝓡 wired)
 
-pub real_list_rule : Real 4 list-rule-kinds.ps list-rule-kinds.r list-rule-reads.Asked list-rule-reads.Learnt list-rule-symbol.routine
-real_list_rule w γ k e = list-rule-reads.known w γ k list-rule-symbol.routine e (list-rule-met.met w.𝓤 w.𝓛 w.𝓜 w.𝓡)
+pub real_list_rule : Real 4 list-rule-kinds.ps list-rule-kinds.r (Asked contracts.list_rule) (Learnt contracts.list_rule) list-rule-symbol.name list-rule-symbol.code
+real_list_rule w wired γ k e = list-rule-reads.known w γ k (w.𝓡.env list-rule-symbol.name) e (list-rule-met.met w.𝓤 w.𝓛 w.𝓜 w.𝓡 wired)
 
-pub real_label_check : Real 3 label-check-kinds.ps label-check-kinds.r label-check-reads.Asked label-check-reads.Learnt label-check-symbol.routine
-real_label_check w γ k e = label-check-reads.known w γ k label-check-symbol.routine e (label-check-met.met w.𝓤 w.𝓛 w.𝓜 w.𝓡)
+pub real_label_check : Real 3 label-check-kinds.ps label-check-kinds.r (Asked contracts.label_check) (Learnt contracts.label_check) label-check-symbol.name label-check-symbol.code
+real_label_check w wired γ k e = label-check-reads.known w γ k (w.𝓡.env label-check-symbol.name) e (label-check-met.met w.𝓤 w.𝓛 w.𝓜 w.𝓡 wired)
 
-pub real_write_option : Real 5 write-option-kinds.ps write-option-kinds.r write-option-reads.Asked write-option-reads.Learnt write-option-symbol.routine
-real_write_option w γ k e = write-option-reads.known w γ k write-option-symbol.routine e (write-option-met.met w.𝓤 w.𝓛 w.𝓜 w.𝓡)
+pub real_write_option : Real 5 write-option-kinds.ps write-option-kinds.r (Asked contracts.write_option) (Learnt contracts.write_option) write-option-symbol.name write-option-symbol.code
+real_write_option w wired γ k e = write-option-reads.known w γ k (w.𝓡.env write-option-symbol.name) e (write-option-met.met w.𝓤 w.𝓛 w.𝓜 w.𝓡 wired)
 
-pub real_read_option : Real 4 read-option-kinds.ps read-option-kinds.r read-option-reads.Asked read-option-reads.Learnt read-option-symbol.routine
-real_read_option w γ k e = read-option-reads.known w γ k read-option-symbol.routine e (read-option-met.met w.𝓤 w.𝓛 w.𝓜 w.𝓡)
+pub real_read_option : Real 4 read-option-kinds.ps read-option-kinds.r (Asked contracts.read_option) (Learnt contracts.read_option) read-option-symbol.name read-option-symbol.code
+real_read_option w wired γ k e = read-option-reads.known w γ k (w.𝓡.env read-option-symbol.name) e (read-option-met.met w.𝓤 w.𝓛 w.𝓜 w.𝓡 wired)
 
-pub real_new-object : Real 5 new-object-kinds.ps new-object-kinds.r new-object-reads.Asked new-object-reads.Learnt new-object-symbol.routine
-real_new-object w γ k e = new-object-reads.known w γ k new-object-symbol.routine e (new-object-met.met w.𝓤 w.𝓛 w.𝓜 w.𝓡)
+pub real_new-object : Real 5 new-object-kinds.ps new-object-kinds.r (Asked contracts.new_object) (Learnt contracts.new_object) new-object-symbol.name new-object-symbol.code
+real_new-object w wired γ k e = new-object-reads.known w γ k (w.𝓡.env new-object-symbol.name) e (new-object-met.met w.𝓤 w.𝓛 w.𝓜 w.𝓡 wired)
 
-pub real_label : Real 3 label-kinds.ps label-kinds.r label-reads.Asked label-reads.Learnt label-symbol.routine
-real_label w γ k e = label-reads.known w γ k label-symbol.routine e (label-met.met w.𝓤 w.𝓛 w.𝓜 w.𝓡)
+pub real_label : Real 3 label-kinds.ps label-kinds.r (Asked contracts.label) (Learnt contracts.label) label-symbol.name label-symbol.code
+real_label w wired γ k e = label-reads.known w γ k (w.𝓡.env label-symbol.name) e (label-met.met w.𝓤 w.𝓛 w.𝓜 w.𝓡 wired)
 
 -- ---- a run of every list
 
@@ -196,77 +200,35 @@ label-given st k = by_answer (label_answer st k) refl
 
 -- calls within the contracts, from any state
 
-abbrev Called-piece : Type 0
-Called-piece = Called piece-kinds.ps piece-kinds.r piece-reads.Asked piece-reads.Learnt
-
-abbrev Called-end : Type 0
-Called-end = Called end-kinds.ps end-kinds.r end_reads.Asked end_reads.Learnt
-
-abbrev Called-question : Type 0
-Called-question = Called question-kinds.ps question-kinds.r question-reads.Asked question-reads.Learnt
-
-abbrev Called-change : Type 0
-Called-change = Called change-kinds.ps change-kinds.r change-reads.Asked change-reads.Learnt
-
-abbrev Called-revoke : Type 0
-Called-revoke = Called revoke-kinds.ps revoke-kinds.r revoke-reads.Asked revoke-reads.Learnt
-
-abbrev Called-onlycap : Type 0
-Called-onlycap = Called onlycap-kinds.ps onlycap-kinds.r onlycap-reads.Asked onlycap-reads.Learnt
-
-abbrev Called-mapping : Type 0
-Called-mapping = Called mapping-kinds.ps mapping-kinds.r mapping-reads.Asked mapping-reads.Learnt
-
-abbrev Called-by-label : Type 0
-Called-by-label = Called by-label-kinds.ps by-label-kinds.r by-label-reads.Asked by-label-reads.Learnt
-
-abbrev Called-by-level : Type 0
-Called-by-level = Called by-level-kinds.ps by-level-kinds.r by-level-reads.Asked by-level-reads.Learnt
-
-abbrev Called-list-rule : Type 0
-Called-list-rule = Called list-rule-kinds.ps list-rule-kinds.r list-rule-reads.Asked list-rule-reads.Learnt
-
-abbrev Called-label-check : Type 0
-Called-label-check = Called label-check-kinds.ps label-check-kinds.r label-check-reads.Asked label-check-reads.Learnt
-
-abbrev Called-write-option : Type 0
-Called-write-option = Called write-option-kinds.ps write-option-kinds.r write-option-reads.Asked write-option-reads.Learnt
-
-abbrev Called-read-option : Type 0
-Called-read-option = Called read-option-kinds.ps read-option-kinds.r read-option-reads.Asked read-option-reads.Learnt
-
-abbrev Called-new-object : Type 0
-Called-new-object = Called new-object-kinds.ps new-object-kinds.r new-object-reads.Asked new-object-reads.Learnt
-
-abbrev Called-label : Type 0
-Called-label = Called label-kinds.ps label-kinds.r label-reads.Asked label-reads.Learnt
-
 abbrev ref : {X : Type 0} → X → Bor X
 ref x = record { ref_ptr = (0, 0); now = x }
 
-abbrev piece_call : (s : Load) (text : List ℕ) → Called-piece
+abbrev mut : {X : Type 0} → X → MutBor X
+mut x = record { ref_ptr = (0, 0); ghost_name = 0; now = x }
+
+abbrev piece_call : (s : Load) (text : List ℕ) → Called contracts.piece
 piece_call s text =
     record {
       lifetimes = ([], ([], ([], ([], ([], tt)))));
-      args = (ref s.store.labels, (ref s.store.entries, (ref s.store.words, (ref s.line, (s.loader, (ref text, tt))))));
+      args = (mut s.store.labels, (mut s.store.entries, (mut s.store.words, (mut s.line, (s.loader, (ref text, tt))))));
       asked = tt;
       result = piece_shown s.loader (piece_answer s text);
       last = ((piece_after s text).store.labels, ((piece_after s text).store.entries, ((piece_after s text).store.words, ((piece_after s text).line, (tt, (tt, tt))))));
       ensures = (refl, with_loader (piece_after s text) (piece-loader s text));
     }
 
-abbrev end_call : (s : Load) → Called-end
+abbrev end_call : (s : Load) → Called contracts.end
 end_call s =
     record {
       lifetimes = ([], ([], ([], ([], tt))));
-      args = (ref s.store.labels, (ref s.store.entries, (ref s.store.words, (ref s.line, (s.loader, tt)))));
+      args = (mut s.store.labels, (mut s.store.entries, (mut s.store.words, (mut s.line, (s.loader, tt)))));
       asked = tt;
       result = end_shown s.loader (end_answer s);
       last = ((end_after s).store.labels, ((end_after s).store.entries, ((end_after s).store.words, ((end_after s).line, (tt, tt)))));
       ensures = (refl, with_loader (end_after s) (end-loader s));
     }
 
-abbrev question_call : (st : Store) (x o request : List ℕ) (capable : Bool) → Called-question
+abbrev question_call : (st : Store) (x o request : List ℕ) (capable : Bool) → Called contracts.question
 question_call st x o request capable =
     record {
       lifetimes = ([], ([], ([], ([], ([], ([], tt))))));
@@ -277,51 +239,51 @@ question_call st x o request capable =
       ensures = refl;
     }
 
-abbrev change_call : (st : Store) (text : List ℕ) → Called-change
+abbrev change_call : (st : Store) (text : List ℕ) → Called contracts.change
 change_call st text =
     record {
       lifetimes = ([], ([], ([], ([], tt))));
-      args = (ref st.labels, (ref st.entries, (ref st.words, (ref text, tt))));
+      args = (mut st.labels, (mut st.entries, (mut st.words, (ref text, tt))));
       asked = tt;
       result = write_shown (change_answer st text);
       last = ((change_store st text).labels, ((change_store st text).entries, ((change_store st text).words, (tt, tt))));
       ensures = (refl, refl);
     }
 
-abbrev onlycap_call : (st : Store) (text : List ℕ) → Called-onlycap
+abbrev onlycap_call : (st : Store) (text : List ℕ) → Called contracts.onlycap
 onlycap_call st text =
     record {
       lifetimes = ([], ([], ([], ([], tt))));
-      args = (ref st.labels, (ref st.entries, (ref st.words, (ref text, tt))));
+      args = (mut st.labels, (mut st.entries, (mut st.words, (ref text, tt))));
       asked = tt;
       result = write_shown (onlycap_answer st text);
       last = ((onlycap_store st text).labels, ((onlycap_store st text).entries, ((onlycap_store st text).words, (tt, tt))));
       ensures = (refl, refl);
     }
 
-abbrev mapping_call : (st : Store) (text : List ℕ) → Called-mapping
+abbrev mapping_call : (st : Store) (text : List ℕ) → Called contracts.mapping
 mapping_call st text =
     record {
       lifetimes = ([], ([], ([], ([], tt))));
-      args = (ref st.labels, (ref st.entries, (ref st.words, (ref text, tt))));
+      args = (mut st.labels, (mut st.entries, (mut st.words, (ref text, tt))));
       asked = tt;
       result = write_shown (map_answer st text);
       last = ((map_stored st text).labels, ((map_stored st text).entries, ((map_stored st text).words, (tt, tt))));
       ensures = (refl, refl);
     }
 
-abbrev revoke_call : (st : Store) (l : List ℕ) → Called-revoke
+abbrev revoke_call : (st : Store) (l : List ℕ) → Called contracts.revoke
 revoke_call st l =
     record {
       lifetimes = ([], ([], ([], ([], tt))));
-      args = (ref st.labels, (ref st.entries, (ref st.words, (ref l, tt))));
+      args = (ref st.labels, (mut st.entries, (ref st.words, (ref l, tt))));
       asked = tt;
       result = revoke_shown (revoke_answer st l);
       last = (tt, ((revoke_store st l).entries, (tt, (tt, tt))));
       ensures = (refl, refl);
     }
 
-abbrev by-label_call : (st : Store) (l : List ℕ) → Called-by-label
+abbrev by-label_call : (st : Store) (l : List ℕ) → Called contracts.by_label
 by-label_call st l =
     record {
       lifetimes = ([], ([], ([], ([], tt))));
@@ -332,7 +294,7 @@ by-label_call st l =
       ensures = refl;
     }
 
-abbrev by-level_call : (st : Store) (level : ℕ) (set : CategorySet) → Called-by-level
+abbrev by-level_call : (st : Store) (level : ℕ) (set : CategorySet) → Called contracts.by_level
 by-level_call st level set =
     record {
       lifetimes = ([], ([], ([], tt)));
@@ -343,29 +305,29 @@ by-level_call st level set =
       ensures = refl;
     }
 
-abbrev list_rule_call : (st : Store) (k : ℕ) (out : List ℕ) → Called-list-rule
+abbrev list_rule_call : (st : Store) (k : ℕ) (out : List ℕ) → Called contracts.list_rule
 list_rule_call st k out =
     record {
       lifetimes = ([], ([], ([], ([], tt))));
-      args = (ref st.labels, (ref st.entries, (ref st.words, (k, (ref out, tt)))));
+      args = (ref st.labels, (ref st.entries, (ref st.words, (k, (mut out, tt)))));
       asked = tt;
       result = output_shown (list_answer st k out);
       last = (tt, (tt, (tt, (tt, (list_out st k out, tt)))));
       ensures = (refl, refl);
     }
 
-abbrev write_option_call : (st : Store) (l out : List ℕ) → Called-write-option
+abbrev write_option_call : (st : Store) (l out : List ℕ) → Called contracts.write_option
 write_option_call st l out =
     record {
       lifetimes = ([], ([], ([], ([], ([], tt)))));
-      args = (ref st.labels, (ref st.entries, (ref st.words, (ref l, (ref out, tt)))));
+      args = (ref st.labels, (ref st.entries, (ref st.words, (ref l, (mut out, tt)))));
       asked = tt;
       result = output_shown (option_answer st l out);
       last = (tt, (tt, (tt, (tt, (option_out st l out, tt)))));
       ensures = (refl, refl);
     }
 
-abbrev read_option_call : (st : Store) (option : List ℕ) → Called-read-option
+abbrev read_option_call : (st : Store) (option : List ℕ) → Called contracts.read_option
 read_option_call st option =
     record {
       lifetimes = ([], ([], ([], ([], tt))));
@@ -376,7 +338,7 @@ read_option_call st option =
       ensures = refl;
     }
 
-abbrev new-object_call : (st : Store) (creator folder : List ℕ) (folder_transmutes is_folder : Bool) → Called-new-object
+abbrev new-object_call : (st : Store) (creator folder : List ℕ) (folder_transmutes is_folder : Bool) → Called contracts.new_object
 new-object_call st creator folder folder_transmutes is_folder =
     record {
       lifetimes = ([], ([], ([], ([], ([], tt)))));
@@ -387,7 +349,7 @@ new-object_call st creator folder folder_transmutes is_folder =
       ensures = refl;
     }
 
-abbrev label_check_call : (st : Store) (k : ℕ) → Called-label-check
+abbrev label_check_call : (st : Store) (k : ℕ) → Called contracts.label_check
 label_check_call st k =
     record {
       lifetimes = ([], ([], ([], tt)));
@@ -398,7 +360,7 @@ label_check_call st k =
       ensures = refl;
     }
 
-abbrev label_call : (st : Store) (k : ℕ) → Called-label
+abbrev label_call : (st : Store) (k : ℕ) → Called contracts.label
 label_call st k =
     record {
       lifetimes = ([], ([], ([], tt)));

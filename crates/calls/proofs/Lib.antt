@@ -1,3 +1,4 @@
 pub mod Acts
 pub mod Undivided
 pub mod Every
+pub mod Same

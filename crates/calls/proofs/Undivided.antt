@@ -25,7 +25,7 @@ use Rattle.load.specs.declared.Ended.TheVariants as e
 use Rattle.load.specs.Loader.{Load, load, ready, piece_answer, piece_after, end_answer, end_after}
 use Rattle.answers.specs.Answers.{write_shown, revoke_shown, piece_shown, end_shown, output_shown, lookup_shown, search_shown}
 use Rattle.answers.specs.declared.Length.{Length}
-use Rattle.lists.specs.Called.{first, third, fourth, fifth, sixth, seventh, lent, loading, loaded}
+use Rattle.lists.specs.Called.{first, second, third, fourth, fifth, sixth, seventh, lent, lent_mut, loading, loaded}
 use Rattle.lists.specs.Reader as r
 use Rattle.lists.specs.Reader.{Reader, start_on, take_piece, Ask, Call, Reply, done_reply, count_reply, Write, write_says, write_on, ask_says, after, after_all, says_all, Event, events, reports}
 use Rattle.lists.proofs.Follows.{Holds, fresh_holds}
@@ -71,10 +71,10 @@ answers-read u (a_peer k) = ap r.peer k.ensures ∙ peer-says (lent k.args) u (f
 answers-read u (a_check k) = ap written_reply k.ensures ∙ shown-written (label_answer (lent k.args) (fourth k.args)) ∙ check_says (lent k.args) u (fourth k.args)
 
 pub writes-read : {st st' : Store} {w : Write} {reply : Reply} → undamaged_of st ≡ true → Writes st w reply st' → reply ≡ write_says (table_of st) w
-writes-read u (a_change k) = ap written_reply k.ensures.0 ∙ shown-written (change_answer (lent k.args) (fourth k.args).now) ∙ change-says (lent k.args) u (fourth k.args).now
-writes-read u (a_revoke k) = ap counted_reply k.ensures.0 ∙ shown-counted (revoke_answer (lent k.args) (fourth k.args).now) ∙ revoke-says (lent k.args) u (fourth k.args).now
-writes-read u (an_onlycap k) = ap written_reply k.ensures.0 ∙ shown-written (onlycap_answer (lent k.args) (fourth k.args).now) ∙ onlycap-says (lent k.args) u (fourth k.args).now
-writes-read u (a_mapping k) = ap written_reply k.ensures.0 ∙ shown-written (map_answer (lent k.args) (fourth k.args).now) ∙ mapping-says (lent k.args) u (fourth k.args).now
+writes-read u (a_change k) = ap written_reply k.ensures.0 ∙ shown-written (change_answer (lent_mut k.args) (fourth k.args).now) ∙ change-says (lent_mut k.args) u (fourth k.args).now
+writes-read u (a_revoke k) = ap counted_reply k.ensures.0 ∙ shown-counted (revoke_answer (store (first k.args).now (second k.args).now (third k.args).now) (fourth k.args).now) ∙ revoke-says (store (first k.args).now (second k.args).now (third k.args).now) u (fourth k.args).now
+writes-read u (an_onlycap k) = ap written_reply k.ensures.0 ∙ shown-written (onlycap_answer (lent_mut k.args) (fourth k.args).now) ∙ onlycap-says (lent_mut k.args) u (fourth k.args).now
+writes-read u (a_mapping k) = ap written_reply k.ensures.0 ∙ shown-written (map_answer (lent_mut k.args) (fourth k.args).now) ∙ mapping-says (lent_mut k.args) u (fourth k.args).now
 
 -- and a write leaves what its definition says, of any state
 pub writes_leave : {st st' : Store} {w : Write} {reply : Reply} → Writes st w reply st' → st' ≡ store_left st w

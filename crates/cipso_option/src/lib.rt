@@ -3,7 +3,7 @@
 
 ghost use Rattle.std.specs.Prelude.{◌≡◌, ◌<◌, ◌≤◌, length};
 ghost use Rattle.output.specs.Output.{put_answer, put_out};
-ghost use Rattle.store.specs.Layout.{lent};
+ghost use Rattle.store.specs.Layout.{store};
 ghost use Rattle.set_bytes.specs.SetBytes.{own_bytes};
 ghost use Rattle.search.specs.Bytes.{same_bytes};
 ghost use Rattle.cipso_option.specs.Option.{trimmed, option_of, option_answer, option_out, is_option, doi_in, our_doi, peer_given, peer_shown, label as sender, not_read, own_peer};
@@ -75,8 +75,8 @@ pub fn write_option(
     label: &[u8],
     out: &mut [u8],
 ) -> Output
-    ensures value { result ≡ option_answer (lent labels entries words) label.now out.old }
-    ensures out_after { out.new ≡ option_out (lent labels entries words) label.now out.old }
+    ensures value { result ≡ option_answer (store labels.now entries.now words.now) label.now out.old }
+    ensures out_after { out.new ≡ option_out (store labels.now entries.now words.now) label.now out.old }
 {
     let mapped = lookups::by_label(labels, entries, words, label);
     match mapped {
@@ -180,7 +180,7 @@ fn mapped_peer(
     level: u8,
     set: CategorySet,
 ) -> PeerLabel
-    ensures { result ≡ peer_shown (mapped_given (lent labels entries words) level set) }
+    ensures { result ≡ peer_shown (mapped_given (store labels.now entries.now words.now) level set) }
 {
     let found = lookups::by_level(labels, entries, words, level as u64, set);
     match found {
@@ -192,7 +192,7 @@ fn mapped_peer(
 
 // The label that an option says.
 pub fn read_option(labels: &[u8], entries: &[u8], words: &[u64], option: &[u8]) -> PeerLabel
-    ensures { result ≡ peer_shown (peer_given (lent labels entries words) option.now) }
+    ensures { result ≡ peer_shown (peer_given (store labels.now entries.now words.now) option.now) }
 {
     let said = said_by(option);
     match said {

@@ -5,3 +5,4 @@ pub mod Numbers
 pub mod Examples
 pub mod EachRule
 pub mod ReportCounts
+pub mod Same

@@ -6,17 +6,17 @@ use Prim.Native.Nat.{ℕ, ◌*◌, ◌≤◌}
 use native.Mathlib.Omega.{arith}
 use lib.Dec.{leb}
 use lib.ListN.{length, replicate, length-replicate}
-use denote.Ref.{Bor}
+use Rattle.std.specs.Borrow.{Bor, MutBor}
 use borrow.Author.Tests.{le-ltb}
 use Rattle.search.specs.Bytes.{ascii, same_bytes, written}
 use Rattle.alphabet.specs.Alphabet.{line_limit, fields}
 use Rattle.store.specs.Table.{Table, fresh}
 use Rattle.access.specs.Access.{answer}
-use Rattle.store.specs.Layout.{Store, Sizes}
+use Rattle.store.specs.Layout.{Store, store, Sizes}
 use Rattle.store.specs.Judged.{fresh_store}
 use Rattle.store.proofs.Judged.{fresh-entries}
 use Rattle.load.specs.Loader.{ready}
-use Rattle.lists.specs.Called.{first, second, third, fourth, seventh, lent, left}
+use Rattle.lists.specs.Called.{first, second, third, fourth, seventh, left}
 use Rattle.lists.specs.Reader.{start_on}
 use Rattle.replies.specs.Replies.{line_room}
 use Rattle.program.specs.declared.Session.{Session}
@@ -47,8 +47,8 @@ writes :
     InPieces (c.begun k) line k.result pieces said →
     said ≡ output (joined pieces)
 writes k line pieces said sizes full run =
-    let fresh-state : state (c.begun k) line k.result ≡ state (fresh_store (lent k.args)) line fresh_session = ap (λ (x : Store). state x line k.result) k.ensures.1 ∙ ap (λ (x : Session). state (fresh_store (lent k.args)) line x) k.ensures.0 in
-    follows (loads (start_on fresh)) (subst (λ (x : State). Stands x (loads (start_on fresh))) (sym fresh-state) (begun (lent k.args) line sizes full)) run
+    let fresh-state : state (c.begun k) line k.result ≡ state (fresh_store (store (first k.args).now (second k.args).now (third k.args).now)) line fresh_session = ap (λ (x : Store). state x line k.result) k.ensures.1 ∙ ap (λ (x : Session). state (fresh_store (store (first k.args).now (second k.args).now (third k.args).now)) line x) k.ensures.0 in
+    follows (loads (start_on fresh)) (subst (λ (x : State). Stands x (loads (start_on fresh))) (sym fresh-state) (begun (store (first k.args).now (second k.args).now (third k.args).now) line sizes full)) run
     ∙ plain-output (joined pieces)
 
 -- ---- a run for every input: calls within the contracts, from any state
@@ -56,11 +56,14 @@ writes k line pieces said sizes full run =
 abbrev lends : List ℕ → Bor (List ℕ)
 lends x = record { ref_ptr = (0, 0); now = x }
 
+abbrev lends_mut : List ℕ → MutBor (List ℕ)
+lends_mut x = record { ref_ptr = (0, 0); ghost_name = 0; now = x }
+
 abbrev begin_call : (st : Store) → CalledBegin
 begin_call st =
     record {
       lifetimes = ([], ([], ([], tt)));
-      args = (lends st.labels, (lends st.entries, (lends st.words, tt)));
+      args = (lends_mut st.labels, (lends st.entries, (lends_mut st.words, tt)));
       asked = tt;
       result = fresh_session;
       last = ((fresh_store st).labels, (tt, ((fresh_store st).words, tt)));
@@ -80,7 +83,7 @@ feed_call st line x input out =
     let n = leaves (line_room * length input) s (take_input s input) out in
     record {
       lifetimes = ([], ([], ([], ([], ([], ([], tt))))));
-      args = (lends st.labels, (lends st.entries, (lends st.words, (lends line, (lends out, (x, (lends input, tt)))))));
+      args = (lends_mut st.labels, (lends_mut st.entries, (lends_mut st.words, (lends_mut line, (lends_mut out, (x, (lends input, tt)))))));
       asked = tt;
       result = turn_of (leb (line_room * length input) (length out)) s (take_input s input) (say_input s input);
       last = (n.load.store.labels, (n.load.store.entries, (n.load.store.words, (n.load.line, (puts (line_room * length input) s (say_input s input) out, (tt, (tt, tt)))))));
@@ -93,7 +96,7 @@ finish_call st line x out =
     let n = leaves line_room s (take_last s) out in
     record {
       lifetimes = ([], ([], ([], ([], ([], tt)))));
-      args = (lends st.labels, (lends st.entries, (lends st.words, (lends line, (lends out, (x, tt))))));
+      args = (lends_mut st.labels, (lends_mut st.entries, (lends_mut st.words, (lends_mut line, (lends_mut out, (x, tt))))));
       asked = tt;
       result = turn_of (leb line_room (length out)) s (take_last s) (say_last s);
       last = (n.load.store.labels, (n.load.store.entries, (n.load.store.words, (n.load.line, (puts line_room s (say_last s) out, (tt, tt))))));
@@ -117,7 +120,7 @@ runs st line x (input ∷ pieces) =
 
 some_run :
     (st : Store) (line : List ℕ) (pieces : List (List ℕ)) →
-    (k : CalledBegin) × (lent k.args ≡ st) × (said : List ℕ) × InPieces (c.begun k) line k.result pieces said
+    (k : CalledBegin) × (store (first k.args).now (second k.args).now (third k.args).now ≡ st) × (said : List ℕ) × InPieces (c.begun k) line k.result pieces said
 some_run st line pieces =
     let rest = runs (c.begun (begin_call st)) line fresh_session pieces in
     (begin_call st, refl, rest.0, rest.1)

@@ -1,3 +1,4 @@
+pub mod ContractsRead
 pub mod Cases
 pub mod Exported
 pub mod Program

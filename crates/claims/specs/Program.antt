@@ -1,34 +1,29 @@
 -- What the program writes. Its main hands the input, cut into pieces as the reads give them, to `begin`, `feed` and `finish` of the crate program,
 -- and writes the bytes that each call puts at the front of its output. Nothing here says what a function does: that comes from each function's own
--- `Reads`, which Rattle makes of its `requires` and `ensures`. Assumes nothing.
+-- clauses, by specs/ContractsRead. Assumes nothing.
 use Rattle.std.specs.Prelude.{ℕ, ◌*◌, ◌≤◌, ◌≡◌, List, [], ◌∷◌, ◌++◌, length, take, true, false}
 use Rattle.search.specs.Bytes.{ascii}
 use Rattle.alphabet.specs.Alphabet.{line_limit, fields}
 use Rattle.store.specs.Layout.{Store, store, Sizes}
-use Rattle.lists.specs.Called.{Called, first, second, third, fourth, fifth, sixth, seventh, lent, left}
+use Rattle.lists.specs.Called.{Called, first, second, third, fourth, fifth, sixth, seventh, lent_mut, left}
 use Rattle.program.specs.declared.Session.{Session}
 use Rattle.store.specs.Table.{Table}
 use Rattle.access.specs.Access.{answer}
 use Rattle.program.specs.Program.{answer_to, output}
 use Rattle.program.specs.Turns.{went_session, went_count}
-use Rattle.program.proofs.begin.Kinds as begin-kinds
-use Rattle.program.proofs.begin.Reads as begin-reads
-use Rattle.program.proofs.feed.Kinds as feed-kinds
-use Rattle.program.proofs.feed.Reads as feed-reads
-use Rattle.program.proofs.finish.Kinds as finish-kinds
-use Rattle.program.proofs.finish.Reads as finish-reads
 use Rattle.replies.specs.Replies.{line_room}
+use Rattle.claims.specs.ContractsRead as contracts
 
 -- ---- the three calls, as their caller knows them
 
 abbrev pub CalledBegin : Type 0
-CalledBegin = Called begin-kinds.ps begin-kinds.r begin-reads.Asked begin-reads.Learnt
+CalledBegin = Called contracts.begin
 
 abbrev pub CalledFeed : Type 0
-CalledFeed = Called feed-kinds.ps feed-kinds.r feed-reads.Asked feed-reads.Learnt
+CalledFeed = Called contracts.feed
 
 abbrev pub CalledFinish : Type 0
-CalledFinish = Called finish-kinds.ps finish-kinds.r finish-reads.Asked finish-reads.Learnt
+CalledFinish = Called contracts.finish
 
 -- the tables that `begin` leaves; the entries are lent by `&`
 abbrev pub begun : CalledBegin → Store
@@ -39,12 +34,12 @@ begun k = store (first k.last) (second k.args).now (third k.last)
 
 pub data InPieces : Store → List ℕ → Session → List (List ℕ) → List ℕ → Type 0 where
   an_end : (k : CalledFinish) → line_room ≤ length (fifth k.args).now →
-      InPieces (lent k.args) (fourth k.args).now (sixth k.args) [] (take (went_count k.result) (fifth k.last))
+      InPieces (lent_mut k.args) (fourth k.args).now (sixth k.args) [] (take (went_count k.result) (fifth k.last))
   a_piece :
       (k : CalledFeed) {pieces : List (List ℕ)} {said : List ℕ} →
       line_room * length (seventh k.args).now ≤ length (fifth k.args).now →
       InPieces (left k.last) (fourth k.last) (went_session (sixth k.args) k.result) pieces said →
-      InPieces (lent k.args) (fourth k.args).now (sixth k.args) ((seventh k.args).now ∷ pieces)
+      InPieces (lent_mut k.args) (fourth k.args).now (sixth k.args) ((seventh k.args).now ∷ pieces)
       (take (went_count k.result) (fifth k.last) ++ said)
 
 -- the pieces as one input
@@ -65,7 +60,7 @@ pub record ProgramOutput : Type 0 where
   -- and from every memory every list of pieces has such calls, so that this does not speak of nothing
   pub some_run :
       (st : Store) (line : List ℕ) (pieces : List (List ℕ)) →
-      (k : CalledBegin) × (lent k.args ≡ st) × (said : List ℕ) × InPieces (begun k) line k.result pieces said
+      (k : CalledBegin) × (store (first k.args).now (second k.args).now (third k.args).now ≡ st) × (said : List ℕ) × InPieces (begun k) line k.result pieces said
   -- a question line of three fields asks as it stands; with a fourth, `o`, the asker has the capability
   pub asks :
       (t : Table) (line s o request : List ℕ) →

@@ -46,11 +46,11 @@ pub fn tables_follow()
 // And every list can be made from every state, so that none of this speaks of nothing.
 pub fn demand_3()
     ensures plain_readers { (s s' : Load) (cs : List Call) (rs : List Reply) → Fresh s → Runs s cs rs s' → PlainReaders s cs rs s' }
-    ensures store_value { (s z s' z' : Load) (cs ds : List Call) (rs qs : List Reply) → Fresh s → Fresh z → table_of s.store ≡ table_of z.store →
+    ensures cuts_do_not_matter { (s z s' z' : Load) (cs ds : List Call) (rs qs : List Reply) → Fresh s → Fresh z → table_of s.store ≡ table_of z.store →
         events cs ≡ events ds → Runs s cs rs s' → Runs z ds qs z' → (table_of s'.store ≡ table_of z'.store) × (reports rs ≡ reports qs) }
-    ensures s_value { (s s' : Load) (cs : List Call) (rs : List Reply) → undamaged_of s.store ≡ false → Runs s cs rs s' → (s' ≡ s) ×
+    ensures damaged_is_refused { (s s' : Load) (cs : List Call) (rs : List Reply) → undamaged_of s.store ≡ false → Runs s cs rs s' → (s' ≡ s) ×
         (rs ≡ map refusal_of cs) }
-    ensures runs { (s : Load) (cs : List Call) → (rs : List Reply) × (s' : Load) × Runs s cs rs s' }
+    ensures every_list_runs { (s : Load) (cs : List Call) → (rs : List Reply) × (s' : Load) × Runs s cs rs s' }
 {}
 
 // What the program writes: for every cutting of its input into pieces, the report and the answers that 01 has written for the whole.
@@ -74,9 +74,9 @@ pub fn bytes_and_letters()
 
 // The cases P1 to P12, further ones, and those of a new object.
 pub fn either_side_of_a_limit()
-    ensures cases_value { all right cases ≡ true }
-    ensures further_cases_value { all right further_cases ≡ true }
-    ensures new_object_cases_value { all right new_object_cases ≡ true }
+    ensures cases_right { all right cases ≡ true }
+    ensures further_cases_right { all right further_cases ≡ true }
+    ensures new_object_cases_right { all right new_object_cases ≡ true }
 {}
 
 // 01's numbers, as they stand there: the refusals, the limits, and what a host gets for each case of an answer.

@@ -6,7 +6,7 @@ ghost use Rattle.search.specs.Search.{all, entries as listed};
 ghost use Rattle.modes.specs.Modes.{known_modes};
 ghost use Rattle.numbers.specs.Categories.{known_third};
 ghost use Rattle.store.specs.Table.{sound_rule, sound_table, rule_limit, mapping_limit, onlycap_limit};
-ghost use Rattle.store.specs.Layout.{store, lent, modes_from, onlycap_from, thirds_from, rule_at, table_of, undamaged_of};
+ghost use Rattle.store.specs.Layout.{store, modes_from, onlycap_from, thirds_from, rule_at, table_of, undamaged_of};
 ghost use Rattle.store.specs.Within.{Counts};
 ghost use Rattle.damage.specs.Undamaged.{WhatUndamagedIs};
 ghost use Rattle.damage.specs.Within.{Bounded};
@@ -125,7 +125,7 @@ pub fn what_undamaged_is()
 
 // Whether the lent state is undamaged: refusal 0 otherwise.
 pub fn undamaged(labels: &[u8], entries: &[u8], words: &[u64]) -> bool
-    ensures { result ≡ undamaged_of (lent labels entries words) }
+    ensures { result ≡ undamaged_of (store labels.now entries.now words.now) }
 {
     if labels.len() != store::LABELS_SIZE {
         return false;

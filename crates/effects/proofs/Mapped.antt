@@ -6,10 +6,10 @@ use mathlib.Core.List.{List, [], ◌∷◌}
 use Prim.Native.Nat.{ℕ, suc, ◌<◌, ◌≤◌}
 use native.Mathlib.Numerals.{add-one}
 use native.Mathlib.Omega.{arith}
-use lib.Dec.{eqb, ltb}
+use lib.Dec.{eqb}
 use lib.ListN.{length, get_or}
 use borrow.Author.Tests.{eqb-true, eqb-false, eq-eqb, ne_eqb, ltb-true}
-use Rattle.search.specs.Search.{first, all, put, place_of}
+use Rattle.search.specs.Search.{first, put, place_of}
 use Rattle.search.specs.Within.{count_after}
 use Rattle.search.specs.Bytes.{same_bytes}
 use Rattle.search.specs.declared.Found.{Found}

@@ -9,7 +9,7 @@ use native.Mathlib.Omega.{arith}
 use lib.Dec.{eqb, ltb}
 use lib.ListN.{length, get_or}
 use borrow.Author.Tests.{eqb-true, eqb-false}
-use Rattle.search.specs.Search.{first, put, place_of}
+use Rattle.search.specs.Search.{put, place_of}
 use Rattle.search.specs.Within.{count_after}
 use Rattle.search.specs.Bytes.{same_bytes}
 use Rattle.search.specs.declared.Found.{Found}

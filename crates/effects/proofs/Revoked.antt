@@ -22,7 +22,7 @@ use Rattle.store.specs.Layout.{Store, table_of, undamaged_of}
 use Rattle.store.specs.Judged.{Judged, is_skipped, is_refused, is_accepted, on_state}
 use Rattle.revoke.specs.declared.Revoked.TheVariants.{Count}
 use Rattle.revoke.specs.Revoke.{has_subject, how_many, revoked_rule, without_modes, subject_count, revoke_write, count_of, revoke_count, revoke_answer}
-use Rattle.access.specs.Access.{effective, answer}
+use Rattle.access.specs.Access.{effective}
 use Rattle.new_object.proofs.WhichLabel.{goes_by-modes, pair_alone}
 use Rattle.grown.specs.Sane.{LabelsOnce}
 use Rattle.grown.specs.Pairs.{SoundTable}

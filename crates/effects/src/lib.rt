@@ -31,8 +31,8 @@ pub fn accepted_revoke_clears_its_subject()
 // Its answer is how many rules have that subject: of every state by the label's number, and by the label's bytes where
 // every label is well formed and stored once.
 pub fn revoke_counts_its_rules()
-    ensures counts_rules { (st : Store) (l : List ℕ) (count : ℕ) → revoke_answer st l ≡ Count count → CountsRules (table_of st) l count }
-    ensures count_value { (st : Store) (l : List ℕ) (count : ℕ) → LabelsOnce (table_of st) → revoke_answer st l ≡ Count count →
+    ensures counts_by_number { (st : Store) (l : List ℕ) (count : ℕ) → revoke_answer st l ≡ Count count → CountsRules (table_of st) l count }
+    ensures counts_by_bytes { (st : Store) (l : List ℕ) (count : ℕ) → LabelsOnce (table_of st) → revoke_answer st l ≡ Count count →
         count ≡ length (rules_of (table_of st) l) }
 {}
 
@@ -54,8 +54,8 @@ pub fn what_a_mapping_write_says()
 
 // A line of rule text and a change let every label and every rule keep its place, and change no rule but the pair's; what is new goes last.
 pub fn labels_and_pairs_keep_their_places()
-    ensures keeps_places { (t t' : Table) (s o : List ℕ) (m : ℕ) → judged t (rule s o m) ≡ is_accepted t' → KeepsPlaces t t' s o }
-    ensures keeps_places_2 { (t t' : Table) (s o : List ℕ) (allow deny : ℕ) → judged t (change s o allow deny) ≡ is_accepted t' → KeepsPlaces t t' s o }
+    ensures by_a_line { (t t' : Table) (s o : List ℕ) (m : ℕ) → judged t (rule s o m) ≡ is_accepted t' → KeepsPlaces t t' s o }
+    ensures by_a_change { (t t' : Table) (s o : List ℕ) (allow deny : ℕ) → judged t (change s o allow deny) ≡ is_accepted t' → KeepsPlaces t t' s o }
 {}
 
 // Override turns a denial into a grant by override, and nothing else; it counts for an asker who has it where the list is empty or holds the subject.

@@ -33,7 +33,7 @@ use Rattle.store.specs.Pairs.{PairModes, modes_found, modes_between, modes_or_no
 use Rattle.store.specs.Layout.{Store, table_of, full_sizes, undamaged_of, label_at, rule_at, mapping_at}
 use Rattle.store.specs.Judged.{Judged, is_skipped, is_refused, is_accepted, done_of, on_state, fresh_write, fresh_answer}
 use Rattle.store.proofs.Laws.{undamaged-is}
-use Rattle.lines.specs.Lines.{skipped, refused, rule, change, rule_with, rule_by, rule_fields, rule_of, change_with, change_by, change_fields, change_of, bring_up_in}
+use Rattle.lines.specs.Lines.{refused, rule, change, rule_with, rule_by, rule_fields, rule_of, change_with, change_by, change_fields, change_of, bring_up_in}
 use Rattle.rules.specs.Rules.{pair_labels, pair_rule, with_pair, pair_judged}
 use Rattle.rules.proofs.Pairs.{pair-length}
 use Rattle.writes.specs.Writes.{judged, changed, outcome_of, line_outcome, change_write, change_answer}
@@ -79,7 +79,7 @@ use Rattle.load.specs.declared.Ended.TheVariants as e
 use Rattle.grown.specs.Pairs.{SoundTable, new_labels, has_rule}
 use Rattle.grown.proofs.Pairs.{undamaged-sound, labels-counted}
 use Rattle.faults.proofs.Different.{those-all, entered_many}
-use Rattle.faults.proofs.Records.{refuses, output-by, of_output, not_leb, text-first, record_faults_lem, line_faults_lem}
+use Rattle.faults.proofs.Records.{refuses, output-by, of_output, not_leb, text-first, record-faults, line_faults_lem}
 use Rattle.faults.specs.Faults.{
   Fault,
   ◌when◌,
@@ -1108,6 +1108,6 @@ first_in_order =
       question_line = question-line-refused;
       listing = listing-refused;
       label_by_number = label-refused;
-      record_to_line = record_faults_lem;
+      record_to_line = record-faults;
       line_to_record = line_faults_lem;
     }

@@ -1,6 +1,6 @@
 -- Every other kind of write leaves a sane table sane, one law for each; and so every grown table is sane. Assumes nothing.
 use mathlib.Core.Path.{◌≡◌, refl, sym, ap, ◌∙◌, subst}
-use mathlib.Core.Bool.{Bool, true, false, cond, ◌&&◌}
+use mathlib.Core.Bool.{Bool, true, false, cond}
 use mathlib.Core.List.{List, [], map}
 use mathlib.Core.Logic.{◌⊎◌, inl, inr}
 use Prim.Native.Nat.{ℕ, zero, suc, ◌<◌, ◌≤◌}
@@ -13,7 +13,7 @@ use Rattle.search.specs.Within.{count_after}
 use Rattle.search.specs.Bytes.{same_bytes}
 use Rattle.search.specs.declared.Found.{Found}
 use Rattle.search.specs.declared.Found.TheVariants.{At, Nothing}
-use Rattle.search.proofs.Laws.{and_both, all-at, all-put, first-is, first-place, put-at, put_other, length-put, Same, Distinct, distinct_put, Front, front_same, front-more, front_length, all_map, all_made, distinct_map}
+use Rattle.search.proofs.Laws.{all-at, all-put, first-is, first-place, put-at, put_other, length-put, Same, Distinct, distinct_put, Front, front_same, front-more, front_length, all_map, all_made, distinct_map}
 use Rattle.refusals.specs.Refusals.{too_long, bad_label_at}
 use Rattle.alphabet.specs.Alphabet.{well_formed, fields, bad_byte}
 use Rattle.numbers.specs.Categories.{is_mapping_level, no_categories, known_set, InWords}

@@ -26,8 +26,8 @@ pub fn grown_is_sane()
 
 // The claims on pairs are of every sound table: a grown one, and that of any undamaged state.
 pub fn grown_and_undamaged_are_sound()
-    ensures sound_table { (t : Table) → Grown t → SoundTable t }
-    ensures sound_table_2 { (st : Store) → undamaged_of st ≡ true → SoundTable (table_of st) }
+    ensures grown_is_sound { (t : Table) → Grown t → SoundTable t }
+    ensures undamaged_is_sound { (st : Store) → undamaged_of st ≡ true → SoundTable (table_of st) }
 {}
 
 // Demand 2, first half: without an effective override, the first of the seven rules that applies decides.

@@ -40,6 +40,31 @@ pub record Four (line : List ℕ) (a b : ℕ) (subject : Bool) (c d : ℕ) (obje
   pub first : Three line a b subject c d object e f
   pub field : field_at line f ≡ Part g h
 
+-- the same from what was read, in order
+pub one_of : {line : List ℕ} {a b : ℕ} {subject : Bool} → length line ≤ line_limit → label_field_at line 0 ≡ label_field.Part a b subject → One line a b subject
+one_of short e = record { short = short; field = e }
+
+pub two_of :
+    {line : List ℕ} {a b : ℕ} {subject : Bool} {c d : ℕ} {object : Bool} →
+    One line a b subject →
+    label_field_at line b ≡ label_field.Part c d object →
+    Two line a b subject c d object
+two_of w e = record { first = w; field = e }
+
+pub three_of :
+    {line : List ℕ} {a b : ℕ} {subject : Bool} {c d : ℕ} {object : Bool} {e f : ℕ} →
+    Two line a b subject c d object →
+    field_at line d ≡ Part e f →
+    Three line a b subject c d object e f
+three_of w x = record { first = w; field = x }
+
+pub four_of :
+    {line : List ℕ} {a b : ℕ} {subject : Bool} {c d : ℕ} {object : Bool} {e f g h : ℕ} →
+    Three line a b subject c d object e f →
+    field_at line f ≡ Part g h →
+    Four line a b subject c d object e f g h
+four_of w x = record { first = w; field = x }
+
 -- what the first two tell: where each stands, and whether it is well formed; and each stands inside the line
 module _ {line : List ℕ} {a b : ℕ} {subject : Bool} (w : One line a b subject) where
   first-is : (field_at line 0 ≡ Part a b) × (well_formed (part line a b) ≡ subject)

@@ -43,7 +43,7 @@ pub enum ChangeLine {
 // What a line of rule text says, whatever the table.
 pub fn rule_line(line: &[u8]) -> RuleLine
     ensures value { result ≡ rule_line_at line.now }
-    ensures result_value { rule_said line.now result ≡ rule_of line.now }
+    ensures said { rule_said line.now result ≡ rule_of line.now }
     ensures rule_inside { RuleInside line.now result }
     ensures rule_held { RuleHeld result (bring_up_in line.now) }
 {
@@ -98,7 +98,7 @@ pub fn rule_line(line: &[u8]) -> RuleLine
 // What a change-rule write says, whatever the table.
 pub fn change_line(line: &[u8]) -> ChangeLine
     ensures value { result ≡ change_line_at line.now }
-    ensures result_value { change_said line.now result ≡ change_of line.now }
+    ensures said { change_said line.now result ≡ change_of line.now }
     ensures change_inside { ChangeInside line.now result }
 {
     if alphabet::LINE_LIMIT < line.len() {

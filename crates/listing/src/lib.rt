@@ -2,7 +2,7 @@
 #![tactic(auto)]
 
 ghost use Rattle.std.specs.Prelude.{◌≡◌};
-ghost use Rattle.store.specs.Layout.{lent};
+ghost use Rattle.store.specs.Layout.{store};
 ghost use Rattle.places.specs.Places.{PartFrom};
 ghost use Rattle.listing.specs.Listing.{list_answer, list_out, label_given, label_answer, label_from};
 
@@ -11,8 +11,8 @@ use store::Done;
 
 // Rule number k as text.
 pub fn list_rule(labels: &[u8], entries: &[u8], words: &[u64], k: usize, out: &mut [u8]) -> Output
-    ensures value { result ≡ list_answer (lent labels entries words) k out.old }
-    ensures out_after { out.new ≡ list_out (lent labels entries words) k out.old }
+    ensures value { result ≡ list_answer (store labels.now entries.now words.now) k out.old }
+    ensures out_after { out.new ≡ list_out (store labels.now entries.now words.now) k out.old }
 {
     if !damage::undamaged(labels, entries, words) {
         return Output::Refused(refusals::DAMAGED.number);
@@ -30,7 +30,7 @@ pub fn list_rule(labels: &[u8], entries: &[u8], words: &[u64], k: usize, out: &m
 
 // What `label_by_number` does: done, or its refusal.
 pub fn label_check(labels: &[u8], entries: &[u8], words: &[u64], k: usize) -> Done
-    ensures { result ≡ label_answer (lent labels entries words) k }
+    ensures { result ≡ label_answer (store labels.now entries.now words.now) k }
 {
     if !damage::undamaged(labels, entries, words) {
         return Done::Refused(refusals::DAMAGED);
@@ -49,8 +49,8 @@ pub fn label_by_number<'a, 'b, 'c>(
     words: &'c [u64],
     k: usize,
 ) -> &'a [u8]
-    ensures result_value { result.now ≡ label_given (lent labels entries words) k }
-    ensures part_from { PartFrom result labels.entry (label_from (label_answer (lent labels entries words) k) k) }
+    ensures bytes { result.now ≡ label_given (store labels.now entries.now words.now) k }
+    ensures part_from { PartFrom result labels.entry (label_from (label_answer (store labels.now entries.now words.now) k) k) }
 {
     let answer = label_check(labels, entries, words, k);
     match answer {

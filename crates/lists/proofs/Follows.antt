@@ -3,7 +3,7 @@
 use mathlib.Core.Path.{◌≡◌, refl, sym, ap, ◌∙◌}
 use mathlib.Core.Bool.{Bool, true, false, cond}
 use mathlib.Core.List.{List, [], ◌∷◌, ◌++◌}
-use Prim.Native.Nat.{ℕ, zero, suc, ◌+◌, ◌<◌, ◌≤◌, min}
+use Prim.Native.Nat.{ℕ, ◌+◌, ◌<◌, ◌≤◌, min}
 use native.Mathlib.Numerals.{add-one}
 use native.Mathlib.Omega.{arith}
 use lib.Dec.{ltb, eqb}
@@ -12,7 +12,7 @@ use lib.ListN.{length, take, set, length-set, length-append}
 use lib.Seq.{take_all, take-suc-set, take-append-le}
 use Rattle.refusals.specs.Refusals.{too_long}
 use Rattle.store.specs.Table.{Table}
-use Rattle.store.specs.Layout.{Store, store, table_of, undamaged_of}
+use Rattle.store.specs.Layout.{Store, table_of, undamaged_of}
 use Rattle.lines.specs.Lines.{rule_of, refused, bring_up_in}
 use Rattle.writes.specs.Writes.{judged, outcome_of, line_outcome, line_stored}
 use Rattle.store.specs.Judged.{Judged, is_skipped, is_refused, is_accepted, table_after}

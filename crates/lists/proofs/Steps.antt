@@ -23,7 +23,7 @@ use Rattle.load.specs.declared.Fed.TheVariants as f
 use Rattle.load.specs.declared.Ended.{Ended}
 use Rattle.load.specs.declared.Ended.TheVariants as e
 use Rattle.reports.specs.Report.{fresh_loader}
-use Rattle.load.specs.Loader.{Load, load, ready, step_end, piece_answer, piece_after, end_answer, end_after}
+use Rattle.load.specs.Loader.{Load, load, step_end, piece_answer, piece_after, end_answer, end_after}
 use Rattle.lists.specs.Reader.{Totals, Reader, start_on, take_byte, take_piece, finish, limited_totals, Write, change, revoke, onlycap, mapping, Ask, question, by_label, by_level, list_a_rule, label, label_check, write_option, read_option, new_object, Call, piece, end_call, ask, write, Reply, done, refusal, report, label_is, done_reply, count_reply, write_says, ask_says, write_on, after, says, after_all, says_all, Event, byte, stop, wrote, events, reports}
 use Rattle.load.proofs.Laws.{is-ready}
 use Rattle.lists.proofs.Follows.{SameTotals, Holds, piece_follows, finish_follows, fresh_holds}

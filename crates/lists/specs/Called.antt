@@ -1,22 +1,49 @@
 -- One call of any function, as its caller knows it, and no more: it showed what is asked, and learnt what is ensured, of some arguments, a result and the
--- parameters' last values. Nothing here says what a function does: that comes from each function's own `Reads`, which Rattle makes of its `requires` and
--- `ensures`. Assumes nothing.
-use Rattle.std.specs.Prelude.{ℕ, List}
+-- parameters' last values. Nothing here says what a function does: what is asked and learnt is read off each function's own clauses. Assumes nothing.
+use Rattle.std.specs.Prelude.{ℕ, ◌≡◌, List, []}
+use Rattle.std.specs.Borrow.{Bor, MutBor}
 use contract.Lifetimes.{Lfts}
-use Rattle.std.specs.Borrow.{Bor}
-use denote.Triple.Clauses.{Lasts, at_exit}
-use borrow.Fn.Kinds.{ParamKind, ResultKind, In, Out, Dens, res_t, ended_of}
+use contract.Monad.{fact}
+use denote.Triple.Entry.{Args, Res}
+use denote.Triple.Clauses.{Ended, Lasts, AtExit, at_exit}
+use borrow.Fn.Claims.{AllOf}
+use borrow.Fn.World.{World, Pr, In, Bounds}
+use borrow.Fn.Read.{Read, no_know}
 use Rattle.store.specs.Layout.{Store, store}
 use Rattle.reports.specs.declared.Loader.{Loader}
 use Rattle.load.specs.Loader.{Load, load}
 
-pub record Called {n : ℕ} (ps : List (ParamKind n)) (r : ResultKind n) (Asked : In n ps) (Learnt : Out n ps r) : Type 0 where
-  pub lifetimes : Lfts n
-  pub args : Dens lifetimes ps
-  pub asked : Asked lifetimes args
-  pub result : (res_t r lifetimes).Denot
-  pub last : Lasts (ended_of n ps r) lifetimes args
-  pub ensures : Learnt lifetimes args result (at_exit (ended_of n ps r) lifetimes args last)
+-- ---- a contract, as its own clauses say it: its `requires` and its `ensures` at every model of the logic, and a reading of each, which is a list of plain
+-- facts with a proof that whoever shows them has the `requires`, and that whoever has the `ensures` learns them
+
+pub record Contract : Type 3 where
+  pub ended : Ended
+  pub requires : (κs : Lfts ended.signature.lifetimes) → Args ended.signature κs → (w : World) → Pr w
+  pub ensures : (κs : Lfts ended.signature.lifetimes) → Args ended.signature κs → Res ended.signature κs → AtExit ended κs → (w : World) → Pr w
+  pub asks : (κs : Lfts ended.signature.lifetimes) (a : Args ended.signature κs) → Read (In ended.signature κs a) no_know (requires κs a)
+  pub tells :
+      (κs : Lfts ended.signature.lifetimes) (a : Args ended.signature κs) (r : Res ended.signature κs) (l : AtExit ended κs) →
+      Read (λ w. fact w.𝓤 (Bounds ended.signature κs)) no_know (ensures κs a r l)
+  -- and the facts are all there is: neither clause holds anything else
+  pub all_asked : (κs : Lfts ended.signature.lifetimes) (a : Args ended.signature κs) (w : World) → (asks κs a).held w ≡ []
+  pub all_told :
+      (κs : Lfts ended.signature.lifetimes) (a : Args ended.signature κs) (r : Res ended.signature κs) (l : AtExit ended κs) (w : World) →
+      (tells κs a r l).held w ≡ []
+
+-- what its caller has to show, and what its caller learns
+abbrev pub Asked : (c : Contract) (κs : Lfts c.ended.signature.lifetimes) → Args c.ended.signature κs → Type 0
+Asked c κs a = AllOf (c.asks κs a).owes
+
+abbrev pub Learnt : (c : Contract) (κs : Lfts c.ended.signature.lifetimes) → Args c.ended.signature κs → Res c.ended.signature κs → AtExit c.ended κs → Type 0
+Learnt c κs a r l = AllOf (c.tells κs a r l).tells
+
+pub record Called (c : Contract) : Type 0 where
+  pub lifetimes : Lfts c.ended.signature.lifetimes
+  pub args : Args c.ended.signature lifetimes
+  pub asked : Asked c lifetimes args
+  pub result : Res c.ended.signature lifetimes
+  pub last : Lasts c.ended lifetimes args
+  pub ensures : Learnt c lifetimes args result (at_exit c.ended lifetimes args last)
 
 -- ---- the arguments and the last values by their places
 
@@ -41,16 +68,20 @@ sixth a = a.1.1.1.1.1.0
 abbrev pub seventh : {A B C D E F G H : Type 0} → A × (B × (C × (D × (E × (F × (G × H)))))) → G
 seventh a = a.1.1.1.1.1.1.0
 
--- the tables, which are the first three arguments, and after the call where all three are lent by `&mut`
+-- the tables, which are the first three arguments, where all three are lent by `&`
 abbrev pub lent : {A : Type 0} → Bor (List ℕ) × (Bor (List ℕ) × (Bor (List ℕ) × A)) → Store
 lent a = store a.0.now a.1.0.now a.1.1.0.now
+
+-- and where all three are lent by `&mut`: as the call begins, and after it
+abbrev pub lent_mut : {A : Type 0} → MutBor (List ℕ) × (MutBor (List ℕ) × (MutBor (List ℕ) × A)) → Store
+lent_mut a = store a.0.now a.1.0.now a.1.1.0.now
 
 abbrev pub left : {A : Type 0} → List ℕ × (List ℕ × (List ℕ × A)) → Store
 left l = store l.0 l.1.0 l.1.1.0
 
 -- and with the line and the loader of a text, which are the next two
-abbrev pub loading : {A : Type 0} → Bor (List ℕ) × (Bor (List ℕ) × (Bor (List ℕ) × (Bor (List ℕ) × (Loader × A)))) → Load
-loading a = load (lent a) a.1.1.1.0.now a.1.1.1.1.0
+abbrev pub loading : {A : Type 0} → MutBor (List ℕ) × (MutBor (List ℕ) × (MutBor (List ℕ) × (MutBor (List ℕ) × (Loader × A)))) → Load
+loading a = load (lent_mut a) a.1.1.1.0.now a.1.1.1.1.0
 
 abbrev pub loaded : {A : Type 0} → List ℕ × (List ℕ × (List ℕ × (List ℕ × A))) → Loader → Load
 loaded l loader = load (left l) l.1.1.1.0 loader

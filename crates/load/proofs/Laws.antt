@@ -1,7 +1,7 @@
 -- Laws of the loader's exact step. Assumes nothing.
 use mathlib.Core.Path.{◌≡◌, refl, sym, ap, ◌∙◌}
 use mathlib.Core.Bool.{Bool, true, false, cond, ◌&&◌}
-use mathlib.Core.List.{List, [], ◌∷◌, ◌++◌, append_assoc, foldl, foldl-append}
+use mathlib.Core.List.{List, [], ◌∷◌, ◌++◌, append_assoc, foldl-append}
 use Prim.Native.Nat.{ℕ, suc, ◌+◌, ◌-◌, ◌<◌, ◌≤◌}
 use native.Mathlib.Numerals.{add-one}
 use native.Mathlib.Omega.{arith}
@@ -12,7 +12,7 @@ use lib.Seq.{length-take-le, sets, sets-eq}
 use Rattle.search.specs.Bytes.{written}
 use Rattle.search.proofs.Laws.{and_both}
 use Rattle.refusals.specs.Refusals.{too_long}
-use Rattle.store.specs.Layout.{Store, store, undamaged_of}
+use Rattle.store.specs.Layout.{Store, undamaged_of}
 use Rattle.writes.specs.Writes.{line_outcome, line_stored}
 use Rattle.writes.specs.declared.Outcome.{Outcome}
 use Rattle.writes.specs.declared.Outcome.TheVariants as v

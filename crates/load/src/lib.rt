@@ -4,7 +4,7 @@
 
 ghost use Rattle.std.specs.Prelude.{◌≡◌, true, length};
 ghost use Rattle.alphabet.specs.Alphabet.{line_limit};
-ghost use Rattle.store.specs.Layout.{Store, store, lent, left};
+ghost use Rattle.store.specs.Layout.{Store, store};
 ghost use Rattle.text_lines.specs.Within.{NoNewline};
 ghost use Rattle.load.specs.Loader.{end_kept, step_piece, ready, WhatReadyIs, load, piece_after, piece_answer, end_after, end_answer};
 ghost use Rattle.load.specs.Within.{fed_loader, ended_loader};
@@ -38,7 +38,7 @@ fn end_line(
     l: Loader,
 ) -> Loader
     requires { ready (load (store labels.old entries.old words.old) line.now l) ≡ true }
-    ensures { load (left labels entries words) line.now result ≡ end_kept (load (lent labels entries words) line.now l) }
+    ensures { load (store labels.new entries.new words.new) line.now result ≡ end_kept (load (store labels.old entries.old words.old) line.now l) }
 {
     let kept = l.kept;
     if alphabet::LINE_LIMIT < kept {
@@ -78,7 +78,7 @@ pub fn what_ready_is()
 
 // Whether the lent state is undamaged, the loader too: refusal 0 otherwise.
 pub fn is_ready(labels: &[u8], entries: &[u8], words: &[u64], line: &[u8], l: Loader) -> bool
-    ensures { result ≡ ready (load (lent labels entries words) line.now l) }
+    ensures { result ≡ ready (load (store labels.now entries.now words.now) line.now l) }
 {
     if !damage::undamaged(labels, entries, words) {
         return false;
@@ -98,9 +98,9 @@ pub fn piece(
     l: Loader,
     text: &[u8],
 ) -> Fed
-    ensures value { result ≡ piece_answer (load (lent labels entries words) line.old l) text.now }
-    ensures result_after { load (left labels entries words) line.new (fed_loader l result) ≡
-        piece_after (load (lent labels entries words) line.old l) text.now }
+    ensures value { result ≡ piece_answer (load (store labels.old entries.old words.old) line.old l) text.now }
+    ensures loaded { load (store labels.new entries.new words.new) line.new (fed_loader l result) ≡
+        piece_after (load (store labels.old entries.old words.old) line.old l) text.now }
 {
     if !is_ready(labels, entries, words, line, l) {
         return Fed::Refused(refusals::DAMAGED.number);
@@ -126,9 +126,9 @@ pub fn end(
     line: &mut [u8],
     l: Loader,
 ) -> Ended
-    ensures value { result ≡ end_answer (load (lent labels entries words) line.old l) }
-    ensures result_after { load (left labels entries words) line.new (ended_loader l result) ≡
-        end_after (load (lent labels entries words) line.old l) }
+    ensures value { result ≡ end_answer (load (store labels.old entries.old words.old) line.old l) }
+    ensures loaded { load (store labels.new entries.new words.new) line.new (ended_loader l result) ≡
+        end_after (load (store labels.old entries.old words.old) line.old l) }
 {
     if !is_ready(labels, entries, words, line, l) {
         return Ended::Refused(refusals::DAMAGED.number);

@@ -5,7 +5,7 @@ use mathlib.Core.List.{List, []}
 use Prim.Native.Nat.{ℕ, ◌+◌, ◌<◌}
 use native.Mathlib.Omega.{arith}
 use lib.Dec.{eqb}
-use borrow.Author.Tests.{eq-eqb, ne_eqb}
+use borrow.Author.Tests.{eq-eqb, ne_eqb, lt-leb}
 use lib.ListN.{length, get_or}
 use Rattle.search.specs.Search.{first, entries}
 use Rattle.search.specs.Bytes.{same_bytes}
@@ -25,6 +25,11 @@ use Rattle.lookups.specs.declared.Lookup.TheVariants as lookup
 use Rattle.lookups.specs.declared.Label.TheVariants as label
 
 -- ---- the look-ups, by the tests in their order
+
+-- a level over 255 is none that can be sought
+pub over_level : (level : ℕ) (s : CategorySet) → 255 < level → false ≡ sought level s
+unfolding sought
+over_level level s h = rw (lt-leb level 255 h)
 
 -- a mapping that was found is one of those that are stored
 pub mapping-below : (e w : List ℕ) (n m k : ℕ) → first (names n) (entries (mapping_at e w) m) ≡ At k → k < m

@@ -2,7 +2,7 @@
 #![tactic(auto)]
 
 ghost use Rattle.std.specs.Prelude.{◌≡◌, ◌<◌, get_or};
-ghost use Rattle.store.specs.Layout.{lent, table_of, Sizes};
+ghost use Rattle.store.specs.Layout.{store, table_of, Sizes};
 ghost use Rattle.store.specs.Within.{Counts};
 ghost use Rattle.lookups.specs.Lookups.{sought, by_label_of, by_level_of, has_both};
 
@@ -33,7 +33,7 @@ pub enum Label {
 
 // The mapping of a label: its level, its set and how many categories are in it.
 pub fn by_label(labels: &[u8], entries: &[u8], words: &[u64], label: &[u8]) -> Lookup
-    ensures { result ≡ by_label_of (lent labels entries words) label.now }
+    ensures { result ≡ by_label_of (store labels.now entries.now words.now) label.now }
 {
     if !damage::undamaged(labels, entries, words) {
         return Lookup::Refused(refusals::DAMAGED);
@@ -66,7 +66,7 @@ fn has_both(
     set: CategorySet,
 ) -> bool
     requires { Sizes labels.now entries.now words.now × Counts words.now × (n < get_or words.now 0 0) }
-    ensures { result ≡ has_both (table_of (lent labels entries words)) level set n }
+    ensures { result ≡ has_both (table_of (store labels.now entries.now words.now)) level set n }
 {
     let stored = words[store::LABEL_COUNT] as usize;
     let mappings = words[store::MAPPING_COUNT] as usize;
@@ -88,6 +88,7 @@ fn has_both(
 }
 
 // Whether a level and a set can be looked up: the level is 0 to 255, and the set has no bit that is no category.
+#[tactic(auto, using(crate::proofs::Laws::over_level))]
 pub fn can_be_sought(level: u64, set: CategorySet) -> bool
     ensures { result ≡ sought level set }
 {
@@ -99,7 +100,7 @@ pub fn can_be_sought(level: u64, set: CategorySet) -> bool
 
 // The lowest-numbered label whose level and set are these.
 pub fn by_level(labels: &[u8], entries: &[u8], words: &[u64], level: u64, set: CategorySet) -> Label
-    ensures { result ≡ by_level_of (lent labels entries words) level set }
+    ensures { result ≡ by_level_of (store labels.now entries.now words.now) level set }
 {
     if !damage::undamaged(labels, entries, words) {
         return Label::Refused(refusals::DAMAGED.number);

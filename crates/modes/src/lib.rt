@@ -7,7 +7,7 @@ ghost use Rattle.modes.specs.Modes.{bit_of, read_modes, modes_text, LettersAndBi
 ghost use Rattle.modes.specs.Within.{bit_where};
 
 // A letter and its bit.
-#[derive(Drop)]
+#[derive(Clone, Copy)]
 pub struct Letter {
     pub letter: u8,
     pub bit: u8,

@@ -20,7 +20,7 @@ use Rattle.store.specs.Table.{Table, label_in, pair_in}
 use Rattle.store.specs.Pairs.{PairModes, rule_between, modes_found, modes_between}
 use Rattle.store.specs.Layout.{Store, table_of, undamaged_of}
 use Rattle.access.specs.SevenRules.{modes_pass, first_of, seven_rules}
-use Rattle.access.specs.Access.{effective, answered, answer, question_of}
+use Rattle.access.specs.Access.{answered, answer, question_of}
 use Rattle.access.specs.declared.Denial.{Denial}
 use Rattle.access.specs.declared.Denial.TheVariants.{AnyOther}
 use Rattle.access.specs.declared.Verdict.{Verdict}

@@ -3,7 +3,7 @@
 
 ghost use Rattle.std.specs.Prelude.{◌≡◌, Bool, List, ℕ};
 ghost use Rattle.store.specs.Table.{Table};
-ghost use Rattle.store.specs.Layout.{Store, lent, table_of, Sizes};
+ghost use Rattle.store.specs.Layout.{store, Store, table_of, Sizes};
 ghost use Rattle.store.specs.Within.{Counts};
 ghost use Rattle.store.specs.Pairs.{PairModes, has_modes, modes_between};
 ghost use Rattle.new_object.specs.NewObject.{object_label_by, object_label_for, object_label_of};
@@ -54,7 +54,7 @@ fn by_rules(
     is_folder: bool,
 ) -> ObjectLabel
     requires { Sizes labels.now entries.now words.now × Counts words.now }
-    ensures { result ≡ object_label_for creator.now folder.now (modes_between (table_of (lent labels entries words)) creator.now folder.now) folder_transmutes is_folder }
+    ensures { result ≡ object_label_for creator.now folder.now (modes_between (table_of (store labels.now entries.now words.now)) creator.now folder.now) folder_transmutes is_folder }
 {
     match access::by_marks(creator, folder, modes::WRITE) {
         Verdict::Grants(_) => ObjectLabel::CreatorLabel,
@@ -84,7 +84,7 @@ pub fn object_label(
     folder_transmutes: bool,
     is_folder: bool,
 ) -> ObjectLabel
-    ensures { result ≡ object_label_of (lent labels entries words) creator.now folder.now folder_transmutes is_folder }
+    ensures { result ≡ object_label_of (store labels.now entries.now words.now) creator.now folder.now folder_transmutes is_folder }
 {
     if !damage::undamaged(labels, entries, words) {
         return ObjectLabel::Refused(refusals::DAMAGED.number);
@@ -111,5 +111,5 @@ pub fn object_label(
 pub fn which_label_a_new_object_gets()
     ensures which_label { (st : Store) (creator folder : List ℕ) (folder_transmutes is_folder : Bool) → WhichLabel st creator folder folder_transmutes is_folder }
     ensures same_new_objects { (t u : Table) (creator folder : List ℕ) → modes_between t creator folder ≡ modes_between u creator folder → SameNewObjects t u creator folder }
-    ensures by_index { (creator folder : List ℕ) (pair : PairModes) (folder_transmutes is_folder : Bool) → object_label_for creator folder pair folder_transmutes is_folder ≡ by_labels_and_modes creator folder pair folder_transmutes is_folder }
+    ensures by_labels_and_modes { (creator folder : List ℕ) (pair : PairModes) (folder_transmutes is_folder : Bool) → object_label_for creator folder pair folder_transmutes is_folder ≡ by_labels_and_modes creator folder pair folder_transmutes is_folder }
 {}

@@ -16,7 +16,7 @@ pub const OWN_LEVEL: u64 = 250;
 
 // A set of categories: a number of 192 bits, the highest 64 in `first`. Category 1 is the top bit, and the eight lowest are no category.
 #[repr(C)]
-#[derive(Drop)]
+#[derive(Clone, Copy)]
 pub struct CategorySet {
     pub first: u64,
     pub second: u64,

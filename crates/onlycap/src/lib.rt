@@ -7,7 +7,7 @@ ghost use Rattle.search.specs.Search.{first, all, place_of, entries};
 ghost use Rattle.search.specs.Bytes.{same_bytes};
 ghost use Rattle.alphabet.specs.Alphabet.{well_formed, fields, line_limit};
 ghost use Rattle.store.specs.Table.{label_limit};
-ghost use Rattle.store.specs.Layout.{store, label_at, lent, left, labels_size};
+ghost use Rattle.store.specs.Layout.{store, label_at, labels_size};
 ghost use Rattle.store.specs.Within.{entered};
 ghost use Rattle.onlycap.specs.Onlycap.{lone_dash, onlycap_answer, onlycap_store};
 ghost use Rattle.onlycap.specs.Within.{appears_in, joined, count_with, list_set, Fits};
@@ -155,7 +155,7 @@ fn enter(labels: &mut [u8], stored: usize, label: &[u8]) -> Numbered
 // Replaces the list by the labels of a write that was judged.
 fn apply(labels: &mut [u8], entries: &mut [u8], words: &mut [u64], text: &[u8])
     requires { Fits (store labels.old entries.old words.old) text.now }
-    ensures { left labels entries words ≡ list_set (lent labels entries words) (fields text.now) }
+    ensures { store labels.new entries.new words.new ≡ list_set (store labels.old entries.old words.old) (fields text.now) }
 {
     let mut stored = words[store::LABEL_COUNT] as usize;
     let mut listed = 0;
@@ -180,8 +180,8 @@ fn apply(labels: &mut [u8], entries: &mut [u8], words: &mut [u64], text: &[u8])
 
 // Replaces the onlycap list by the labels of a write, or clears it where the write is a lone dash.
 pub fn set_onlycap(labels: &mut [u8], entries: &mut [u8], words: &mut [u64], text: &[u8]) -> Done
-    ensures value { result ≡ onlycap_answer (lent labels entries words) text.now }
-    ensures words_value { left labels entries words ≡ onlycap_store (lent labels entries words) text.now }
+    ensures value { result ≡ onlycap_answer (store labels.old entries.old words.old) text.now }
+    ensures stored { store labels.new entries.new words.new ≡ onlycap_store (store labels.old entries.old words.old) text.now }
 {
     if !damage::undamaged(labels, entries, words) {
         return Done::Refused(refusals::DAMAGED);

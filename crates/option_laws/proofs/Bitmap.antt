@@ -7,7 +7,6 @@ use native.Mathlib.Omega.{arith}
 use lib.Dec.{eqb, ltb}
 use borrow.Author.Tests.{eqb-true, eqb-false, ltb-true, ltb-false, le-leb}
 use lib.ListN.{length, get_or, length-append, get_or-eq_default}
-use Rattle.search.specs.Search.{entries}
 use Rattle.search.proofs.Laws.{no, and_both, entries-length, entries_at}
 use Rattle.numbers.specs.Categories.{is_category, has_category, set_of, known_set, InWords}
 use Rattle.numbers.specs.declared.CategorySet.{CategorySet}

@@ -10,7 +10,7 @@ use lib.ListN.{length, get_or, take, drop, get_or-eq_default}
 use lib.Seq.{take_at}
 use Rattle.search.specs.Bytes.{same_bytes}
 use Rattle.search.specs.declared.Found.TheVariants.{At}
-use Rattle.search.proofs.Laws.{no, and_both, all-at, first-is, same-equal}
+use Rattle.search.proofs.Laws.{and_both, all-at, first-is, same-equal}
 use Rattle.alphabet.specs.Alphabet.{well_formed}
 use Rattle.alphabet.proofs.Laws.{label_form}
 use Rattle.numbers.specs.Categories.{categories, no_categories, known_set, InWords, is_mapping_level}

@@ -10,4 +10,4 @@ label_start k = k * place_size + 1
 
 -- a slice of bytes is the part of another that begins at an index: it points to that byte of the other. (How long it is, its contents say)
 abbrev pub PartFrom : Bor (List ℕ) → Bor (List ℕ) → ℕ → Type 0
-PartFrom part whole start = part.ptr ≡ (whole.ptr.0, whole.ptr.1 + start)
+PartFrom part whole start = part.ref_ptr ≡ (whole.ref_ptr.0, whole.ref_ptr.1 + start)

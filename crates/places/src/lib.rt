@@ -22,7 +22,7 @@ const NO_PLACE: u8 = 255;
 // The very part of the label store that holds label k. Who calls it has tested the store.
 pub fn label_at(labels: &[u8], k: usize) -> &[u8]
     requires { (length labels.now ≡ labels_size) × (k < label_limit) }
-    ensures result_value { result.now ≡ label_at labels.now k }
+    ensures bytes { result.now ≡ label_at labels.now k }
     ensures part_from { PartFrom result labels.entry (label_start k) }
 {
     let at = k * store::LABEL_PLACE;

@@ -33,7 +33,7 @@ use Rattle.replies.specs.Replies.{line_room, answer_line}
 use Rattle.program.specs.Program.{mark, is_mark, asked, answer_to, report_line}
 use Rattle.program.specs.declared.Turn.{Turn}
 use Rattle.program.specs.Turns.{went_count}
-use Rattle.program.specs.Steps.{State, state, fresh_session, asking, reading, at_mark, emptied, unmarked, without_mark, answer_of, answer_text, ended_text, text_after, text_says, byte_by, say_by, take_input_byte, say_input_byte, take_input, say_input, say_last_by, take_last, say_last, Turns}
+use Rattle.program.specs.Steps.{State, state, fresh_session, asking, reading, at_mark, emptied, without_mark, answer_of, answer_text, ended_text, text_after, text_says, byte_by, say_by, take_input_byte, say_input_byte, take_input, say_input, say_last_by, take_last, say_last, Turns}
 use Rattle.program.proofs.Laws.{unmarked_yes, unmarked_no}
 use Rattle.lists.proofs.Lines.{keeping}
 use Rattle.program.proofs.Plain.{Phase, loads, asks, plain_unmarked, phase_to, reports, answers, phase_says, phase_last, phase_on, said_on}

@@ -265,10 +265,6 @@ text-inside none lone (b ∷ bs) = by-test (lone && eqb b newline) (text-inside 
 pub rest-is : (input : List ℕ) (k : ℕ) → take (length input - k) (drop k input) ≡ drop k input
 rest-is input k = take_all (length input - k) (drop k input) (omega (arith, length-drop k input))
 
-pub no_first : (line : List ℕ) → length line ≡ 0 → get_or line 0 0 ≡ 0
-no_first [] h = refl
-no_first (b ∷ bs) h = absurd (omega (arith, h))
-
 -- ---- a question line that is kept
 
 module _ (st : Store) (line : List ℕ) (kept : ℕ) where
@@ -357,19 +353,6 @@ module _ (s : State) {last : Loader} (p : last ≡ unmarked s.load.line s.load.l
 module _ (s : State) {out out₁ : List ℕ} {r : Turn} {st : Store} {line : List ℕ} (turn : Turns line_room s (text_after s.load) (text_says s.load) out r (state st line (went_session (session_of s) r)) out₁) (room : line_room ≤ length out) (small : went_count r ≤ line_room) where
   answered : {b : Bool} → ready s.load ≡ b → r ≡ cond b (t.Went (session_of (text_after s.load)) (length (text_says s.load))) t.Damaged
   answered q = let z = turn.answer in rw (le-leb line_room (length out) room, q) at z
-
-  pub over-damaged : {n : ℕ} {after : State} {said : List ℕ} → ((x : Session) (k : ℕ) → r ≡ t.Went x k → ⊥) → n ≤ length out → Turns n s after said out t.Damaged (state st line (session_of s)) out₁
-  over-damaged {n} {after} {said} not-went k = by-test (ready s.load) refl
-    where
-      by-test : (b : Bool) → ready s.load ≡ b → Turns n s after said out t.Damaged (state st line (session_of s)) out₁
-      by-test true q = absurd (not-went _ _ (answered q))
-      by-test false q =
-          let p = le-leb line_room (length out) room in
-          let x = turn.state in
-          let y = turn.output in
-          let same = ap (λ (w : Session). state st line w) (sym (ap (went_session (session_of s)) (answered q))) ∙ rw (p, q) at x in
-          let kept = (rw (p, q) at y) ∙ written_none out 0 in
-          subst (λ (w : State). Turns n s after said out t.Damaged w out₁) (sym same) (subst (λ (w : List ℕ). Turns n s after said out t.Damaged s w) (sym kept) (damaged out k q))
 
   module _ {x : Session} {n : ℕ} (told : r ≡ t.Went x n) where
     pub undamaged : ready s.load ≡ true
@@ -509,17 +492,6 @@ module _ (s : State) (p : s.loading ≡ true) (input : List ℕ) (end : ℕ) (e 
 -- ---- question lines, and the end of the input
 
 module _ (s : State) (p : s.loading ≡ false) where
-  pub feed_asked :
-      (input : List ℕ) {out out' line : List ℕ} {next : Loader} {n : ℕ} →
-      line_room * length input ≤ length out →
-      ready s.load ≡ true →
-      asking (load s.load.store line next) ≡ take_input (asking s.load) input →
-      Put (line_room * length input) out 0 (say_input (asking s.load) input) out' n →
-      Turns (line_room * length input) s (take_input s input) (say_input s input) out (t.Went (record { loading = false; loader = next }) n) (state s.load.store line (record { loading = false; loader = next })) out'
-  feed_asked input room fine a w =
-      went room fine (a ∙ ap (λ (x : State). take_input x input) (is-asking s p))
-      (put-said (line_room * length input) w (ap (λ (x : State). say_input x input) (is-asking s p)) (omega arith))
-
   pub finish-none : (out : List ℕ) → line_room ≤ length out → ready s.load ≡ true → s.load.loader.kept ≡ 0 → Turns line_room s (take_last s) (say_last s) out (t.Went (session_of s) 0) s out
   finish-none out room fine k =
       went room fine
@@ -529,21 +501,9 @@ module _ (s : State) (p : s.loading ≡ false) where
       silent : say_last_by false s.load ≡ []
       silent = rw (le-ltb 0 s.load.loader.kept (omega (arith, k)))
 
-  pub finish-asked :
-      {out out' : List ℕ} {next : Loader} {n : ℕ} →
-      line_room ≤ length out →
-      ready s.load ≡ true →
-      (s.load.loader.kept ≡ 0 → ⊥) →
-      next ≡ with_kept s.load.loader 0 →
-      Put line_room out 0 (answer_text s.load) out' n →
-      Turns line_room s (take_last s) (say_last s) out (t.Went (record { loading = false; loader = next }) n) (state s.load.store s.load.line (record { loading = false; loader = next })) out'
-  finish-asked room fine k q w =
-      went room fine
-      (ap (λ (l : Loader). asking (load s.load.store s.load.line l)) q ∙ sym (ap (λ (b : Bool). last_by b s.load) p))
-      (put-said line_room w (sym (ap (λ (b : Bool). say_last_by b s.load) p ∙ says)) (omega arith))
-    where
-      says : say_last_by false s.load ≡ answer_text s.load
-      says = rw (lt-ltb 0 s.load.loader.kept (omega (arith, k)))
+-- ---- question lines, read up to index i of the input: what was said so far, and what is still to be said
 
-pub finish-text : {s s' : State} {out out' : List ℕ} {r : Turn} → s.loading ≡ true → Turns line_room s (text_after s.load) (text_says s.load) out r s' out' → Turns line_room s (take_last s) (say_last s) out r s' out'
-finish-text {s} {s'} {out} {out'} {r} p turn = subst (λ (b : Bool). Turns line_room s (last_by b s.load) (say_last_by b s.load) out r s' out') (sym p) turn
+pub record Said (begun here : State) (input : List ℕ) (i : ℕ) (out₀ : List ℕ) (from : ℕ) (out : List ℕ) (at : ℕ) : Type 0 where
+  pub so_far : List ℕ
+  pub put : Put (line_room * i) out₀ from so_far out at
+  pub says : say_input begun input ≡ so_far ++ say_input here (drop i input)

@@ -2,12 +2,10 @@
 -- a question's, once the rule text has ended. The contracts of `begin`, `feed` and `finish` cite these. Assumes nothing.
 use Rattle.std.specs.Prelude.{ℕ, ◌*◌, ◌≤◌, ◌≡◌, Bool, true, false, cond, ◌&&◌, length, take, get_or, ltb, leb, eqb}
 use mathlib.Core.List.{List, [], ◌∷◌, ◌++◌, foldl}
-use Rattle.std.specs.Borrow.{Bor}
-use denote.Triple.Both.{Both}
 use Rattle.search.specs.Bytes.{written}
 use Rattle.refusals.specs.Refusals.{too_long}
 use Rattle.alphabet.specs.Alphabet.{newline, line_limit, fields}
-use Rattle.store.specs.Layout.{Store, lent, left}
+use Rattle.store.specs.Layout.{store, Store}
 use Rattle.access.specs.Access.{question_of}
 use Rattle.access.specs.declared.Answer.{Answer}
 use Rattle.access.specs.declared.Answer.TheVariants.{Refused}
@@ -138,18 +136,17 @@ pub record Turns (most : ℕ) (s after : State) (said out : List ℕ) (r : Turn)
   pub output : out' ≡ written out 0 (cond (leb most (length out) && ready s.load) said [])
   pub front : Front (went_count r) out'
 
--- the state with the slices that a function is lent; and as it leaves them
-abbrev pub enters : {A B C D : Type 0} → Both (Bor (List ℕ)) A → Both (Bor (List ℕ)) B → Both (Bor (List ℕ)) C → Both (Bor (List ℕ)) D → Session → State
-enters l e w line s = state (lent l e w) line.entry.now s
+-- the state with the slices that a function is lent; and that which a turn leaves, of the slices as it leaves them
+abbrev pub enters : List ℕ → List ℕ → List ℕ → List ℕ → Session → State
+enters l e w line s = state (store l e w) line s
 
-abbrev pub leaves : {A B C D : Type 0} → Both A (Bor (List ℕ)) → Both B (Bor (List ℕ)) → Both C (Bor (List ℕ)) → Both D (Bor (List ℕ)) → Session →
-    Turn → State
-leaves l e w line s r = state (left l e w) line.exit.now (went_session s r)
+abbrev pub leaves : List ℕ → List ℕ → List ℕ → List ℕ → Session → Turn → State
+leaves l e w line s r = state (store l e w) line (went_session s r)
 
 -- ---- what the two calls ensure, of the state and the output that they are lent and those that they leave
 
-abbrev pub Feeds : State → List ℕ → Both (Bor (List ℕ)) (Bor (List ℕ)) → Turn → State → Type 0
-Feeds s input out r s' = Turns (line_room * length input) s (take_input s input) (say_input s input) out.entry.now r s' out.exit.now
+abbrev pub Feeds : State → List ℕ → List ℕ → Turn → State → List ℕ → Type 0
+Feeds s input out r s' out' = Turns (line_room * length input) s (take_input s input) (say_input s input) out r s' out'
 
-abbrev pub Finishes : State → Both (Bor (List ℕ)) (Bor (List ℕ)) → Turn → State → Type 0
-Finishes s out r s' = Turns line_room s (take_last s) (say_last s) out.entry.now r s' out.exit.now
+abbrev pub Finishes : State → List ℕ → Turn → State → List ℕ → Type 0
+Finishes s out r s' out' = Turns line_room s (take_last s) (say_last s) out r s' out'

@@ -1,9 +1,7 @@
 -- What only functions within this crate ensure, and their proofs cite; nobody has to believe these. Assumes nothing.
 use Rattle.std.specs.Prelude.{ℕ, suc, ◌*◌, Bool, cond, ◌&&◌, List, [], ◌∷◌, ◌++◌, length, eqb}
-use Rattle.std.specs.Borrow.{Bor}
-use denote.Triple.Both.{Both}
 use Rattle.alphabet.specs.Alphabet.{newline}
-use Rattle.store.specs.Layout.{Store, lent}
+use Rattle.store.specs.Layout.{store, Store}
 use Rattle.reports.specs.declared.Loader.{Loader}
 use Rattle.load.specs.Loader.{load}
 use Rattle.replies.specs.Replies.{line_room, answer_line}
@@ -19,13 +17,13 @@ text_end empty marked [] = 0
 text_end empty marked (b ∷ bs) = cond (marked && eqb b newline) 0 (suc (text_end (eqb b newline) (empty && eqb b mark) bs))
 
 -- what each function ensures, of the state and the output that it is lent and those that it leaves
-abbrev pub TextEnds : State → Both (Bor (List ℕ)) (Bor (List ℕ)) → Turn → State → Type 0
-TextEnds s out r s' = Turns line_room s (text_after s.load) (text_says s.load) out.entry.now r s' out.exit.now
+abbrev pub TextEnds : State → List ℕ → Turn → State → List ℕ → Type 0
+TextEnds s out r s' out' = Turns line_room s (text_after s.load) (text_says s.load) out r s' out'
 
-abbrev pub TurnsOver : State → List ℕ → Both (Bor (List ℕ)) (Bor (List ℕ)) → Turn → State → Type 0
-TurnsOver s input out r s' =
+abbrev pub TurnsOver : State → List ℕ → List ℕ → Turn → State → List ℕ → Type 0
+TurnsOver s input out r s' out' =
     Turns (line_room * suc (length input)) s (take_input (text_after s.load) input) (text_says s.load ++ say_input (text_after s.load) input)
-    out.entry.now r s' out.exit.now
+    out r s' out'
 
 abbrev pub Answers : Store → List ℕ → ℕ → List ℕ → ℕ → List ℕ → ℕ → Type 0
 Answers st line kept out at out' end = Put line_room out at (answer_line (answer_of st line kept)) out' end
@@ -33,9 +31,6 @@ Answers st line kept out at out' end = Put line_room out at (answer_line (answer
 abbrev pub Says : State → List ℕ → List ℕ → ℕ → List ℕ → ℕ → Type 0
 Says s input out at out' end = Put (line_room * length input) out at (say_input s input) out' end
 
--- the state once questions are read: the line alone is lent by `&mut`, as it is when a function begins, and as it leaves it
-abbrev pub asks : {A B C D : Type 0} → Both (Bor (List ℕ)) A → Both (Bor (List ℕ)) B → Both (Bor (List ℕ)) C → Both (Bor (List ℕ)) D → Loader → State
-asks l e w line loader = asking (load (lent l e w) line.entry.now loader)
-
-abbrev pub asks_on : {A B C D : Type 0} → Both (Bor (List ℕ)) A → Both (Bor (List ℕ)) B → Both (Bor (List ℕ)) C → Both D (Bor (List ℕ)) → Loader → State
-asks_on l e w line loader = asking (load (lent l e w) line.exit.now loader)
+-- the state once questions are read, with the slices that a function is lent; which side of a call it is, the clause says
+abbrev pub asks : List ℕ → List ℕ → List ℕ → List ℕ → Loader → State
+asks l e w line loader = asking (load (store l e w) line loader)

@@ -5,7 +5,7 @@
 
 ghost use Rattle.std.specs.Prelude.{◌≡◌, true, suc, ◌+◌, ◌*◌, ◌≤◌, length};
 ghost use Rattle.alphabet.specs.Alphabet.{line_limit, fields};
-ghost use Rattle.store.specs.Layout.{store, lent};
+ghost use Rattle.store.specs.Layout.{store};
 ghost use Rattle.store.specs.Judged.{fresh_store};
 ghost use Rattle.access.specs.Access.{question_of};
 ghost use Rattle.program.specs.Program.{asked};
@@ -51,7 +51,7 @@ struct Step {
 // Begins: a fresh table in the lent memory, and a fresh session.
 pub fn begin(labels: &mut [u8], entries: &[u8], words: &mut [u64]) -> Session
     ensures value { result ≡ steps.fresh_session }
-    ensures words_after { store labels.new entries.now words.new ≡ fresh_store (lent labels entries words) }
+    ensures stored { store labels.new entries.now words.new ≡ fresh_store (store labels.old entries.now words.old) }
 {
     store::fresh_table(labels, entries, words);
     let loading = true;
@@ -107,7 +107,7 @@ fn text_end(input: &[u8], empty: bool, marked: bool) -> usize
 // The answer to a question line that is not too long: refusal 2 before the question's own. It is asked of a state that `feed` or `finish` has tested, so
 // that 0 comes first.
 fn question_line(labels: &[u8], entries: &[u8], words: &[u64], line: &[u8]) -> Answer
-    ensures { result ≡ asked (question_of (lent labels entries words)) (fields line.now) }
+    ensures { result ≡ asked (question_of (store labels.now entries.now words.now)) (fields line.now) }
 {
     let Field::Part { start: a, end: b } = alphabet::next_field(line, 0) else {
         return Answer::Refused(refusals::WRONG_FIELDS);
@@ -157,7 +157,7 @@ fn answer_line(
     at: usize,
 ) -> usize
     requires { (length line.now ≡ line_limit) × (at + line_room ≤ length out.old) }
-    ensures { within.Answers (lent labels entries words) line.now kept out.old at out.new result }
+    ensures { within.Answers (store labels.now entries.now words.now) line.now kept out.old at out.new result }
 {
     if alphabet::LINE_LIMIT < kept {
         return replies::write_answer(out, at, Answer::Refused(refusals::TOO_LONG));
@@ -178,8 +178,8 @@ fn answer_lines(
     input: &[u8],
 ) -> Step
     requires { (length line.old ≡ line_limit) × (from + line_room * length input.now ≤ length out.old) }
-    ensures loader_value { within.asks_on labels entries words line result.loader ≡ steps.take_input (within.asks labels entries words line l) input.now }
-    ensures says { within.Says (within.asks labels entries words line l) input.now out.old from out.new result.at }
+    ensures state { within.asks labels.now entries.now words.now line.new result.loader ≡ steps.take_input (within.asks labels.now entries.now words.now line.old l) input.now }
+    ensures says { within.Says (within.asks labels.now entries.now words.now line.old l) input.now out.old from out.new result.at }
 {
     let mut next = l;
     let mut at = from;
@@ -206,8 +206,8 @@ fn end_text(
     s: Session,
 ) -> Turn
     requires { line_room ≤ length out.old }
-    ensures text_ends { within.TextEnds (steps.enters labels entries words line s) out result (steps.leaves labels entries words line s result) }
-    ensures result_bound { went_count result ≤ line_room }
+    ensures text_ends { within.TextEnds (steps.enters labels.old entries.old words.old line.old s) out.old result (steps.leaves labels.new entries.new words.new line.new s result) out.new }
+    ensures a_line_at_most { went_count result ≤ line_room }
 {
     let last = unmarked(line, s.loader);
     let Ended::Report(report, fresh) = load::end(labels, entries, words, line, last) else {
@@ -234,7 +234,7 @@ fn turn_to_questions(
     input: &[u8],
 ) -> Turn
     requires { line_room * suc (length input.now) ≤ length out.old }
-    ensures { within.TurnsOver (steps.enters labels entries words line s) input.now out result (steps.leaves labels entries words line s result) }
+    ensures { within.TurnsOver (steps.enters labels.old entries.old words.old line.old s) input.now out.old result (steps.leaves labels.new entries.new words.new line.new s result) out.new }
 {
     let Turn::Went(ended, at) = end_text(labels, entries, words, line, out, s) else {
         return Turn::Damaged;
@@ -258,7 +258,7 @@ fn take_text(
     input: &[u8],
 ) -> Turn
     requires { (s.loading ≡ true) × (line_room * length input.now ≤ length out.old) }
-    ensures { steps.Feeds (steps.enters labels entries words line s) input.now out result (steps.leaves labels entries words line s result) }
+    ensures { steps.Feeds (steps.enters labels.old entries.old words.old line.old s) input.now out.old result (steps.leaves labels.new entries.new words.new line.new s result) out.new }
 {
     let l = s.loader;
     let end = text_end(input, l.kept == 0, is_mark(line, l));
@@ -286,7 +286,7 @@ pub fn feed(
     s: Session,
     input: &[u8],
 ) -> Turn
-    ensures { steps.Feeds (steps.enters labels entries words line s) input.now out result (steps.leaves labels entries words line s result) }
+    ensures { steps.Feeds (steps.enters labels.old entries.old words.old line.old s) input.now out.old result (steps.leaves labels.new entries.new words.new line.new s result) out.new }
 {
     if out.len() / LINE_ROOM < input.len() {
         return Turn::NoRoom;
@@ -313,7 +313,7 @@ pub fn finish(
     out: &mut [u8],
     s: Session,
 ) -> Turn
-    ensures { steps.Finishes (steps.enters labels entries words line s) out result (steps.leaves labels entries words line s result) }
+    ensures { steps.Finishes (steps.enters labels.old entries.old words.old line.old s) out.old result (steps.leaves labels.new entries.new words.new line.new s result) out.new }
 {
     if out.len() < LINE_ROOM {
         return Turn::NoRoom;

@@ -2,7 +2,7 @@
 #![tactic(auto)]
 
 // A refusal: its number, and the place of the first bad byte beside 3 (02, Three). Beside any other number the place is 0.
-#[derive(Drop)]
+#[derive(Clone, Copy)]
 pub struct Refusal {
     pub number: u8,
     pub place: usize,

@@ -10,7 +10,7 @@ use writes::Outcome;
 // none. The place is that of the first bad byte where the reason is 3, and 0 for any other reason (02, Three). The last is how many accepted lines held
 // the retired letter b (02, Six).
 #[repr(C)]
-#[derive(Drop)]
+#[derive(Clone, Copy)]
 pub struct Report {
     pub lines: u32,
     pub accepted: u32,
@@ -24,7 +24,7 @@ pub struct Report {
 
 // The loader between two calls: how many bytes of the line under way are kept (601: it has more than 600), and the report so far.
 #[repr(C)]
-#[derive(Drop)]
+#[derive(Clone, Copy)]
 pub struct Loader {
     pub kept: usize,
     pub report: Report,

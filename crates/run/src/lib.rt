@@ -11,7 +11,7 @@ use numbers::CategorySet;
 
 // A record of a run: a label number, a level and a set, of any content.
 #[repr(C)]
-#[derive(Drop)]
+#[derive(Clone, Copy)]
 pub struct Record {
     pub label: u64,
     pub level: u64,

@@ -9,7 +9,7 @@ ghost use Rattle.search.specs.Bytes.{same_bytes, written};
 ghost use Rattle.search.specs.Within.{word_at, words_differ, second_four, third_four};
 
 // What a search answers: the number of the first entry that fits, or nothing.
-#[derive(Drop)]
+#[derive(Clone, Copy)]
 pub enum Found {
     At(usize),
     Nothing,

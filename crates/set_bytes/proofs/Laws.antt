@@ -11,7 +11,7 @@ use lib.Pow.{pow_pos, shr-shr, field, mod-mod-pow}
 use borrow.Author.Tests.{eqb-true, eq-eqb, ne_eqb, ltb-true, ltb-false, leb-true, leb-false, lt-leb}
 use lib.ListN.{length, get_or, get_or-eq_default}
 use lib.Seq.{ext_get_or}
-use Rattle.search.specs.Search.{all, entries}
+use Rattle.search.specs.Search.{entries}
 use Rattle.search.proofs.Laws.{no, all-at, all-by, entries-length, entries_at, entries-same}
 use Rattle.numbers.specs.Categories.{is_category, value, has_category, byte_of, set_of, known_set, InWords}
 use Rattle.numbers.specs.Within.{Category}

@@ -119,6 +119,7 @@ pub fn set_of_own(bytes: &[u8]) -> CategorySet
 
 // Whether each bit of a bitmap that is 1 is a category: not bit 0, and none above 184, which is the top bit of byte 23. Who calls it has made sure that
 // there are at most 30 bytes.
+#[tactic(auto, using(crate::proofs::Laws::first_bit))]
 pub fn only_categories(bitmap: &[u8]) -> bool
     requires { length bitmap.now ≤ 30 }
     ensures { result ≡ only_categories bitmap.now }

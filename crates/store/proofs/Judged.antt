@@ -11,7 +11,6 @@ use Rattle.search.specs.Search.{all}
 use Rattle.search.proofs.Laws.{and_both}
 use Rattle.refusals.specs.Refusals.{damaged}
 use Rattle.refusals.specs.declared.Refusal.{Refusal}
-use Rattle.store.specs.declared.Done.{Done}
 use Rattle.store.specs.declared.Done.TheVariants as d
 use Rattle.store.specs.Table.{Table, fresh, sound_table}
 use Rattle.store.specs.Layout.{Store, store, table_of, undamaged_of, full_sizes, Sizes}

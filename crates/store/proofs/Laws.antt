@@ -5,11 +5,10 @@ use mathlib.Core.List.{List, [], ◌∷◌, ◌++◌, append_assoc}
 use Prim.Native.Nat.{ℕ, suc, ◌+◌, ◌*◌, ◌<◌, ◌≤◌}
 use native.Mathlib.Numerals.{add-one}
 use native.Mathlib.Omega.{arith}
-use lib.Dec.{eqb, ltb, leb}
+use lib.Dec.{ltb}
 use borrow.Author.Tests.{eqb-true, leb-true, eq-eqb, le-leb, ltb-true, lt-ltb}
 use lib.ListN.{length, take, drop, get_or, set, length-drop, take-append-drop}
 use lib.Seq.{take-append-le, take-append_seam, drop-append-le, take-take, drop_at, length-take-le, take-suc-set, drop-set-lt}
-use Rattle.search.specs.Search.{all, entries}
 use Rattle.search.specs.Bytes.{written}
 use Rattle.search.proofs.Laws.{and_both, all_weaker, length-written}
 use Rattle.store.specs.declared.Rule.{Rule}

@@ -6,8 +6,6 @@
 --            their third from 68 to 100
 -- What stands at or past a count means nothing, and no answer depends on it. (A search or a test may read it, in a block of places.)
 use Rattle.std.specs.Prelude.{ℕ, ◌+◌, ◌*◌, Bool, ◌&&◌, ◌≡◌, List, [], ◌∷◌, length, take, drop, get_or, eqb, leb}
-use Rattle.std.specs.Borrow.{Bor}
-use denote.Triple.Both.{Both}
 use Rattle.search.specs.Search.{entries}
 use Rattle.numbers.specs.declared.CategorySet.{CategorySet}
 use Rattle.store.specs.declared.Rule.{Rule}
@@ -22,13 +20,6 @@ pub record Store : Type 0 where
 
 abbrev pub store : List ℕ → List ℕ → List ℕ → Store
 store l e w = record { labels = l; entries = e; words = w }
-
--- the slices that a call is lent, as they are when it begins; and as it leaves them, where all three are lent by `&mut`
-abbrev pub lent : {A B C : Type 0} → Both (Bor (List ℕ)) A → Both (Bor (List ℕ)) B → Both (Bor (List ℕ)) C → Store
-lent l e w = store l.entry.now e.entry.now w.entry.now
-
-abbrev pub left : {A B C : Type 0} → Both A (Bor (List ℕ)) → Both B (Bor (List ℕ)) → Both C (Bor (List ℕ)) → Store
-left l e w = store l.exit.now e.exit.now w.exit.now
 
 -- the full size of each slice and of a label's place, and where each run of entries, and of the sets' words, begins
 abbrev pub labels_size : ℕ

@@ -4,7 +4,7 @@
 
 ghost use Rattle.std.specs.Prelude.{◌≡◌, ◌+◌, ◌<◌, ◌≤◌, length};
 ghost use Rattle.store.specs.Table.{Table, FirstCounts, label_limit, rule_limit, mapping_limit};
-ghost use Rattle.store.specs.Layout.{store, lent, labels_size, modes_from, levels_from, thirds_from, set_at};
+ghost use Rattle.store.specs.Layout.{store, labels_size, modes_from, levels_from, thirds_from, set_at};
 ghost use Rattle.store.specs.Within.{with_label, with_rule, with_numbers, with_words};
 ghost use Rattle.store.specs.Judged.{fresh_answer, fresh_store};
 
@@ -133,8 +133,8 @@ pub fn set_at(words: &[u64], k: usize) -> CategorySet
 // Makes a fresh table of lent memory, whatever it holds: the five labels alone. Refused with 0 where a part has not its full size. What no
 // entry holds stays as it was.
 pub fn fresh_table(labels: &mut [u8], entries: &[u8], words: &mut [u64]) -> Done
-    ensures value { result ≡ fresh_answer (lent labels entries words) }
-    ensures words_after { store labels.new entries.now words.new ≡ fresh_store (lent labels entries words) }
+    ensures value { result ≡ fresh_answer (store labels.old entries.now words.old) }
+    ensures stored { store labels.new entries.now words.new ≡ fresh_store (store labels.old entries.now words.old) }
 {
     if labels.len() != LABELS_SIZE {
         return Done::Refused(refusals::DAMAGED);
