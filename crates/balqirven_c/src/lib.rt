@@ -77,7 +77,7 @@ pub extern "C" fn bq_end(
     balqirven::bq_end(labels, entries, words, line, l)
 }
 
-// Change-rule (01: change).
+// Change-rule.
 #[unsafe(no_mangle)]
 pub extern "C" fn bq_change(
     labels: &mut [u8],
@@ -91,7 +91,7 @@ pub extern "C" fn bq_change(
     balqirven::bq_change(labels, entries, words, text)
 }
 
-// The onlycap list (01: the override list).
+// The onlycap list.
 #[unsafe(no_mangle)]
 pub extern "C" fn bq_onlycap(
     labels: &mut [u8],
@@ -119,7 +119,7 @@ pub extern "C" fn bq_mapping(
     balqirven::bq_mapping(labels, entries, words, text)
 }
 
-// Revoke-subject (01: revoke).
+// Revoke-subject.
 #[unsafe(no_mangle)]
 pub extern "C" fn bq_revoke(
     labels: &[u8],
@@ -177,7 +177,7 @@ pub extern "C" fn bq_lowest_in_run(run: &[Record], level: u64, set: CategorySet)
     balqirven::bq_lowest_in_run(run, level, set)
 }
 
-// The access check (01: a question).
+// The access check.
 #[unsafe(no_mangle)]
 pub extern "C" fn bq_question(
     labels: &[u8],

@@ -15,7 +15,7 @@ use Rattle.writes.specs.Writes.{judged, outcome_of}
 use Rattle.writes.specs.declared.Outcome.{Outcome}
 use Rattle.access.specs.Access.{answer}
 
--- ---- 01's reading of a line: it says all the letters of its access field, b too. (Which bytes 01 allowed there, rwxatbRWXATB and the dash, is `line-bytes`
+-- ---- 01's reading of a line: it says all the letters of its access field, b too. (Which bytes 01 allowed there, rwxatbRWXATB and the dash, is `line_bytes`
 -- of modes/specs/Modes: they are the same now. b has here the bit that the reading of a line gives it; in lent memory it was 1, and such a state is refused
 -- with 0 and not spoken of here)
 

@@ -56,7 +56,7 @@ pub record WhichLabel (st : Store) (creator folder : List ℕ) (folder_transmute
       ↔ ((rule : ℕ)
       × (write_asked st creator folder ≡ answer.Granted rule)
       × ((folder_transmutes ≡ false) ⊎ (rule ≢ 6) ⊎ (RuleHas (table_of st) creator folder (modes_of (ascii "t")) → ⊥)))
-  -- a new object that is no folder never transmutes. (Beside the other answers a host reads no mark: `new-object` of claims::numbers_of_02)
+  -- a new object that is no folder never transmutes. (Beside the other answers a host reads no mark: `new_object` of claims::numbers_of_02)
   pub file_never_transmutes : is_folder ≡ false → object_label_of st creator folder folder_transmutes is_folder ≡ FolderLabel true → ⊥
 
 -- ---- by the two labels and the modes of their pair

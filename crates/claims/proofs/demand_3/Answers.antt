@@ -1,4 +1,4 @@
--- Demand 3: `undivided`, `same-cuts` and `damaged` of calls/proofs/Undivided, and `runs` of calls/proofs/Every.
+-- Demand 3: `undivided`, `same_cuts` and `damaged` of calls/proofs/Undivided, and `runs` of calls/proofs/Every.
 use Rattle.calls.proofs.Undivided.{undivided, same_cuts, damaged}
 use Rattle.calls.proofs.Every.{runs}
 use Rattle.claims.proofs.demand_3.Goals as goal
