@@ -108,7 +108,7 @@ fn same_label(subject: &[u8], object: &[u8], s: Found, o: Found) -> bool
 // Where the rule of two labels that were sought stands. The rule search, `places::find_pair`, is handed two numbers and lent no label; it is not begun
 // where a label has no number. Who calls it has tested the store, and has the numbers from searches of it.
 fn find_rule(entries: &[u8], words: &[u64], subject: Found, object: Found) -> Found
-    requires sizes { (modes_from + rule_limit ≤ length entries.now) × (firsts_from ≤ length words.now) × Counts words.now }
+    requires tables_fit { (modes_from + rule_limit ≤ length entries.now) × (firsts_from ≤ length words.now) × Counts words.now }
     requires numbers_fit { (place_of subject 0 < label_limit) × (place_of object 0 < label_limit) }
     ensures { result ≡ rule_between (table_of (store [] entries.now words.now)) subject object }
 {
@@ -194,7 +194,7 @@ pub fn by_numbers(
     o: Found,
     wanted: u8,
 ) -> Ruling
-    requires sizes { (modes_from + rule_limit ≤ length entries.now) × (firsts_from ≤ length words.now) × Counts words.now }
+    requires tables_fit { (modes_from + rule_limit ≤ length entries.now) × (firsts_from ≤ length words.now) × Counts words.now }
     requires numbers_fit { (place_of s 0 < label_limit) × (place_of o 0 < label_limit) }
     ensures { result ≡ within.ruling_by (table_of (store [] entries.now words.now)) same s o wanted }
 {

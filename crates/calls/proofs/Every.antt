@@ -1,4 +1,4 @@
--- Two things that the list of calls rests on. The compiled routine of each exported function is known to its callers at the very `Asked` and `Learnt` that
+-- Two things that the list of calls rests on. The compiled routine of each function that a list calls is known to its callers at the very `Asked` and `Learnt` that
 -- specs/Calls is made of: what specs/Contracts reads off its clauses is what Rattle reads off them. And from every state every list of calls has a run, so that demand 3 does not speak of nothing. Assumes nothing.
 use Prim.Native.Nat.{ℕ, ◌*◌, ◌+◌, ◌<◌}
 use native.Mathlib.Omega.{arith}

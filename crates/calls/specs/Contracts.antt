@@ -31,8 +31,8 @@ fresh_table = record {
   ensures = λ κs a r l w. (of_fresh_table.clauses w.𝓛 w.𝓜.mem w.𝓡.returns κs a).ensures tt r l;
   asks = λ κs a. all_models _ (λ w. r_top) (λ w. refl) (λ w. refl) (λ w. refl);
   tells = λ κs a r l. all_models _ (λ w. r_join _ _ (r_last _) (r_last _)) (λ w. refl) (λ w. refl) (λ w. refl);
-  all_asked = λ κs a w. refl;
-  all_told = λ κs a r l w. refl;
+  all_asked = λ κs a. (λ w. refl, refl, refl);
+  all_told = λ κs a r l. (λ w. refl, refl, refl);
 }
 
 abbrev pub fresh_loader : Contract
@@ -42,8 +42,8 @@ fresh_loader = record {
   ensures = λ κs a r l w. (of_fresh_loader.clauses w.𝓛 w.𝓜.mem w.𝓡.returns κs a).ensures tt r l;
   asks = λ κs a. all_models _ (λ w. r_top) (λ w. refl) (λ w. refl) (λ w. refl);
   tells = λ κs a r l. all_models _ (λ w. r_last _) (λ w. refl) (λ w. refl) (λ w. refl);
-  all_asked = λ κs a w. refl;
-  all_told = λ κs a r l w. refl;
+  all_asked = λ κs a. (λ w. refl, refl, refl);
+  all_told = λ κs a r l. (λ w. refl, refl, refl);
 }
 
 abbrev pub piece : Contract
@@ -53,8 +53,8 @@ piece = record {
   ensures = λ κs a r l w. (of_piece.clauses w.𝓛 w.𝓜.mem w.𝓡.returns κs a).ensures tt r l;
   asks = λ κs a. all_models _ (λ w. r_top) (λ w. refl) (λ w. refl) (λ w. refl);
   tells = λ κs a r l. all_models _ (λ w. r_join _ _ (r_last _) (r_last _)) (λ w. refl) (λ w. refl) (λ w. refl);
-  all_asked = λ κs a w. refl;
-  all_told = λ κs a r l w. refl;
+  all_asked = λ κs a. (λ w. refl, refl, refl);
+  all_told = λ κs a r l. (λ w. refl, refl, refl);
 }
 
 abbrev pub end : Contract
@@ -64,8 +64,8 @@ end = record {
   ensures = λ κs a r l w. (of_end.clauses w.𝓛 w.𝓜.mem w.𝓡.returns κs a).ensures tt r l;
   asks = λ κs a. all_models _ (λ w. r_top) (λ w. refl) (λ w. refl) (λ w. refl);
   tells = λ κs a r l. all_models _ (λ w. r_join _ _ (r_last _) (r_last _)) (λ w. refl) (λ w. refl) (λ w. refl);
-  all_asked = λ κs a w. refl;
-  all_told = λ κs a r l w. refl;
+  all_asked = λ κs a. (λ w. refl, refl, refl);
+  all_told = λ κs a r l. (λ w. refl, refl, refl);
 }
 
 abbrev pub change : Contract
@@ -75,8 +75,8 @@ change = record {
   ensures = λ κs a r l w. (of_change.clauses w.𝓛 w.𝓜.mem w.𝓡.returns κs a).ensures tt r l;
   asks = λ κs a. all_models _ (λ w. r_top) (λ w. refl) (λ w. refl) (λ w. refl);
   tells = λ κs a r l. all_models _ (λ w. r_join _ _ (r_last _) (r_last _)) (λ w. refl) (λ w. refl) (λ w. refl);
-  all_asked = λ κs a w. refl;
-  all_told = λ κs a r l w. refl;
+  all_asked = λ κs a. (λ w. refl, refl, refl);
+  all_told = λ κs a r l. (λ w. refl, refl, refl);
 }
 
 abbrev pub onlycap : Contract
@@ -86,8 +86,8 @@ onlycap = record {
   ensures = λ κs a r l w. (of_onlycap.clauses w.𝓛 w.𝓜.mem w.𝓡.returns κs a).ensures tt r l;
   asks = λ κs a. all_models _ (λ w. r_top) (λ w. refl) (λ w. refl) (λ w. refl);
   tells = λ κs a r l. all_models _ (λ w. r_join _ _ (r_last _) (r_last _)) (λ w. refl) (λ w. refl) (λ w. refl);
-  all_asked = λ κs a w. refl;
-  all_told = λ κs a r l w. refl;
+  all_asked = λ κs a. (λ w. refl, refl, refl);
+  all_told = λ κs a r l. (λ w. refl, refl, refl);
 }
 
 abbrev pub mapping : Contract
@@ -97,8 +97,8 @@ mapping = record {
   ensures = λ κs a r l w. (of_mapping.clauses w.𝓛 w.𝓜.mem w.𝓡.returns κs a).ensures tt r l;
   asks = λ κs a. all_models _ (λ w. r_top) (λ w. refl) (λ w. refl) (λ w. refl);
   tells = λ κs a r l. all_models _ (λ w. r_join _ _ (r_last _) (r_last _)) (λ w. refl) (λ w. refl) (λ w. refl);
-  all_asked = λ κs a w. refl;
-  all_told = λ κs a r l w. refl;
+  all_asked = λ κs a. (λ w. refl, refl, refl);
+  all_told = λ κs a r l. (λ w. refl, refl, refl);
 }
 
 abbrev pub revoke : Contract
@@ -108,8 +108,8 @@ revoke = record {
   ensures = λ κs a r l w. (of_revoke.clauses w.𝓛 w.𝓜.mem w.𝓡.returns κs a).ensures tt r l;
   asks = λ κs a. all_models _ (λ w. r_top) (λ w. refl) (λ w. refl) (λ w. refl);
   tells = λ κs a r l. all_models _ (λ w. r_join _ _ (r_last _) (r_last _)) (λ w. refl) (λ w. refl) (λ w. refl);
-  all_asked = λ κs a w. refl;
-  all_told = λ κs a r l w. refl;
+  all_asked = λ κs a. (λ w. refl, refl, refl);
+  all_told = λ κs a r l. (λ w. refl, refl, refl);
 }
 
 abbrev pub by_label : Contract
@@ -119,8 +119,8 @@ by_label = record {
   ensures = λ κs a r l w. (of_by_label.clauses w.𝓛 w.𝓜.mem w.𝓡.returns κs a).ensures tt r l;
   asks = λ κs a. all_models _ (λ w. r_top) (λ w. refl) (λ w. refl) (λ w. refl);
   tells = λ κs a r l. all_models _ (λ w. r_last _) (λ w. refl) (λ w. refl) (λ w. refl);
-  all_asked = λ κs a w. refl;
-  all_told = λ κs a r l w. refl;
+  all_asked = λ κs a. (λ w. refl, refl, refl);
+  all_told = λ κs a r l. (λ w. refl, refl, refl);
 }
 
 abbrev pub by_level : Contract
@@ -130,8 +130,8 @@ by_level = record {
   ensures = λ κs a r l w. (of_by_level.clauses w.𝓛 w.𝓜.mem w.𝓡.returns κs a).ensures tt r l;
   asks = λ κs a. all_models _ (λ w. r_top) (λ w. refl) (λ w. refl) (λ w. refl);
   tells = λ κs a r l. all_models _ (λ w. r_last _) (λ w. refl) (λ w. refl) (λ w. refl);
-  all_asked = λ κs a w. refl;
-  all_told = λ κs a r l w. refl;
+  all_asked = λ κs a. (λ w. refl, refl, refl);
+  all_told = λ κs a r l. (λ w. refl, refl, refl);
 }
 
 abbrev pub lowest_of : Contract
@@ -141,8 +141,8 @@ lowest_of = record {
   ensures = λ κs a r l w. (of_lowest_of.clauses w.𝓛 w.𝓜.mem w.𝓡.returns κs a).ensures tt r l;
   asks = λ κs a. all_models _ (λ w. r_top) (λ w. refl) (λ w. refl) (λ w. refl);
   tells = λ κs a r l. all_models _ (λ w. r_last _) (λ w. refl) (λ w. refl) (λ w. refl);
-  all_asked = λ κs a w. refl;
-  all_told = λ κs a r l w. refl;
+  all_asked = λ κs a. (λ w. refl, refl, refl);
+  all_told = λ κs a r l. (λ w. refl, refl, refl);
 }
 
 abbrev pub lowest_in_run : Contract
@@ -152,8 +152,8 @@ lowest_in_run = record {
   ensures = λ κs a r l w. (of_lowest_in_run.clauses w.𝓛 w.𝓜.mem w.𝓡.returns κs a).ensures tt r l;
   asks = λ κs a. all_models _ (λ w. r_top) (λ w. refl) (λ w. refl) (λ w. refl);
   tells = λ κs a r l. all_models _ (λ w. r_last _) (λ w. refl) (λ w. refl) (λ w. refl);
-  all_asked = λ κs a w. refl;
-  all_told = λ κs a r l w. refl;
+  all_asked = λ κs a. (λ w. refl, refl, refl);
+  all_told = λ κs a r l. (λ w. refl, refl, refl);
 }
 
 abbrev pub question : Contract
@@ -163,8 +163,8 @@ question = record {
   ensures = λ κs a r l w. (of_question.clauses w.𝓛 w.𝓜.mem w.𝓡.returns κs a).ensures tt r l;
   asks = λ κs a. all_models _ (λ w. r_top) (λ w. refl) (λ w. refl) (λ w. refl);
   tells = λ κs a r l. all_models _ (λ w. r_last _) (λ w. refl) (λ w. refl) (λ w. refl);
-  all_asked = λ κs a w. refl;
-  all_told = λ κs a r l w. refl;
+  all_asked = λ κs a. (λ w. refl, refl, refl);
+  all_told = λ κs a r l. (λ w. refl, refl, refl);
 }
 
 abbrev pub new_object : Contract
@@ -174,8 +174,8 @@ new_object = record {
   ensures = λ κs a r l w. (of_new_object.clauses w.𝓛 w.𝓜.mem w.𝓡.returns κs a).ensures tt r l;
   asks = λ κs a. all_models _ (λ w. r_top) (λ w. refl) (λ w. refl) (λ w. refl);
   tells = λ κs a r l. all_models _ (λ w. r_last _) (λ w. refl) (λ w. refl) (λ w. refl);
-  all_asked = λ κs a w. refl;
-  all_told = λ κs a r l w. refl;
+  all_asked = λ κs a. (λ w. refl, refl, refl);
+  all_told = λ κs a r l. (λ w. refl, refl, refl);
 }
 
 abbrev pub list_rule : Contract
@@ -185,8 +185,8 @@ list_rule = record {
   ensures = λ κs a r l w. (of_list_rule.clauses w.𝓛 w.𝓜.mem w.𝓡.returns κs a).ensures tt r l;
   asks = λ κs a. all_models _ (λ w. r_top) (λ w. refl) (λ w. refl) (λ w. refl);
   tells = λ κs a r l. all_models _ (λ w. r_join _ _ (r_last _) (r_last _)) (λ w. refl) (λ w. refl) (λ w. refl);
-  all_asked = λ κs a w. refl;
-  all_told = λ κs a r l w. refl;
+  all_asked = λ κs a. (λ w. refl, refl, refl);
+  all_told = λ κs a r l. (λ w. refl, refl, refl);
 }
 
 abbrev pub write_option : Contract
@@ -196,8 +196,8 @@ write_option = record {
   ensures = λ κs a r l w. (of_write_option.clauses w.𝓛 w.𝓜.mem w.𝓡.returns κs a).ensures tt r l;
   asks = λ κs a. all_models _ (λ w. r_top) (λ w. refl) (λ w. refl) (λ w. refl);
   tells = λ κs a r l. all_models _ (λ w. r_join _ _ (r_last _) (r_last _)) (λ w. refl) (λ w. refl) (λ w. refl);
-  all_asked = λ κs a w. refl;
-  all_told = λ κs a r l w. refl;
+  all_asked = λ κs a. (λ w. refl, refl, refl);
+  all_told = λ κs a r l. (λ w. refl, refl, refl);
 }
 
 abbrev pub read_option : Contract
@@ -207,8 +207,8 @@ read_option = record {
   ensures = λ κs a r l w. (of_read_option.clauses w.𝓛 w.𝓜.mem w.𝓡.returns κs a).ensures tt r l;
   asks = λ κs a. all_models _ (λ w. r_top) (λ w. refl) (λ w. refl) (λ w. refl);
   tells = λ κs a r l. all_models _ (λ w. r_last _) (λ w. refl) (λ w. refl) (λ w. refl);
-  all_asked = λ κs a w. refl;
-  all_told = λ κs a r l w. refl;
+  all_asked = λ κs a. (λ w. refl, refl, refl);
+  all_told = λ κs a r l. (λ w. refl, refl, refl);
 }
 
 abbrev pub label_check : Contract
@@ -218,8 +218,8 @@ label_check = record {
   ensures = λ κs a r l w. (of_label_check.clauses w.𝓛 w.𝓜.mem w.𝓡.returns κs a).ensures tt r l;
   asks = λ κs a. all_models _ (λ w. r_top) (λ w. refl) (λ w. refl) (λ w. refl);
   tells = λ κs a r l. all_models _ (λ w. r_last _) (λ w. refl) (λ w. refl) (λ w. refl);
-  all_asked = λ κs a w. refl;
-  all_told = λ κs a r l w. refl;
+  all_asked = λ κs a. (λ w. refl, refl, refl);
+  all_told = λ κs a r l. (λ w. refl, refl, refl);
 }
 
 abbrev pub label : Contract
@@ -229,8 +229,8 @@ label = record {
   ensures = λ κs a r l w. (of_label.clauses w.𝓛 w.𝓜.mem w.𝓡.returns κs a).ensures tt r l;
   asks = λ κs a. all_models _ (λ w. r_top) (λ w. refl) (λ w. refl) (λ w. refl);
   tells = λ κs a r l. all_models _ (λ w. r_join _ _ (r_last _) (r_last _)) (λ w. refl) (λ w. refl) (λ w. refl);
-  all_asked = λ κs a w. refl;
-  all_told = λ κs a r l w. refl;
+  all_asked = λ κs a. (λ w. refl, refl, refl);
+  all_told = λ κs a r l. (λ w. refl, refl, refl);
 }
 
 abbrev pub record_to_line : Contract
@@ -240,8 +240,8 @@ record_to_line = record {
   ensures = λ κs a r l w. (of_record_to_line.clauses w.𝓛 w.𝓜.mem w.𝓡.returns κs a).ensures tt r l;
   asks = λ κs a. all_models _ (λ w. r_top) (λ w. refl) (λ w. refl) (λ w. refl);
   tells = λ κs a r l. all_models _ (λ w. r_join _ _ (r_last _) (r_last _)) (λ w. refl) (λ w. refl) (λ w. refl);
-  all_asked = λ κs a w. refl;
-  all_told = λ κs a r l w. refl;
+  all_asked = λ κs a. (λ w. refl, refl, refl);
+  all_told = λ κs a r l. (λ w. refl, refl, refl);
 }
 
 abbrev pub line_to_record : Contract
@@ -251,6 +251,6 @@ line_to_record = record {
   ensures = λ κs a r l w. (of_line_to_record.clauses w.𝓛 w.𝓜.mem w.𝓡.returns κs a).ensures tt r l;
   asks = λ κs a. all_models _ (λ w. r_top) (λ w. refl) (λ w. refl) (λ w. refl);
   tells = λ κs a r l. all_models _ (λ w. r_join _ _ (r_last _) (r_last _)) (λ w. refl) (λ w. refl) (λ w. refl);
-  all_asked = λ κs a w. refl;
-  all_told = λ κs a r l w. refl;
+  all_asked = λ κs a. (λ w. refl, refl, refl);
+  all_told = λ κs a r l. (λ w. refl, refl, refl);
 }

@@ -14,8 +14,8 @@ label_part = record {
   ensures = λ κs a r l w. (of_label_part.clauses w.𝓛 w.𝓜.mem w.𝓡.returns κs a).ensures tt r l;
   asks = λ κs a. all_models _ (λ w. r_top) (λ w. refl) (λ w. refl) (λ w. refl);
   tells = λ κs a r l. all_models _ (λ w. r_join _ _ (r_last _) (r_last _)) (λ w. refl) (λ w. refl) (λ w. refl);
-  all_asked = λ κs a w. refl;
-  all_told = λ κs a r l w. refl;
+  all_asked = λ κs a. (λ w. refl, refl, refl);
+  all_told = λ κs a r l. (λ w. refl, refl, refl);
 }
 
 abbrev pub begin : Contract
@@ -25,8 +25,8 @@ begin = record {
   ensures = λ κs a r l w. (of_begin.clauses w.𝓛 w.𝓜.mem w.𝓡.returns κs a).ensures tt r l;
   asks = λ κs a. all_models _ (λ w. r_top) (λ w. refl) (λ w. refl) (λ w. refl);
   tells = λ κs a r l. all_models _ (λ w. r_join _ _ (r_last _) (r_last _)) (λ w. refl) (λ w. refl) (λ w. refl);
-  all_asked = λ κs a w. refl;
-  all_told = λ κs a r l w. refl;
+  all_asked = λ κs a. (λ w. refl, refl, refl);
+  all_told = λ κs a r l. (λ w. refl, refl, refl);
 }
 
 abbrev pub feed : Contract
@@ -36,8 +36,8 @@ feed = record {
   ensures = λ κs a r l w. (of_feed.clauses w.𝓛 w.𝓜.mem w.𝓡.returns κs a).ensures tt r l;
   asks = λ κs a. all_models _ (λ w. r_top) (λ w. refl) (λ w. refl) (λ w. refl);
   tells = λ κs a r l. all_models _ (λ w. r_last _) (λ w. refl) (λ w. refl) (λ w. refl);
-  all_asked = λ κs a w. refl;
-  all_told = λ κs a r l w. refl;
+  all_asked = λ κs a. (λ w. refl, refl, refl);
+  all_told = λ κs a r l. (λ w. refl, refl, refl);
 }
 
 abbrev pub finish : Contract
@@ -47,6 +47,6 @@ finish = record {
   ensures = λ κs a r l w. (of_finish.clauses w.𝓛 w.𝓜.mem w.𝓡.returns κs a).ensures tt r l;
   asks = λ κs a. all_models _ (λ w. r_top) (λ w. refl) (λ w. refl) (λ w. refl);
   tells = λ κs a r l. all_models _ (λ w. r_last _) (λ w. refl) (λ w. refl) (λ w. refl);
-  all_asked = λ κs a w. refl;
-  all_told = λ κs a r l w. refl;
+  all_asked = λ κs a. (λ w. refl, refl, refl);
+  all_told = λ κs a r l. (λ w. refl, refl, refl);
 }

@@ -1,6 +1,7 @@
--- What a C or Rust program that links the library relies on: of each exported function of the crate balqirven, that it asks nothing of its caller,
--- and what it answers and leaves. Nothing here says what a function does by itself: `Asked` and `Learnt` are read off that
--- function's own `requires` and `ensures`. So an exported contract that said less would no longer give what stands here. Assumes nothing.
+-- What a C or Rust program that links the library relies on: of each function of the crate balqirven, which balqirven_c exports with the same
+-- clauses, that it asks nothing of its caller, and what it answers and leaves. Nothing here says what a function does by itself: `Asked` and
+-- `Learnt` are read off that function's own `requires` and `ensures`. So a contract that said less would no longer give what stands here. Assumes
+-- nothing.
 use Rattle.std.specs.Prelude.{◌≡◌, length, take, drop}
 use contract.Lifetimes.{Lfts}
 use denote.Triple.Entry.{Args, Res}
@@ -41,7 +42,7 @@ pub record Promise (c : Contract)
 -- What is lent by `&` has no last value, and stands as `tt` among the last values: it is as it was. Each promise says of which parameters that is so,
 -- and would have no type if one of them were lent by `&mut`.
 
--- ---- the twenty-one exported functions, in 01's order of the calls and then 02's, and the one call that can't be exported in its own form
+-- ---- the twenty-one functions that are exported, in 01's order of the calls and then 02's, and the one call that can't be exported in its own form
 
 pub record ExportedCalls : Type 0 where
   -- a fresh table: the entries are lent by `&`

@@ -22,8 +22,8 @@ ghost use Rattle.claims.specs.ReportCounts.{LineCounts};
 ghost use Rattle.claims.specs.Unchanged.{NothingChanges};
 ghost use Rattle.claims.specs.RunSearch.{SearchesTheRun};
 
-// Demand 1, that every input is met with an answer: of every exported function of the crate balqirven, out of its own contract, it asks nothing of its
-// caller, and its answer and what it leaves in each lent slice are what the definitions say.
+// Demand 1, that every input is met with an answer: of every function of the crate balqirven, which balqirven_c exports, out of its own
+// contract, it asks nothing of its caller, and its answer and what it leaves in each lent slice are what the definitions say.
 pub fn demand_1_every_call_answers()
     ensures { ExportedCalls }
 {}
@@ -38,7 +38,7 @@ pub fn tables_follow()
     ensures { TablesFollow }
 {}
 
-// Demand 3, undivided, of every list of calls of the exported functions: pieces, end calls and questions, and between them any other call on the
+// Demand 3, undivided, of every list of calls of the same functions: pieces, end calls and questions, and between them any other call on the
 // tables, but for making a fresh table or loader, which begin a list. From any undamaged table and a fresh loader, the list is the plain reader's.
 // Two lists with the same bytes, end calls and single writes in the same order, whatever their cuts and questions, get the same reports and leave
 // the same table.

@@ -30,7 +30,7 @@ use Rattle.writes.specs.Writes.{judged, outcome_of}
 use Rattle.access.specs.SevenRules.{holds, modes_pass}
 use Rattle.access.specs.Access.{effective, decide, by_request, answer}
 use Rattle.effects.proofs.Revoked.{same_place}
-use Rattle.effects.specs.OldFiles.{rule_with01, rule_fields01, rule_of01, rule_without_b, without_b, tables_by, outcomes_by, dash_for_b, AsBefore}
+use Rattle.effects.specs.OldFiles.{rule_with_01, rule_fields_01, rule_of_01, rule_without_b, without_b, tables_by, outcomes_by, dash_for_b, AsBefore}
 
 abbrev none : Rule
 none = record { subject = 0; object = 0; modes = 0 }
@@ -99,26 +99,26 @@ module _ (t : Table) where
       by_tests false true = refl
       by_tests false false = refl
 
-  line-judged : (line : List ℕ) → judged (without_b t) (rule_of line) ≡ judged_without_b (judged t (rule_of01 line))
-  unfolding rule_of rule_by rule_of01
+  line-judged : (line : List ℕ) → judged (without_b t) (rule_of line) ≡ judged_without_b (judged t (rule_of_01 line))
+  unfolding rule_of rule_by rule_of_01
   line-judged line = by_length (ltb 600 (length line))
     where
       by-same : (s o : List ℕ) (m : ℕ) (b : Bool) → judged (without_b t) (cond b (refused same_labels) (rule s o (stored_modes m))) ≡ judged_without_b (judged t (cond b (refused same_labels) (rule s o m)))
       by-same s o m true = refl
       by-same s o m false = pair-judged s o m
 
-      by-access : (s o : List ℕ) (a : Access) → judged (without_b t) (rule_with s o a) ≡ judged_without_b (judged t (rule_with01 s o a))
+      by-access : (s o : List ℕ) (a : Access) → judged (without_b t) (rule_with s o a) ≡ judged_without_b (judged t (rule_with_01 s o a))
       by-access s o (Modes m) = by-same s o m (same_bytes s o)
       by-access s o Bad = refl
 
       by-formed :
           (s o a : List ℕ) (b : Bool) →
           judged (without_b t) (cond b (rule_with s o (read_modes line_letters true a)) (refused (bad_label_at (bad_byte_in line))))
-          ≡ judged_without_b (judged t (cond b (rule_with01 s o (read_modes line_letters true a)) (refused (bad_label_at (bad_byte_in line)))))
+          ≡ judged_without_b (judged t (cond b (rule_with_01 s o (read_modes line_letters true a)) (refused (bad_label_at (bad_byte_in line)))))
       by-formed s o a true = by-access s o (read_modes line_letters true a)
       by-formed s o a false = refl
 
-      by-fields : (fs : List (List ℕ)) → judged (without_b t) (rule_fields (bad_byte_in line) fs) ≡ judged_without_b (judged t (rule_fields01 (bad_byte_in line) fs))
+      by-fields : (fs : List (List ℕ)) → judged (without_b t) (rule_fields (bad_byte_in line) fs) ≡ judged_without_b (judged t (rule_fields_01 (bad_byte_in line) fs))
       by-fields [] = refl
       by-fields (s ∷ []) = refl
       by-fields (s ∷ o ∷ []) = refl
@@ -128,7 +128,7 @@ module _ (t : Table) where
       by_length :
           (b : Bool) →
           judged (without_b t) (cond b (refused too_long) (rule_fields (bad_byte_in line) (fields line)))
-          ≡ judged_without_b (judged t (cond b (refused too_long) (rule_fields01 (bad_byte_in line) (fields line))))
+          ≡ judged_without_b (judged t (cond b (refused too_long) (rule_fields_01 (bad_byte_in line) (fields line))))
       by_length true = refl
       by_length false = by-fields (fields line)
 
@@ -137,8 +137,8 @@ module _ (t : Table) where
   after_same (is_refused r) = refl
   after_same (is_accepted u) = refl
 
-  after_line : (line : List ℕ) → table_after (without_b t) (judged (without_b t) (rule_of line)) ≡ without_b (table_after t (judged t (rule_of01 line)))
-  after_line line = ap (table_after (without_b t)) (line-judged line) ∙ after_same (judged t (rule_of01 line))
+  after_line : (line : List ℕ) → table_after (without_b t) (judged (without_b t) (rule_of line)) ≡ without_b (table_after t (judged t (rule_of_01 line)))
+  after_line line = ap (table_after (without_b t)) (line-judged line) ∙ after_same (judged t (rule_of_01 line))
 
 same_outcome : (b : Bool) (j : Judged) → outcome_of b (judged_without_b j) ≡ outcome_of b j
 same_outcome b is_skipped = refl
@@ -147,17 +147,17 @@ same_outcome b (is_accepted u) = refl
 
 -- ---- lines one after another
 
-tables-same : (t : Table) (ls : List (List ℕ)) → tables_by rule_of (without_b t) ls ≡ without_b (tables_by rule_of01 t ls)
+tables-same : (t : Table) (ls : List (List ℕ)) → tables_by rule_of (without_b t) ls ≡ without_b (tables_by rule_of_01 t ls)
 tables-same t [] = refl
-tables-same t (l ∷ ls) = ap (λ (u : Table). tables_by rule_of u ls) (after_line t l) ∙ tables-same (table_after t (judged t (rule_of01 l))) ls
+tables-same t (l ∷ ls) = ap (λ (u : Table). tables_by rule_of u ls) (after_line t l) ∙ tables-same (table_after t (judged t (rule_of_01 l))) ls
 
-outcomes_same : (t : Table) (ls : List (List ℕ)) → outcomes_by rule_of (without_b t) ls ≡ outcomes_by rule_of01 t ls
+outcomes_same : (t : Table) (ls : List (List ℕ)) → outcomes_by rule_of (without_b t) ls ≡ outcomes_by rule_of_01 t ls
 outcomes_same t [] = refl
 outcomes_same t (l ∷ ls) =
     rw (
-      ap (outcome_of (bring_up_in l)) (line-judged t l) ∙ same_outcome (bring_up_in l) (judged t (rule_of01 l)),
+      ap (outcome_of (bring_up_in l)) (line-judged t l) ∙ same_outcome (bring_up_in l) (judged t (rule_of_01 l)),
       after_line t l,
-      outcomes_same (table_after t (judged t (rule_of01 l))) ls,
+      outcomes_same (table_after t (judged t (rule_of_01 l))) ls,
     )
 
 -- ---- a question
@@ -232,7 +232,7 @@ placeholder place s o a = rw (field_allowed a) (by-test (all (allowed_byte line_
 -- ---- THE CLAIM
 
 pub as_before : AsBefore
-unfolding rule_of rule_by rule_of01 all same_bytes is_blank label_byte well_formed fields bit_of allowed_byte modes_of read_modes
+unfolding rule_of rule_by rule_of_01 all same_bytes is_blank label_byte well_formed fields bit_of allowed_byte modes_of read_modes
 as_before =
     record {
       placeholder = placeholder;

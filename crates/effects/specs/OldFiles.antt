@@ -19,19 +19,19 @@ use Rattle.access.specs.Access.{answer}
 -- of modes/specs/Modes: they are the same now. b has here the bit that the reading of a line gives it; in lent memory it was 1, and such a state is refused
 -- with 0 and not spoken of here)
 
-abbrev pub rule_with01 : List ℕ → List ℕ → Access → Said
-rule_with01 s o Bad = refused bad_access
-rule_with01 s o (Modes m) = cond (same_bytes s o) (refused same_labels) (rule s o m)
+abbrev pub rule_with_01 : List ℕ → List ℕ → Access → Said
+rule_with_01 s o Bad = refused bad_access
+rule_with_01 s o (Modes m) = cond (same_bytes s o) (refused same_labels) (rule s o m)
 
-abbrev pub rule_fields01 : ℕ → List (List ℕ) → Said
-rule_fields01 place [] = skipped
-rule_fields01 place (s ∷ []) = refused wrong_fields
-rule_fields01 place (s ∷ o ∷ []) = refused wrong_fields
-rule_fields01 place (s ∷ o ∷ a ∷ []) = cond (well_formed s && well_formed o) (rule_with01 s o (read_modes line_letters true a)) (refused (bad_label_at place))
-rule_fields01 place (s ∷ o ∷ a ∷ x ∷ more) = refused wrong_fields
+abbrev pub rule_fields_01 : ℕ → List (List ℕ) → Said
+rule_fields_01 place [] = skipped
+rule_fields_01 place (s ∷ []) = refused wrong_fields
+rule_fields_01 place (s ∷ o ∷ []) = refused wrong_fields
+rule_fields_01 place (s ∷ o ∷ a ∷ []) = cond (well_formed s && well_formed o) (rule_with_01 s o (read_modes line_letters true a)) (refused (bad_label_at place))
+rule_fields_01 place (s ∷ o ∷ a ∷ x ∷ more) = refused wrong_fields
 
-unfoldable pub rule_of01 : List ℕ → Said
-rule_of01 line = cond (ltb line_limit (length line)) (refused too_long) (rule_fields01 (bad_byte_in line) (fields line))
+unfoldable pub rule_of_01 : List ℕ → Said
+rule_of_01 line = cond (ltb line_limit (length line)) (refused too_long) (rule_fields_01 (bad_byte_in line) (fields line))
 
 -- ---- tables without b: of each rule's letters what may be stored now, and all else as it is
 
@@ -59,14 +59,14 @@ pub record AsBefore : Type 0 where
   -- b is a placeholder: three fields say what they say with a dash in the place of each b of the access field
   pub placeholder : (place : ℕ) (s o access : List ℕ) → rule_by place s o access ≡ rule_by place s o (map dash_for_b access)
   -- whatever the lines and the tables before: the tables after them are those of 01's reading, without b
-  pub tables : (t : Table) (ls : List (List ℕ)) → tables_by rule_of (without_b t) ls ≡ without_b (tables_by rule_of01 t ls)
+  pub tables : (t : Table) (ls : List (List ℕ)) → tables_by rule_of (without_b t) ls ≡ without_b (tables_by rule_of_01 t ls)
   -- and each line is accepted, skipped or refused as it was, with the same number and place
-  pub lines : (t : Table) (ls : List (List ℕ)) → outcomes_by rule_of (without_b t) ls ≡ outcomes_by rule_of01 t ls
+  pub lines : (t : Table) (ls : List (List ℕ)) → outcomes_by rule_of (without_b t) ls ≡ outcomes_by rule_of_01 t ls
   -- and every question gets the answer that it would get of tables with b
   pub questions : (t : Table) (s o request : List ℕ) (capable : Bool) → answer (without_b t) s o request capable ≡ answer t s o request capable
   -- a fresh table has no b to lose. (That every other letter stays is `stored` of modes/specs/Modes)
   pub fresh_table : without_b fresh ≡ fresh
   -- such a line: by 01 it says r and b, and now r
   pub an_old_line :
-      (rule_of01 (ascii "Probe3 Air rBb") ≡ rule (ascii "Probe3") (ascii "Air") 96) × (has 96 (bit_of 114) ≡ true) × (has_bring_up 96 ≡ true)
+      (rule_of_01 (ascii "Probe3 Air rBb") ≡ rule (ascii "Probe3") (ascii "Air") 96) × (has 96 (bit_of 114) ≡ true) × (has_bring_up 96 ≡ true)
       × (rule_of (ascii "Probe3 Air rBb") ≡ rule (ascii "Probe3") (ascii "Air") 32)

@@ -79,7 +79,7 @@ use Rattle.load.specs.declared.Ended.TheVariants as e
 use Rattle.grown.specs.Pairs.{SoundTable, new_labels, has_rule}
 use Rattle.grown.proofs.Pairs.{undamaged-sound, labels-counted}
 use Rattle.faults.proofs.Different.{those-all, entered_many}
-use Rattle.faults.proofs.Records.{refuses, output-by, of_output, not_leb, text-first, record-faults, line_faults_lem}
+use Rattle.faults.proofs.Records.{refuses, output-by, of_output, not_leb, text-first, record_faults_lem, line_faults_lem}
 use Rattle.faults.specs.Faults.{
   Fault,
   ◌when◌,
@@ -118,7 +118,7 @@ use Rattle.faults.specs.Faults.{
   write_option_faults,
   is_not,
   other_layout,
-  doi_is_not3,
+  doi_is_not_3,
   option_level,
   option_bitmap,
   rebuilt,
@@ -875,7 +875,7 @@ layout_tested o = by_length (ltb (length o) 10) refl (ltb 40 (length o)) refl
         ∙ by_tests (eqb (get_or o 0 0) 134) (eqb (get_or o 1 0) (length o)) (eqb (get_or o 6 0) 1) (eqb (get_or o 7 0) (length o - 6)) (eqb (get_or o 8 0) 0)
 
 -- and its DOI is ours exactly where it is no other
-doi_tested : (o : List ℕ) → 10 ≤ length o → same_bytes (doi_in o) our_doi ≡ not (doi_is_not3 o)
+doi_tested : (o : List ℕ) → 10 ≤ length o → same_bytes (doi_in o) our_doi ≡ not (doi_is_not_3 o)
 doi_tested o h = sym (doi_tests o h) ∙ by_tests (eqb (get_or o 2 0) 0) (eqb (get_or o 3 0) 0) (eqb (get_or o 4 0) 0) (eqb (get_or o 5 0) 3)
   where
     by_tests : (p q r s : Bool) → (p && (q && (r && s))) ≡ not (not p || (not q || (not r || not s)))
@@ -935,7 +935,7 @@ module _ (t : Table) (o : List ℕ) (h : is_level (option_level o) ≡ true) whe
 
   peer-first :
       peer-by (peer_of t o)
-      ≡ cond (other_layout o) (by 16) (cond (doi_is_not3 o) (by 17) (cond (not (only_categories (option_bitmap o))) (by 18) (first_fault peer_faults)))
+      ≡ cond (other_layout o) (by 16) (cond (doi_is_not_3 o) (by 17) (cond (not (only_categories (option_bitmap o))) (by 18) (first_fault peer_faults)))
   unfolding peer_of
   peer-first = rw (layout_tested o) (by_layout (other_layout o) refl)
     where
@@ -953,9 +953,9 @@ module _ (t : Table) (o : List ℕ) (h : is_level (option_level o) ≡ true) whe
           (a : Bool) →
           other_layout o ≡ a →
           peer-by (cond (not a) (cond (same_bytes (doi_in o) our_doi) (cond (only_categories (option_bitmap o)) given (not_read 18)) (not_read 17)) (not_read 16))
-          ≡ cond a (by 16) (cond (doi_is_not3 o) (by 17) (cond (not (only_categories (option_bitmap o))) (by 18) (first_fault peer_faults)))
+          ≡ cond a (by 16) (cond (doi_is_not_3 o) (by 17) (cond (not (only_categories (option_bitmap o))) (by 18) (first_fault peer_faults)))
       by_layout true q = refl
-      by_layout false q = rw (doi_tested o (option_sized o (layout_tested o ∙ ap not q)).0) (by_tests (doi_is_not3 o) (only_categories (option_bitmap o)))
+      by_layout false q = rw (doi_tested o (option_sized o (layout_tested o ∙ ap not q)).0) (by_tests (doi_is_not_3 o) (only_categories (option_bitmap o)))
 
 read_option_refused : (st : Store) (o : List ℕ) → is_level (option_level o) ≡ true → Refuses (peer_given st o) not_read (read_option_faults st o)
 unfolding peer_given
@@ -1108,6 +1108,6 @@ first_in_order =
       question_line = question-line-refused;
       listing = listing-refused;
       label_by_number = label-refused;
-      record_to_line = record-faults;
+      record_to_line = record_faults_lem;
       line_to_record = line_faults_lem;
     }

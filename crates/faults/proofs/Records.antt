@@ -268,9 +268,9 @@ part-first s o access out five = rw (access_tested access five) (by_tests (well_
     by_tests true true true e = refl
     by_tests true true false e = rw (stored e) (by-same (same_bytes s o))
 
-record-first : (r out : List ℕ) → answered-by out (line_from r) ≡ first_fault (record_faults r out)
+record_first : (r out : List ℕ) → answered-by out (line_from r) ≡ first_fault (record_faults r out)
 unfolding line_from record_says is_record
-record-first r out = by_size (eqb (length r) 53) refl
+record_first r out = by_size (eqb (length r) 53) refl
   where
     s : List ℕ
     s = place_label (subject_place r)
@@ -300,14 +300,14 @@ record-first r out = by_size (eqb (length r) 53) refl
         rw (place_tested (subject_place r) first, place_tested (object_place r) second)
         (by-places (bad_label_place (subject_place r)) (bad_label_place (object_place r)) (omega (arith, length-drop 48 r)))
 
-pub record-faults : (r out : List ℕ) → Refuses (text_answer (line_from r) out) l.Refused (record_faults r out)
-record-faults r out = of_output _ (record_faults r out) (record-first r out)
+pub record_faults_lem : (r out : List ℕ) → Refuses (text_answer (line_from r) out) l.Refused (record_faults r out)
+record_faults_lem r out = of_output _ (record_faults r out) (record_first r out)
 
 -- ---- a line to a record
 
-record-long : (s o : List ℕ) (m : ℕ) → length s ≤ 23 → length o ≤ 23 → length (record_of s o m) ≡ 53
+record_long : (s o : List ℕ) (m : ℕ) → length s ≤ 23 → length o ≤ 23 → length (record_of s o m) ≡ 53
 unfolding record_of
-record-long s o m h i = omega (arith, length-append (filled s) (filled o ++ in_places five_letters m), length-append (filled o) (in_places five_letters m), filled-length s h, filled-length o i)
+record_long s o m h i = omega (arith, length-append (filled s) (filled o ++ in_places five_letters m), length-append (filled o) (in_places five_letters m), filled-length s h, filled-length o i)
 
 module _ (out : List ℕ) where
   abbrev sized : First ℕ
@@ -325,7 +325,7 @@ module _ (out : List ℕ) where
           answered-by out (cond (p && q) (output.text (record_of s o m)) (output.refused 15)) ≡ cond (not p || not q) (by 15) sized
       by_tests false e q f = refl
       by_tests true e false f = refl
-      by_tests true e true f = text-first (record_of s o m) out ∙ rw (record-long s o m (leb-true (length s) 23 e) (leb-true (length o) 23 f))
+      by_tests true e true f = text-first (record_of s o m) out ∙ rw (record_long s o m (leb-true (length s) 23 e) (leb-true (length o) 23 f))
 
   rule-first :
       (place : ℕ) (s o access : List ℕ) →

@@ -274,8 +274,8 @@ other_layout option =
     || is_not option 8 0)))))
 
 -- another DOI than 3, high byte first
-abbrev pub doi_is_not3 : List ℕ → Bool
-doi_is_not3 option = is_not option 2 0 || (is_not option 3 0 || (is_not option 4 0 || is_not option 5 3))
+abbrev pub doi_is_not_3 : List ℕ → Bool
+doi_is_not_3 option = is_not option 2 0 || (is_not option 3 0 || (is_not option 4 0 || is_not option 5 3))
 
 -- the level, and the bitmap behind it
 abbrev pub option_level : List ℕ → ℕ
@@ -297,7 +297,7 @@ abbrev pub read_option_faults : Store → List ℕ → List (Fault ℕ)
 read_option_faults st option =
     (refusal.damaged).number when not (undamaged_of st)
     ∷ (refusal.bad_option).number when other_layout option
-    ∷ (refusal.other_doi).number when doi_is_not3 option
+    ∷ (refusal.other_doi).number when doi_is_not_3 option
     ∷ (refusal.bad_option_category).number when not (only_categories (option_bitmap option))
     ∷ (refusal.bad_label).number when (eqb (option_level option) own_level && not (well_formed (rebuilt option)))
     ∷ (refusal.no_such_mapping).number when (not (eqb (option_level option) own_level) && not (some_label_has (table_of st) (option_level option) (set_of_bitmap (option_bitmap option))))

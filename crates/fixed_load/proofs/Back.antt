@@ -324,9 +324,9 @@ module _ (s o : List ℕ) (m : ℕ) (taken : Taken s o) (known : known_modes m �
   long-object : length (filled o) ≡ label_place
   long-object = filled-length o fit_is.1
 
-  record-long : length (record_of s o m) ≡ record_size
+  record_long : length (record_of s o m) ≡ record_size
   unfolding record_of
-  record-long = omega (arith, length-append (filled s) (filled o ++ in_places five_letters m), length-append (filled o) (in_places five_letters m), long-subject, long-object)
+  record_long = omega (arith, length-append (filled s) (filled o ++ in_places five_letters m), length-append (filled o) (in_places five_letters m), long-subject, long-object)
 
   -- its parts, and so what it says
   subject-part : subject_place (record_of s o m) ≡ filled s
@@ -345,7 +345,7 @@ module _ (s o : List ℕ) (m : ℕ) (taken : Taken s o) (known : known_modes m �
 
   whole_again : is_record (record_of s o m) ≡ true
   unfolding is_record
-  whole_again = rw (record-long, subject-part, object-part, filled-place s taken.subject fit_is.0, filled-place o taken.object fit_is.1)
+  whole_again = rw (record_long, subject-part, object-part, filled-place s taken.subject fit_is.0, filled-place o taken.object fit_is.1)
 
   says_again : record_says (record_of s o m) ≡ rule s o m
   unfolding record_says
@@ -367,7 +367,7 @@ fitted (said.change s o a d) t h e = let z : ◌≡◌ {A = ℕ} 0 1 = cc in abs
 fitted (said.rule s o m) t h e = by-test (fits_a_record s o) refl e
   where
     by-test : (b : Bool) → fits_a_record s o ≡ b → cond b (text (record_of s o m)) (refused 15) ≡ text t → Fitted (rule s o m) t
-    by-test true q e = let z : record_of s o m ≡ t = cc in rw (← z) record { long = record-long s o m h.0 h.1 q; says = says_again s o m h.0 h.1 q }
+    by-test true q e = let z : record_of s o m ≡ t = cc in rw (← z) record { long = record_long s o m h.0 h.1 q; says = says_again s o m h.0 h.1 q }
     by-test false q e = let z : ◌≡◌ {A = ℕ} 0 1 = cc in absurd (omega arith)
 
 line_fitted : (l t : List ℕ) → record_from l ≡ text t → Fitted (rule_of (without_newline l)) t

@@ -342,7 +342,7 @@ unfolding filled
 filled-length l h = simp length-append (omega (arith, spaces-length (label_place - length l)))
 
 -- spaces with the two labels and the access bytes written over them
-pub record-built :
+pub record_built :
     (s o : List ℕ) (m : ℕ) (x y z : List ℕ) →
     length s ≤ record_label →
     length o ≤ record_label →
@@ -351,7 +351,7 @@ pub record-built :
     z ≡ written y 48 (in_places five_letters m) →
     take record_size z ≡ record_of s o m
 unfolding record_of filled
-record-built s o m x y z h i a b c =
+record_built s o m x y z h i a b c =
     let p = in_places five_letters m in
     let five = places-length five_letters m in
     let x-is : x ≡ filled s ++ (spaces label_place ++ spaces 9) = a ∙ written-front label_place s (spaces label_place ++ spaces 9) (omega arith) in

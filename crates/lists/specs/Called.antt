@@ -16,6 +16,10 @@ use Rattle.load.specs.Loader.{Load, load}
 -- ---- a contract, as its own clauses say it: its `requires` and its `ensures` at every model of the logic, and a reading of each, which is a list of plain
 -- facts with a proof that whoever shows them has the `requires`, and that whoever has the `ensures` learns them
 
+-- the facts are all there is: the clause holds nothing else, nothing has to be known before it is read, and whoever has it learns what whoever shows it owes
+abbrev pub Whole : {base clause : (w : World) → Pr w} → Read base no_know clause → Type 2
+Whole r = ((w : World) → r.held w ≡ []) × (r.wants ≡ []) × (r.owes ≡ r.tells)
+
 pub record Contract : Type 3 where
   pub ended : Ended
   pub requires : (κs : Lfts ended.signature.lifetimes) → Args ended.signature κs → (w : World) → Pr w
@@ -24,11 +28,8 @@ pub record Contract : Type 3 where
   pub tells :
       (κs : Lfts ended.signature.lifetimes) (a : Args ended.signature κs) (r : Res ended.signature κs) (l : AtExit ended κs) →
       Read (λ w. fact w.𝓤 (Bounds ended.signature κs)) no_know (ensures κs a r l)
-  -- and the facts are all there is: neither clause holds anything else
-  pub all_asked : (κs : Lfts ended.signature.lifetimes) (a : Args ended.signature κs) (w : World) → (asks κs a).held w ≡ []
-  pub all_told :
-      (κs : Lfts ended.signature.lifetimes) (a : Args ended.signature κs) (r : Res ended.signature κs) (l : AtExit ended κs) (w : World) →
-      (tells κs a r l).held w ≡ []
+  pub all_asked : (κs : Lfts ended.signature.lifetimes) (a : Args ended.signature κs) → Whole (asks κs a)
+  pub all_told : (κs : Lfts ended.signature.lifetimes) (a : Args ended.signature κs) (r : Res ended.signature κs) (l : AtExit ended κs) → Whole (tells κs a r l)
 
 -- what its caller has to show, and what its caller learns
 abbrev pub Asked : (c : Contract) (κs : Lfts c.ended.signature.lifetimes) → Args c.ended.signature κs → Type 0

@@ -18,13 +18,13 @@ option_of_a = 134 ∷ 12 ∷ 0 ∷ 0 ∷ 0 ∷ 3 ∷ 1 ∷ 6 ∷ 0 ∷ 250 ∷ 3
 abbrev pub of_one_byte : ℕ → ℕ → List ℕ
 of_one_byte level b = 134 ∷ 11 ∷ 0 ∷ 0 ∷ 0 ∷ 3 ∷ 1 ∷ 5 ∷ 0 ∷ level ∷ b ∷ []
 
-abbrev pub option_of23 : List ℕ
-option_of23 =
+abbrev pub option_of_23 : List ℕ
+option_of_23 =
     134 ∷ 33 ∷ 0 ∷ 0 ∷ 0 ∷ 3 ∷ 1 ∷ 27 ∷ 0 ∷ 250
     ∷ 34 ∷ 188 ∷ 48 ∷ 177 ∷ 186 ∷ 54 ∷ 60 ∷ 153 ∷ 25 ∷ 161 ∷ 60 ∷ 186 ∷ 50 ∷ 185 ∷ 166 ∷ 55 ∷ 183 ∷ 51 ∷ 166 ∷ 48 ∷ 177 ∷ 50 ∷ 182 ∷ []
 
-abbrev pub option_of9 : List ℕ
-option_of9 = 134 ∷ 18 ∷ 0 ∷ 0 ∷ 0 ∷ 3 ∷ 1 ∷ 12 ∷ 0 ∷ 9 ∷ 64 ∷ 0 ∷ 0 ∷ 0 ∷ 0 ∷ 0 ∷ 0 ∷ 1 ∷ []
+abbrev pub option_of_9 : List ℕ
+option_of_9 = 134 ∷ 18 ∷ 0 ∷ 0 ∷ 0 ∷ 3 ∷ 1 ∷ 12 ∷ 0 ∷ 9 ∷ 64 ∷ 0 ∷ 0 ∷ 0 ∷ 0 ∷ 0 ∷ 0 ∷ 1 ∷ []
 
 -- a fresh table and one mapping, of a label of 24 bytes; and with a second label mapped alike
 abbrev pub mapped_table : Table
@@ -39,14 +39,14 @@ pub record OptionExamples : Type 0 where
   -- a bitmap of one byte: 94 is categories 2, 4, 5, 6 and 7
   pub hat : label_option fresh (ascii "^") ≡ text (of_one_byte 250 47)
   -- 23 bytes go, and 24 do not; 3 comes before 19
-  pub twenty_three : (label_option fresh (ascii "Exactly23BytesLongLabel") ≡ text option_of23) × (peer_of fresh option_of23 ≡ label (ascii "Exactly23BytesLongLabel"))
+  pub twenty_three : (label_option fresh (ascii "Exactly23BytesLongLabel") ≡ text option_of_23) × (peer_of fresh option_of_23 ≡ label (ascii "Exactly23BytesLongLabel"))
   pub twenty_four : label_option fresh (ascii "Exactly24BytesLongLabel!") ≡ refused 19
   pub bad_label : label_option fresh (ascii "-Exactly24BytesLongLabe!") ≡ refused 3
   -- a mapped label uses its mapping, however long it is; of two that are mapped alike the lower-numbered is read
-  pub mapped : (label_option mapped_table (ascii "Exactly24BytesLongLabel!") ≡ text option_of9) × (peer_of mapped_table option_of9 ≡ label (ascii "Exactly24BytesLongLabel!"))
-  pub mapped_alike : (label_option mapped_twice (ascii "Vault7") ≡ text option_of9) × (peer_of mapped_twice option_of9 ≡ label (ascii "Exactly24BytesLongLabel!"))
+  pub mapped : (label_option mapped_table (ascii "Exactly24BytesLongLabel!") ≡ text option_of_9) × (peer_of mapped_table option_of_9 ≡ label (ascii "Exactly24BytesLongLabel!"))
+  pub mapped_alike : (label_option mapped_twice (ascii "Vault7") ≡ text option_of_9) × (peer_of mapped_twice option_of_9 ≡ label (ascii "Exactly24BytesLongLabel!"))
   -- level 9, categories 1 and 63; level 7, categories 100 and 184; level 0, none
-  pub one_and_63 : option_of 9 (foldl with_category no_categories (1 ∷ 63 ∷ [])) ≡ option_of9
+  pub one_and_63 : option_of 9 (foldl with_category no_categories (1 ∷ 63 ∷ [])) ≡ option_of_9
   pub hundred_and_184 :
       option_of 7 (foldl with_category no_categories (100 ∷ 184 ∷ []))
       ≡ 134 ∷ 34 ∷ 0 ∷ 0 ∷ 0 ∷ 3 ∷ 1 ∷ 28 ∷ 0 ∷ 7

@@ -1,7 +1,7 @@
 -- The labels and the access bytes are written over spaces.
 use Rattle.std.proofs.Common.{ap, ◌∙◌, List, ℕ}
 use Rattle.output.specs.Output.{put_answer, put_out}
-use Rattle.fixed_load.proofs.Laws.{as_answered, long-subject, long-object, it_fits, record-built}
+use Rattle.fixed_load.proofs.Laws.{as_answered, long-subject, long-object, it_fits, record_built}
 use Rattle.fixed_load.proofs.put_record.Goals as goal
 
 pub returns-then-subject-gt-RECORD_LABEL : goal.returns-then-subject-gt-RECORD_LABEL
@@ -22,7 +22,7 @@ returns c =
     let i = c.if-object-gt-RECORD_LABEL.false in
     let e = as_answered _ _ c.args.out.now (it_fits c.args.subject.now c.args.object.now c.args.modes h i) in
     let f =
-    record-built c.args.subject.now c.args.object.now c.args.modes c.copy_at.new.dst c.copy_at-2.new.dst c.write_access.new.out h i
+    record_built c.args.subject.now c.args.object.now c.args.modes c.copy_at.new.dst c.copy_at-2.new.dst c.write_access.new.out h i
     c.copy_at.ensures c.copy_at-2.ensures c.write_access.ensures in
     record {
       value = c.put.ensures.value ∙ ap (λ (t : List ℕ). put_answer t c.args.out.now) f ∙ e.0;
