@@ -1,7 +1,7 @@
 /* Balqirven: Smack labels, access rules and CIPSO mappings in memory that the host lends.
  *
  * Link libbalqirven.a (./build makes target/staticlib/libbalqirven.a; ./install PREFIX puts it, a shared library and this header under PREFIX).
- * x86-64 only. The archive holds no version of its own: build it and take this header from one commit.
+ * x86-64 only, from level v2 on (SSE4.2 and POPCNT). The archive holds no version of its own: build it and take this header from one commit.
  *
  * What is lent. The tables stand in three parts of fixed size, the line of rule text under way in a fourth. A part goes to a call as a pointer
  * and a length in elements. A part of another size is no error of the host's: the call answers refusal 0 and changes nothing. Three things
