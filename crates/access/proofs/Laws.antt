@@ -9,12 +9,10 @@ use lib.ListN.{length, get_or, take}
 use borrow.Author.Tests.{eqb-true, eqb-false, eq-eqb, ne_eqb}
 use Rattle.search.specs.Search.{first, later, entries, place_of}
 use Rattle.search.specs.Bytes.{same_bytes}
-use Rattle.search.specs.declared.Found.{Found}
-use Rattle.search.specs.declared.Found.TheVariants.{At, Nothing}
+use Rattle.std.proofs.Common.{Option, Some, None}
 use Rattle.search.proofs.Laws.{no, not_so, and_both, same_refl, same-equal, entries-length, entries_at, first-is}
 use Rattle.alphabet.specs.Alphabet.{well_formed}
 use Rattle.modes.specs.Modes.{read_modes, request_letters}
-use Rattle.modes.specs.declared.Access.TheVariants.{Modes}
 use Rattle.store.specs.declared.Rule.{Rule}
 use Rattle.store.specs.Table.{Table, label_in, is_pair, label_limit, rule_limit}
 use Rattle.store.specs.Layout.{store, table_of, rule_at, label_at, modes_from, firsts_from, Sizes}
@@ -47,29 +45,29 @@ and_with b v p q = sym (ap (λ (x : Bool). x && b) p) ∙ q
 -- ---- what a store holds
 
 -- the modes of a stored rule
-pub stored-modes : (e : List ℕ) (n k : ℕ) → k < n → modes_found (entries (rule_at e) n) (At k) ≡ has_modes (get_or e (512 + k) 0)
+pub stored-modes : (e : List ℕ) (n k : ℕ) → k < n → modes_found (entries (rule_at e) n) (Some k) ≡ has_modes (get_or e (512 + k) 0)
 unfolding rule_at
 stored-modes e n k h = ap (λ (r : Rule). has_modes r.modes) (entries_at (rule_at e) (record { subject = 0; object = 0; modes = 0 }) n k h)
 
 -- a search of a table's entries finds one of them
-pub found_below : {A : Type 0} (p : A → Bool) (f : ℕ → A) (n k : ℕ) → first p (entries f n) ≡ At k → k < n
+pub found_below : {A : Type 0} (p : A → Bool) (f : ℕ → A) (n k : ℕ) → first p (entries f n) ≡ Some k → k < n
 found_below p f n k e = omega (arith, (first-is p (f 0) (entries f n) k e).0, entries-length f n)
 
-pub place-below : {A : Type 0} (p : A → Bool) (f : ℕ → A) (n m : ℕ) (r : Found) → r ≡ first p (entries f n) → n ≤ m → 0 < m → place_of r 0 < m
-place-below p f n m (At k) e h z = omega (arith, found_below p f n k (sym e))
-place-below p f n m Nothing e h z = z
+pub place-below : {A : Type 0} (p : A → Bool) (f : ℕ → A) (n m : ℕ) (r : Option ℕ) → r ≡ first p (entries f n) → n ≤ m → 0 < m → place_of r 0 < m
+place-below p f n m (Some k) e h z = omega (arith, found_below p f n k (sym e))
+place-below p f n m None e h z = z
 
 -- ---- the onlycap list
 
-pub listed_at : (l : List ℕ) (i k : ℕ) → first (eqb i) l ≡ At k → on_list l (At i) ≡ true
+pub listed_at : (l : List ℕ) (i k : ℕ) → first (eqb i) l ≡ Some k → on_list l (Some i) ≡ true
 listed_at l i k e = rw e
 
-pub listed-none : (l : List ℕ) (i : ℕ) → first (eqb i) l ≡ Nothing → on_list l (At i) ≡ false
+pub listed-none : (l : List ℕ) (i : ℕ) → first (eqb i) l ≡ None → on_list l (Some i) ≡ false
 listed-none l i e = rw e
 
 -- ---- the override capability
 
-module _ (t : Table) (s : Found) where
+module _ (t : Table) (s : Option ℕ) where
   pub effective_not : effective t s false ≡ false
   unfolding effective
   effective_not = refl
@@ -83,7 +81,7 @@ module _ (t : Table) (s : Found) where
   effective-listed n = rw (ne_eqb (length t.onlycap) 0 n)
 
 -- a denial stays one where the asker has not the capability
-pub without : (t : Table) (s : Found) (capable : Bool) (by : Denial) → not capable ≡ true → denied (effective t s capable) by ≡ Denied by
+pub without : (t : Table) (s : Option ℕ) (capable : Bool) (by : Denial) → not capable ≡ true → denied (effective t s capable) by ≡ Denied by
 without t s true by e = absurd (no e)
 without t s false by e = rw (effective_not t s)
 
@@ -138,8 +136,8 @@ module _ (t : Table) (s o : List ℕ) (wanted : ℕ) where
 -- ---- rules 5 to 7, by numbers
 
 -- labels that were sought in one list have the same number exactly where they are equal; where neither has one the bytes tell
-pub same_numbers : (ls : List (List ℕ)) (s o : List ℕ) (f g : Found) → f ≡ first (same_bytes s) ls → g ≡ first (same_bytes o) ls → same_label s o f g ≡ same_bytes s o
-same_numbers ls s o (At i) (At j) p q = by-test (eqb i j) refl
+pub same_numbers : (ls : List (List ℕ)) (s o : List ℕ) (f g : Option ℕ) → f ≡ first (same_bytes s) ls → g ≡ first (same_bytes o) ls → same_label s o f g ≡ same_bytes s o
+same_numbers ls s o (Some i) (Some j) p q = by-test (eqb i j) refl
   where
     by-test : (b : Bool) → eqb i j ≡ b → b ≡ same_bytes s o
     by-test true e =
@@ -149,14 +147,14 @@ same_numbers ls s o (At i) (At j) p q = by-test (eqb i j) refl
         sym (ap (λ (l : List ℕ). same_bytes l o) z ∙ same_refl o)
     by-test false e =
         sym (not_so (same_bytes s o) (λ h.
-        let z : At i ≡ At j = p ∙ ap (λ (l : List ℕ). first (same_bytes l) ls) (same-equal s o h) ∙ sym q in
+        let z : Some i ≡ Some j = p ∙ ap (λ (l : List ℕ). first (same_bytes l) ls) (same-equal s o h) ∙ sym q in
         let w : i ≡ j = cc in
         eqb-false i j e w))
-same_numbers ls s o (At i) Nothing p q =
-    sym (not_so (same_bytes s o) (λ h. let z : At i ≡ Nothing = p ∙ ap (λ (l : List ℕ). first (same_bytes l) ls) (same-equal s o h) ∙ sym q in let w : ◌≡◌ {A = ℕ} 0 1 = cc in omega arith))
-same_numbers ls s o Nothing (At j) p q =
-    sym (not_so (same_bytes s o) (λ h. let z : Nothing ≡ At j = p ∙ ap (λ (l : List ℕ). first (same_bytes l) ls) (same-equal s o h) ∙ sym q in let w : ◌≡◌ {A = ℕ} 0 1 = cc in omega arith))
-same_numbers ls s o Nothing Nothing p q = refl
+same_numbers ls s o (Some i) None p q =
+    sym (not_so (same_bytes s o) (λ h. let z : Some i ≡ None = p ∙ ap (λ (l : List ℕ). first (same_bytes l) ls) (same-equal s o h) ∙ sym q in let w : ◌≡◌ {A = ℕ} 0 1 = cc in omega arith))
+same_numbers ls s o None (Some j) p q =
+    sym (not_so (same_bytes s o) (λ h. let z : None ≡ Some j = p ∙ ap (λ (l : List ℕ). first (same_bytes l) ls) (same-equal s o h) ∙ sym q in let w : ◌≡◌ {A = ℕ} 0 1 = cc in omega arith))
+same_numbers ls s o None None p q = refl
 
 -- what each of the three says, with the modes by which it granted
 abbrev pub ruling : Verdict → ℕ → Ruling
@@ -166,8 +164,8 @@ pub ruled-same : (same : Bool) (pair : PairModes) (wanted : ℕ) → same ≡ tr
 unfolding ruled
 ruled-same same pair wanted e = rw e
 
-module _ (same : Bool) (apart : same ≡ false) (rules : List Rule) (f : Found) (wanted : ℕ) where
-  pub ruled-none : f ≡ Nothing → ruling (Denies AnyOther) 0 ≡ ruled same (modes_found rules f) wanted
+module _ (same : Bool) (apart : same ≡ false) (rules : List Rule) (f : Option ℕ) (wanted : ℕ) where
+  pub ruled-none : f ≡ None → ruling (Denies AnyOther) 0 ≡ ruled same (modes_found rules f) wanted
   unfolding ruled
   ruled-none e = rw (apart, e)
 
@@ -183,31 +181,31 @@ module _ (same : Bool) (apart : same ≡ false) (rules : List Rule) (f : Found) 
 -- ---- override, and where a rule stands, look at no label of the store
 
 module _ (l e w : List ℕ) where
-  effective-same : (s : Found) (capable : Bool) → effective (table_of (store [] e w)) s capable ≡ effective (table_of (store l e w)) s capable
+  effective-same : (s : Option ℕ) (capable : Bool) → effective (table_of (store [] e w)) s capable ≡ effective (table_of (store l e w)) s capable
   unfolding effective
   effective-same s capable = refl
 
-  pub denied-same : (s s' : Found) (capable : Bool) (by : Denial) → s ≡ s' → denied (effective (table_of (store [] e w)) s capable) by ≡ denied (effective (table_of (store l e w)) s' capable) by
+  pub denied-same : (s s' : Option ℕ) (capable : Bool) (by : Denial) → s ≡ s' → denied (effective (table_of (store [] e w)) s capable) by ≡ denied (effective (table_of (store l e w)) s' capable) by
   denied-same s s' capable by q = rw (effective-same s capable, q)
 
   pub answered-same :
-      (s : List ℕ) (f : Found) (capable : Bool) (r z : Ruling) →
+      (s : List ℕ) (f : Option ℕ) (capable : Bool) (r z : Ruling) →
       f ≡ label_in (table_of (store l e w)) s →
       r ≡ z →
       answered (effective (table_of (store [] e w)) f capable) r.verdict ≡ answered (effective (table_of (store l e w)) (label_in (table_of (store l e w)) s) capable) z.verdict
   answered-same s f capable r z p q = rw (effective-same f capable, p, q)
 
-  pub between_same : (s s' o o' : Found) → s ≡ s' → o ≡ o' → rule_between (table_of (store [] e w)) s o ≡ rule_between (table_of (store l e w)) s' o'
+  pub between_same : (s s' o o' : Option ℕ) → s ≡ s' → o ≡ o' → rule_between (table_of (store [] e w)) s o ≡ rule_between (table_of (store l e w)) s' o'
   between_same s s' o o' p q = rw (p, q) (by_case s' o')
     where
-      by_case : (f g : Found) → rule_between (table_of (store [] e w)) f g ≡ rule_between (table_of (store l e w)) f g
-      by_case (At i) (At j) = refl
-      by_case (At i) Nothing = refl
-      by_case Nothing g = refl
+      by_case : (f g : Option ℕ) → rule_between (table_of (store [] e w)) f g ≡ rule_between (table_of (store l e w)) f g
+      by_case (Some i) (Some j) = refl
+      by_case (Some i) None = refl
+      by_case None g = refl
 
   -- rules 5 to 7 by the numbers of two labels that were sought are those by the labels
   pub ruled-by :
-      (s o : List ℕ) (same : Bool) (f g : Found) (wanted : ℕ) →
+      (s o : List ℕ) (same : Bool) (f g : Option ℕ) (wanted : ℕ) →
       same ≡ same_bytes s o →
       f ≡ label_in (table_of (store l e w)) s →
       g ≡ label_in (table_of (store l e w)) o →
@@ -215,11 +213,11 @@ module _ (l e w : List ℕ) where
   unfolding modes_between
   ruled-by s o same f g wanted r p q =
       rw r
-      (ap (λ (k : Found). ruled (same_bytes s o) (modes_found (table_of (store l e w)).rules k) wanted) (between_same f _ g _ p q))
+      (ap (λ (k : Option ℕ). ruled (same_bytes s o) (modes_found (table_of (store l e w)).rules k) wanted) (between_same f _ g _ p q))
 
   -- two labels that were sought in a tested store have numbers that the rule search takes
   pub numbers-below :
-      Sizes l e w → Counts w → (s o : List ℕ) (f g : Found) →
+      Sizes l e w → Counts w → (s o : List ℕ) (f g : Option ℕ) →
       f ≡ label_in (table_of (store l e w)) s →
       g ≡ label_in (table_of (store l e w)) o →
       ((modes_from + rule_limit ≤ length e) × (firsts_from ≤ length w) × Counts w) × ((place_of f 0 < label_limit) × (place_of g 0 < label_limit))
@@ -229,28 +227,28 @@ module _ (l e w : List ℕ) where
         (place-below (same_bytes s) (label_at l) n 64 f p counts.labels (omega arith), place-below (same_bytes o) (label_at l) n 64 g q counts.labels (omega arith)),
       )
 
-  pub between_below : (s o : Found) (k : ℕ) → rule_between (table_of (store l e w)) s o ≡ At k → k < get_or w 1 0
-  between_below (At i) (At j) k q = found_below (is_pair i j) (rule_at e) (get_or w 1 0) k q
-  between_below (At i) Nothing k q = let z : ◌≡◌ {A = ℕ} 0 1 = cc in absurd (omega arith)
-  between_below Nothing o k q = let z : ◌≡◌ {A = ℕ} 0 1 = cc in absurd (omega arith)
+  pub between_below : (s o : Option ℕ) (k : ℕ) → rule_between (table_of (store l e w)) s o ≡ Some k → k < get_or w 1 0
+  between_below (Some i) (Some j) k q = found_below (is_pair i j) (rule_at e) (get_or w 1 0) k q
+  between_below (Some i) None k q = let z : ◌≡◌ {A = ℕ} 0 1 = cc in absurd (omega arith)
+  between_below None o k q = let z : ◌≡◌ {A = ℕ} 0 1 = cc in absurd (omega arith)
 
 -- ---- 01's order, said once more in other words
 
 -- what the first that applies says
-pub first_says : (d : Clause) (ls : List Clause) (k : ℕ) → first (λ (l : Clause). l.applies) ls ≡ At k → first_of ls ≡ (get_or ls k d).says
+pub first_says : (d : Clause) (ls : List Clause) (k : ℕ) → first (λ (l : Clause). l.applies) ls ≡ Some k → first_of ls ≡ (get_or ls k d).says
 unfolding first
 first_says d [] k e = let z : ◌≡◌ {A = ℕ} 0 1 = cc in absurd (omega arith)
 first_says d (l ∷ ls) k e = by-test l.applies (first (λ (m : Clause). m.applies) ls) (first_says d ls) k e
   where
     by-test :
-        (b : Bool) (f : Found) →
-        ((j : ℕ) → f ≡ At j → first_of ls ≡ (get_or ls j d).says) →
+        (b : Bool) (f : Option ℕ) →
+        ((j : ℕ) → f ≡ Some j → first_of ls ≡ (get_or ls j d).says) →
         (i : ℕ) →
-        cond b (At zero) (later f) ≡ At i →
+        cond b (Some zero) (later f) ≡ Some i →
         cond b l.says (first_of ls) ≡ (get_or (l ∷ ls) i d).says
     by-test true f ih i q = let z : i ≡ 0 = cc in rw z
-    by-test false (At j) ih i q = let z : i ≡ suc j = cc in rw z (ih j refl)
-    by-test false Nothing ih i q = let z : ◌≡◌ {A = ℕ} 0 1 = cc in absurd (omega arith)
+    by-test false (Some j) ih i q = let z : i ≡ suc j = cc in rw z (ih j refl)
+    by-test false None ih i q = let z : ◌≡◌ {A = ℕ} 0 1 = cc in absurd (omega arith)
 
 -- the seventh applies to every question, so none is left undecided
 pub all_decided : (t : Table) (s o : List ℕ) (wanted : ℕ) → decides (first_of (seven_rules t s o wanted)) ≡ true
@@ -269,7 +267,7 @@ module _ (t : Table) (s o request : List ℕ) (capable : Bool) (wanted : ℕ) wh
       well_formed s ≡ true →
       well_formed o ≡ true →
       (length request ≡ 0 → ⊥) →
-      read_modes request_letters false request ≡ Modes wanted →
+      read_modes request_letters false request ≡ Some wanted →
       answer t s o request capable ≡ answered (effective t (label_in t s) capable) (first_of (seven_rules t s o wanted))
   unfolding answer decide
   answer-is hs ho some read = rw (hs, ho, ne_eqb (length request) 0 some, read)

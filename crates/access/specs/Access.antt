@@ -1,13 +1,9 @@
 -- 01, Questions: the answer to a question. The seven rules stand in specs/SevenRules.antt; here are the override capability (CAP_MAC_OVERRIDE,
 -- with the onlycap list), and the refusals. Assumes nothing.
-use Rattle.std.specs.Prelude.{ℕ, Bool, true, false, cond, ◌&&◌, ◌||◌, List, length, eqb}
+use Rattle.std.specs.Prelude.{ℕ, Bool, true, false, cond, ◌&&◌, ◌||◌, List, length, eqb, Option, Some, None}
 use Rattle.search.specs.Search.{first}
-use Rattle.search.specs.declared.Found.{Found}
-use Rattle.search.specs.declared.Found.TheVariants.{At, Nothing}
 use Rattle.alphabet.specs.Alphabet.{well_formed, bad_byte_of_two}
 use Rattle.modes.specs.Modes.{read_modes, request_letters}
-use Rattle.modes.specs.declared.Access.{Access}
-use Rattle.modes.specs.declared.Access.TheVariants.{Modes, Bad}
 use Rattle.refusals.specs.Refusals.{damaged, bad_label_at, bad_request}
 use Rattle.store.specs.Table.{Table, label_in}
 use Rattle.store.specs.Layout.{Store, table_of, undamaged_of}
@@ -22,17 +18,17 @@ use Rattle.access.specs.declared.Answer.TheVariants.{Granted, Denied, Override, 
 -- ---- override
 
 -- whether a search found something
-abbrev pub is_found : Found → Bool
-is_found (At k) = true
-is_found Nothing = false
+abbrev pub is_found : Option ℕ → Bool
+is_found (Some k) = true
+is_found None = false
 
 -- whether the onlycap list (01: the override list) holds a label, by its first number; a label that is not in the table is on no list
-abbrev pub on_list : List ℕ → Found → Bool
-on_list onlycap (At i) = is_found (first (eqb i) onlycap)
-on_list onlycap Nothing = false
+abbrev pub on_list : List ℕ → Option ℕ → Bool
+on_list onlycap (Some i) = is_found (first (eqb i) onlycap)
+on_list onlycap None = false
 
 -- 01: override counts only if the asker has it and the list is empty or holds the subject
-unfoldable pub effective : Table → Found → Bool → Bool
+unfoldable pub effective : Table → Option ℕ → Bool → Bool
 effective t s capable = capable && (eqb (length t.onlycap) 0 || on_list t.onlycap s)
 
 -- and only after a denial, whose rule it then names
@@ -52,9 +48,9 @@ decide t s o wanted capable = answered (effective t (label_in t s) capable) (fir
 -- ---- the refusals: 3 and then 8
 
 -- 8 the request is empty or has another byte than r w x a, either case
-abbrev pub by_request : Table → List ℕ → List ℕ → Bool → Access → Answer
-by_request t s o capable (Modes wanted) = decide t s o wanted capable
-by_request t s o capable Bad = Refused bad_request
+abbrev pub by_request : Table → List ℕ → List ℕ → Bool → Option ℕ → Answer
+by_request t s o capable (Some wanted) = decide t s o wanted capable
+by_request t s o capable None = Refused bad_request
 
 -- 3 a label is not well formed, with the place of the first bad byte: in the subject or, where that is well formed, in the object
 unfoldable pub answer : Table → List ℕ → List ℕ → List ℕ → Bool → Answer

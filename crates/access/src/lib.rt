@@ -7,25 +7,25 @@ ghost use Rattle.search.specs.Search.{place_of};
 ghost use Rattle.search.specs.Bytes.{same_bytes};
 ghost use Rattle.store.specs.Table.{label_limit, rule_limit, onlycap_limit};
 ghost use Rattle.store.specs.Layout.{store, modes_from, onlycap_from, firsts_from, table_of, Sizes};
+ghost use Rattle.store.specs.LentWithin.{lent, tested};
 ghost use Rattle.store.specs.Within.{Counts};
 ghost use Rattle.store.specs.Pairs.{rule_between};
 ghost use Rattle.access.specs.SevenRules as rules;
 ghost use Rattle.access.specs.Access as access;
 ghost use Rattle.access.specs.Within as within;
 
-use modes::Access;
 use refusals::Refusal;
-use search::Found;
+use store::{Lent, Tables};
 
 // The rule that denies: 1, the subject is *; or 7, any other access.
-#[derive(Clone, Copy)]
+#[derive(Clone, Copy, Debug, PartialEq, Eq)]
 pub enum Denial {
     StarSubject,
     AnyOther,
 }
 
 // What a run of the rules says: granted, with the rule's number; denied, with the rule that denies; or nothing, where none applies.
-#[derive(Clone, Copy)]
+#[derive(Clone, Copy, Debug, PartialEq, Eq)]
 pub enum Verdict {
     Grants(u8),
     Denies(Denial),
@@ -33,7 +33,7 @@ pub enum Verdict {
 }
 
 // What rules 5 to 7 say, and the modes of the rule by which rule 6 granted: none where another decided.
-#[derive(Clone, Copy)]
+#[derive(Clone, Copy, Debug, PartialEq, Eq)]
 pub struct Ruling {
     pub verdict: Verdict,
     pub modes: u8,
@@ -41,7 +41,7 @@ pub struct Ruling {
 
 // The answer to a question: granted, with the rule's number; denied, with the rule that denies; granted by override, with the rule that would have
 // denied; refused, with its number and place.
-#[derive(Clone, Copy)]
+#[derive(Clone, Copy, Debug, PartialEq, Eq)]
 pub enum Answer {
     Granted(u8),
     Denied(Denial),
@@ -90,16 +90,16 @@ pub fn by_marks(subject: &[u8], object: &[u8], wanted: u8) -> Verdict
 }
 
 // Whether two labels are equal, by the numbers that were found for them: their bytes are compared only where neither has one.
-fn same_label(subject: &[u8], object: &[u8], s: Found, o: Found) -> bool
+fn same_label(subject: &[u8], object: &[u8], s: Option<usize>, o: Option<usize>) -> bool
     ensures { result ≡ within.same_label subject.now object.now s o }
 {
-    let Found::At(i) = s else {
-        let Found::Nothing = o else {
+    let Some(i) = s else {
+        let None = o else {
             return false;
         };
         return search::same_bytes(subject, object);
     };
-    let Found::At(j) = o else {
+    let Some(j) = o else {
         return false;
     };
     i == j
@@ -107,42 +107,45 @@ fn same_label(subject: &[u8], object: &[u8], s: Found, o: Found) -> bool
 
 // Where the rule of two labels that were sought stands. The rule search, `places::find_pair`, is handed two numbers and lent no label; it is not begun
 // where a label has no number. Who calls it has tested the store, and has the numbers from searches of it.
-fn find_rule(entries: &[u8], words: &[u64], subject: Found, object: Found) -> Found
+fn find_rule(
+    entries: &[u8],
+    words: &[u64],
+    subject: Option<usize>,
+    object: Option<usize>,
+) -> Option<usize>
     requires tables_fit { (modes_from + rule_limit ≤ length entries.now) × (firsts_from ≤ length words.now) × Counts words.now }
     requires numbers_fit { (place_of subject 0 < label_limit) × (place_of object 0 < label_limit) }
     ensures { result ≡ rule_between (table_of (store [] entries.now words.now)) subject object }
 {
-    let Found::At(s) = subject else {
-        return Found::Nothing;
+    let Some(s) = subject else {
+        return None;
     };
-    let Found::At(o) = object else {
-        return Found::Nothing;
+    let Some(o) = object else {
+        return None;
     };
     places::find_pair(entries, words[store::RULE_COUNT] as usize, s as u8, o as u8)
 }
 
 // Whether the onlycap list holds a label, by its number. Who calls it has tested the store.
-fn on_list(entries: &[u8], words: &[u64], subject: Found) -> bool
+fn on_list(entries: &[u8], words: &[u64], subject: Option<usize>) -> bool
     requires { (onlycap_from + onlycap_limit ≤ length entries.now) × (firsts_from ≤ length words.now) × Counts words.now }
     ensures { result ≡ access.on_list (table_of (store [] entries.now words.now)).onlycap subject }
 {
-    let Found::At(s) = subject else {
+    let Some(s) = subject else {
         return false;
     };
     let count = words[store::ONLYCAP_COUNT] as usize;
-    let mut i = 0;
-    while i < count {
+    for i in 0..count {
         if s == entries[store::ONLYCAP_FROM + i] as usize {
             return true;
         }
-        i += 1;
     }
     false
 }
 
 // Whether override counts after a denial: the asker has it, and the onlycap list is empty or holds the subject. Who calls it has tested the
 // store.
-fn effective(entries: &[u8], words: &[u64], subject: Found, capable: bool) -> bool
+fn effective(entries: &[u8], words: &[u64], subject: Option<usize>, capable: bool) -> bool
     requires { (onlycap_from + onlycap_limit ≤ length entries.now) × (firsts_from ≤ length words.now) × Counts words.now }
     ensures { result ≡ access.effective (table_of (store [] entries.now words.now)) subject capable }
 {
@@ -156,7 +159,13 @@ fn effective(entries: &[u8], words: &[u64], subject: Found, capable: bool) -> bo
 }
 
 // The answer after a denial. Who calls it has tested the store.
-fn denied(entries: &[u8], words: &[u64], subject: Found, by: Denial, capable: bool) -> Answer
+fn denied(
+    entries: &[u8],
+    words: &[u64],
+    subject: Option<usize>,
+    by: Denial,
+    capable: bool,
+) -> Answer
     requires { (onlycap_from + onlycap_limit ≤ length entries.now) × (firsts_from ≤ length words.now) × Counts words.now }
     ensures { result ≡ access.denied (access.effective (table_of (store [] entries.now words.now)) subject capable) by }
 {
@@ -170,7 +179,7 @@ fn denied(entries: &[u8], words: &[u64], subject: Found, by: Denial, capable: bo
 fn answered(
     entries: &[u8],
     words: &[u64],
-    subject: Found,
+    subject: Option<usize>,
     verdict: Verdict,
     capable: bool,
 ) -> Answer
@@ -190,8 +199,8 @@ pub fn by_numbers(
     entries: &[u8],
     words: &[u64],
     same: bool,
-    s: Found,
-    o: Found,
+    s: Option<usize>,
+    o: Option<usize>,
     wanted: u8,
 ) -> Ruling
     requires tables_fit { (modes_from + rule_limit ≤ length entries.now) × (firsts_from ≤ length words.now) × Counts words.now }
@@ -204,7 +213,7 @@ pub fn by_numbers(
             modes: 0,
         };
     }
-    let Found::At(k) = find_rule(entries, words, s, o) else {
+    let Some(k) = find_rule(entries, words, s, o) else {
         return Ruling {
             verdict: Verdict::Denies(Denial::AnyOther),
             modes: 0,
@@ -225,17 +234,8 @@ pub fn by_numbers(
 
 // The first of the seven rules that applies decides. Where rules 1 to 4 do, no label is looked up, but for a denial that may be overridden. Otherwise each
 // label is looked up once, the object first at the place where the subject was found, where it stands under rule 5. Who calls it has tested the store.
-fn decide(
-    labels: &[u8],
-    entries: &[u8],
-    words: &[u64],
-    subject: &[u8],
-    object: &[u8],
-    wanted: u8,
-    capable: bool,
-) -> Answer
-    requires { Sizes labels.now entries.now words.now × Counts words.now }
-    ensures { result ≡ access.decide (table_of (store labels.now entries.now words.now)) subject.now object.now wanted capable }
+fn decide(tables: Tables, subject: &[u8], object: &[u8], wanted: u8, capable: bool) -> Answer
+    ensures { result ≡ access.decide (table_of (tested tables.entry)) subject.now object.now wanted capable }
 {
     match by_marks(subject, object, wanted) {
         Verdict::Grants(rule) => Answer::Granted(rule),
@@ -243,47 +243,53 @@ fn decide(
             if !capable {
                 return Answer::Denied(by);
             }
-            let s = places::find_label(labels, words[store::LABEL_COUNT] as usize, subject);
-            denied(entries, words, s, by, capable)
+            let s = places::find_label(
+                tables.labels,
+                tables.words[store::LABEL_COUNT] as usize,
+                subject,
+            );
+            denied(tables.entries, tables.words, s, by, capable)
         }
         Verdict::Undecided => {
-            let count = words[store::LABEL_COUNT] as usize;
-            let s = places::find_label(labels, count, subject);
-            let o = places::find_label_hinted(labels, count, object, s);
+            let count = tables.words[store::LABEL_COUNT] as usize;
+            let s = places::find_label(tables.labels, count, subject);
+            let o = places::find_label_hinted(tables.labels, count, object, s);
             let same = same_label(subject, object, s, o);
-            let ruling = by_numbers(entries, words, same, s, o, wanted);
+            let ruling = by_numbers(tables.entries, tables.words, same, s, o, wanted);
             let verdict = ruling.verdict;
-            answered(entries, words, s, verdict, capable)
+            answered(tables.entries, tables.words, s, verdict, capable)
         }
     }
 }
 
-// May a subject have the wanted access to an object? `capable` says whether the asker has the override capability.
-pub fn question(
-    labels: &[u8],
-    entries: &[u8],
-    words: &[u64],
+// The answer to a question, or why it is refused.
+fn asked(
+    state: Lent,
     subject: &[u8],
     object: &[u8],
     request: &[u8],
     capable: bool,
-) -> Answer
-    ensures { result ≡ access.question_of (store labels.now entries.now words.now) subject.now object.now request.now capable }
+) -> Result<Answer, Refusal>
+    ensures { within.answer_given result ≡ access.question_of (lent state.entry) subject.now object.now request.now capable }
 {
-    if !damage::undamaged(labels, entries, words) {
-        return Answer::Refused(refusals::DAMAGED);
-    }
-    if !alphabet::well_formed(subject) {
-        return Answer::Refused(alphabet::bad_label(subject));
-    }
-    if !alphabet::well_formed(object) {
-        return Answer::Refused(alphabet::bad_label(object));
-    }
+    let tables = damage::tested(state)?;
+    alphabet::check_label(subject)?;
+    alphabet::check_label(object)?;
     if request.len() == 0 {
-        return Answer::Refused(refusals::BAD_REQUEST);
+        return Err(Refusal::BadRequest);
     }
-    let Access::Modes(wanted) = modes::read_modes(request, modes::REQUEST_LETTERS, false) else {
-        return Answer::Refused(refusals::BAD_REQUEST);
+    let Some(wanted) = modes::read_modes(request, modes::REQUEST_LETTERS, false) else {
+        return Err(Refusal::BadRequest);
     };
-    decide(labels, entries, words, subject, object, wanted, capable)
+    Ok(decide(tables, subject, object, wanted, capable))
+}
+
+// May a subject have the wanted access to an object? `capable` says whether the asker has the override capability.
+pub fn question(state: Lent, subject: &[u8], object: &[u8], request: &[u8], capable: bool) -> Answer
+    ensures { result ≡ access.question_of (lent state.entry) subject.now object.now request.now capable }
+{
+    match asked(state, subject, object, request, capable) {
+        Ok(answer) => answer,
+        Err(refusal) => Answer::Refused(refusal),
+    }
 }

@@ -6,8 +6,8 @@ use Prim.Native.Nat.{ℕ, zero, suc, ◌+◌, ◌-◌, ◌<◌, ◌≤◌}
 use native.Mathlib.Omega.{arith}
 use lib.Bits.{bit_or, or_zero_l, or_add_and, and_le_r}
 use lib.Dec.{eqb, leb}
-use lib.ListN.{length, drop, get_or, length-drop}
-use lib.Seq.{take-suc, get_or-take, get_or-drop, length-take-le}
+use lib.ListN.{length, take, drop, get_or, length-drop}
+use lib.Seq.{take-suc, take-length, get_or-take, get_or-drop, length-take-le}
 use borrow.Author.Tests.{le-leb, ne_eqb}
 use Rattle.search.specs.Search.{all}
 use Rattle.search.proofs.Laws.{all_snoc}
@@ -34,6 +34,12 @@ part-more line start i h j =
     (take-suc (drop start line) (i - start) 0 (rw length-drop (omega arith)) ∙ rw (get_or-drop start line (i - start) 0, place))
 
 -- the classes of a field's bytes so far, joined, are 0 exactly where each byte is a label byte; and with the next byte
+pub items-length : (line : List ℕ) (start : ℕ) → length (take (length line - start) (drop start line)) ≡ length line - start
+items-length line start = let e : length (drop start line) ≡ length line - start = length-drop start line in rw (← e, take-length)
+
+pub item-at : (line : List ℕ) (start i end : ℕ) → start + i ≡ end → get_or (take (length line - start) (drop start line)) i 0 ≡ get_or line end 0
+item-at line start i end z = let e : length (drop start line) ≡ length line - start = length-drop start line in rw (← e, take-length, ← z) (get_or-drop start line i 0)
+
 pub joined-none : (line : List ℕ) (start : ℕ) → true ≡ all label_byte (part line start start)
 unfolding all
 joined-none line start = let z : start - start ≡ 0 = omega arith in rw z

@@ -11,8 +11,7 @@ use lib.ListN.{length, take, drop, get_or, length-take, length-drop, drop_of_len
 use lib.Seq.{drop-cons, drop-drop, take_all, get_or-take}
 use borrow.Author.Tests.{eqb-false, eq-eqb, ne_eqb, leb-true, le-leb, lt-leb, lt-ltb, le-ltb, ltb-true, ltb-false, not-true, not-false}
 use Rattle.search.specs.Search.{first, all, those, later}
-use Rattle.search.specs.declared.Found.{Found}
-use Rattle.search.specs.declared.Found.TheVariants.{At, Nothing}
+use Rattle.std.proofs.Common.{Option, Some, None}
 use Rattle.search.proofs.Laws.{no, and_both, eqb_is, or_is, not_is, number_is, all-at, all-by, first-at, first-none, entries-length, entries_at}
 use Rattle.alphabet.specs.Alphabet.{is_newline, is_blank, label_byte, class_by, class_of, LabelByte, Blank, ByteClass, ByteClasses, well_formed, LabelForm, onto, parts, has_byte, fields, label_longest, fault_of, or_too_long}
 use Rattle.alphabet.specs.Within.{class_table, run, start_of, end_of, field_at, part, with_form, label_field_at}
@@ -139,17 +138,17 @@ other_told b r e z = sym (class_label b) ∙ ne_eqb (class_of b) 0 (λ q. z (e �
 
 -- ---- a label and its first fault
 
-pub fault-empty : (l : List ℕ) → length l ≡ 0 → fault_of l ≡ At 0
+pub fault-empty : (l : List ℕ) → length l ≡ 0 → fault_of l ≡ Some 0
 unfolding fault_of
 fault-empty l e = rw (eq-eqb (length l) 0 e)
 
-pub fault-dash : (l : List ℕ) → (length l ≡ 0 → ⊥) → get_or l 0 0 ≡ 45 → fault_of l ≡ At 0
+pub fault-dash : (l : List ℕ) → (length l ≡ 0 → ⊥) → get_or l 0 0 ≡ 45 → fault_of l ≡ Some 0
 unfolding fault_of
 fault-dash l some e = rw (ne_eqb (length l) 0 some, eq-eqb (get_or l 0 0) 45 e)
 
 -- a label that has a byte and does not begin with a dash
 module _ (l : List ℕ) (some : length l ≡ 0 → ⊥) (plain : get_or l 0 0 ≡ 45 → ⊥) where
-  fault-by : (f : Found) → first (λ (b : ℕ). not (label_byte b)) (take label_longest l) ≡ f → fault_of l ≡ or_too_long f (length l)
+  fault-by : (f : Option ℕ) → first (λ (b : ℕ). not (label_byte b)) (take label_longest l) ≡ f → fault_of l ≡ or_too_long f (length l)
   unfolding fault_of
   fault-by f e = rw (ne_eqb (length l) 0 some, ne_eqb (get_or l 0 0) 45 plain, e)
 
@@ -164,31 +163,31 @@ module _ (l : List ℕ) (some : length l ≡ 0 → ⊥) (plain : get_or l 0 0 �
       i < label_longest →
       ((k : ℕ) → k < i → label_byte (get_or l k 0) ≡ true) →
       label_byte (get_or l i 0) ≡ false →
-      fault_of l ≡ At i
+      fault_of l ≡ Some i
   fault-at i h j fine here =
-      fault-by (At i)
+      fault-by (Some i)
       (first-at (λ (b : ℕ). not (label_byte b)) 0 (take label_longest l) i (rw length-take (omega arith)) (passed i fine (omega arith)) (rw (get_or-take label_longest l i 0 j, here)))
 
-  pub fault-long : label_longest < length l → ((k : ℕ) → k < label_longest → label_byte (get_or l k 0) ≡ true) → fault_of l ≡ At label_longest
+  pub fault-long : label_longest < length l → ((k : ℕ) → k < label_longest → label_byte (get_or l k 0) ≡ true) → fault_of l ≡ Some label_longest
   fault-long h fine =
-      fault-by Nothing
+      fault-by None
       (first-none (λ (b : ℕ). not (label_byte b)) 0 (take label_longest l) (λ k i. passed label_longest fine (omega arith) k (omega (arith, rw length-take at i))))
       ∙ rw (lt-leb (length l) label_longest h)
 
-  pub fault-none : length l ≤ label_longest → ((k : ℕ) → k < length l → label_byte (get_or l k 0) ≡ true) → fault_of l ≡ Nothing
+  pub fault-none : length l ≤ label_longest → ((k : ℕ) → k < length l → label_byte (get_or l k 0) ≡ true) → fault_of l ≡ None
   fault-none h fine =
-      fault-by Nothing
+      fault-by None
       (first-none (λ (b : ℕ). not (label_byte b)) 0 (take label_longest l) (λ k i. passed (length l) fine h k (omega (arith, rw length-take at i))))
       ∙ rw (le-leb (length l) label_longest h)
 
 -- whether a search found nothing
-abbrev pub missing : Found → Bool
-missing (At k) = false
-missing Nothing = true
+abbrev pub missing : Option ℕ → Bool
+missing (Some k) = false
+missing None = true
 
-missing_later : (f : Found) → missing (later f) ≡ missing f
-missing_later (At k) = refl
-missing_later Nothing = refl
+missing_later : (f : Option ℕ) → missing (later f) ≡ missing f
+missing_later (Some k) = refl
+missing_later None = refl
 
 -- every entry passes a test exactly where a search finds none that fails it
 pub all_missing : {A : Type 0} (p : A → Bool) (l : List A) → all p l ≡ missing (first (λ (x : A). not (p x)) l)
@@ -196,7 +195,7 @@ unfolding all first
 all_missing p [] = refl
 all_missing {A} p (x ∷ xs) = by-test (p x) (first (λ (y : A). not (p y)) xs) (all_missing p xs)
   where
-    by-test : (b : Bool) (f : Found) → all p xs ≡ missing f → (b && all p xs) ≡ missing (cond (not b) (At zero) (later f))
+    by-test : (b : Bool) (f : Option ℕ) → all p xs ≡ missing f → (b && all p xs) ≡ missing (cond (not b) (Some zero) (later f))
     by-test true f ih = ih ∙ sym (missing_later f)
     by-test false f ih = refl
 
@@ -216,21 +215,21 @@ formed_missing l =
     by-test :
         (empty dash short : Bool) →
         leb (length l) label_longest ≡ short →
-        (f : Found) (w : Bool) →
+        (f : Option ℕ) (w : Bool) →
         (short ≡ true → w ≡ missing f) →
-        (not empty && (short && (w && not dash))) ≡ missing (cond empty (At 0) (cond dash (At 0) (or_too_long f (length l))))
+        (not empty && (short && (w && not dash))) ≡ missing (cond empty (Some 0) (cond dash (Some 0) (or_too_long f (length l))))
     by-test true dash short e f w h = refl
     by-test false true true e f w h = and-false w
     by-test false true false e f w h = refl
-    by-test false false true e (At k) w h = rw (h refl)
-    by-test false false true e Nothing w h = rw (h refl, e)
-    by-test false false false e (At k) w h = refl
-    by-test false false false e Nothing w h = rw e
+    by-test false false true e (Some k) w h = rw (h refl)
+    by-test false false true e None w h = rw (h refl, e)
+    by-test false false false e (Some k) w h = refl
+    by-test false false false e None w h = rw e
 
-pub fault-formed : (l : List ℕ) → fault_of l ≡ Nothing → well_formed l ≡ true
+pub fault-formed : (l : List ℕ) → fault_of l ≡ None → well_formed l ≡ true
 fault-formed l e = formed_missing l ∙ ap missing e
 
-pub fault_unformed : (l : List ℕ) (k : ℕ) → fault_of l ≡ At k → well_formed l ≡ false
+pub fault_unformed : (l : List ℕ) (k : ℕ) → fault_of l ≡ Some k → well_formed l ≡ false
 fault_unformed l k e = formed_missing l ∙ ap missing e
 
 -- what a well-formed label is: it has a byte, it has at most 255, each is a label byte, and the first is no dash

@@ -10,8 +10,7 @@ use lib.ListN.{length, take, drop, get_or, length-take, length-drop, drop_of_len
 use lib.Seq.{drop-drop, get_or-take}
 use borrow.Author.Tests.{eqb-true, eqb-false, leb-false, ltb-false, not-true, not-false}
 use Rattle.search.specs.Search.{first, all, place_of}
-use Rattle.search.specs.declared.Found.{Found}
-use Rattle.search.specs.declared.Found.TheVariants.{At, Nothing}
+use Rattle.std.proofs.Common.{Option, Some, None}
 use Rattle.search.proofs.Laws.{no, not_so, first-is, first-before, first_fails}
 use Rattle.alphabet.specs.Alphabet.{is_blank, label_byte, LabelByte, well_formed, label_longest, or_too_long, fault_of, bad_byte, BadAt, FirstBad, onto, parts, is_bad, bad_byte_from, bad_byte_in, Blanks, NoBlanks, Cut, BadIn, FirstBadByte}
 use Rattle.alphabet.specs.Within.{run, start_of, end_of, field_at, part, label_field_at}
@@ -31,13 +30,13 @@ unlabel b h = not_so (label_byte b) (λ e. h ((label_is b).0 e))
 
 -- what a search for the first byte that is no label byte tells of the label
 module _ (l : List ℕ) where
-  abbrev searched : Found
+  abbrev searched : Option ℕ
   searched = first (λ (b : ℕ). not (label_byte b)) (take label_longest l)
 
   in_front : (k : ℕ) → k < label_longest → not (label_byte (get_or (take label_longest l) k 0)) ≡ false → LabelByte (get_or l k 0)
   in_front k h e = (label_is (get_or l k 0)).0 (not-false (label_byte (get_or l k 0)) (sym (ap (λ (b : ℕ). not (label_byte b)) (get_or-take label_longest l k 0 h)) ∙ e))
 
-  fault_there : (k : ℕ) → fault_of l ≡ At k → FirstBad l k
+  fault_there : (k : ℕ) → fault_of l ≡ Some k → FirstBad l k
   unfolding fault_of
   fault_there k e = by_tests (eqb (length l) 0) refl (eqb (get_or l 0 0) 45) refl searched refl e
     where
@@ -48,8 +47,8 @@ module _ (l : List ℕ) where
       at-start : BadAt l 0 → FirstBad l 0
       at-start b = record { fault = b; before = λ i h. absurd (omega arith); no_dash = λ h. absurd (omega arith) }
 
-      by_first : (get_or l 0 0 ≡ 45 → ⊥) → (f : Found) → searched ≡ f → or_too_long f (length l) ≡ At k → FirstBad l k
-      by_first d (At j) q e =
+      by_first : (get_or l 0 0 ≡ 45 → ⊥) → (f : Option ℕ) → searched ≡ f → or_too_long f (length l) ≡ Some k → FirstBad l k
+      by_first d (Some j) q e =
           let z : j ≡ k = cc in
           let i = first-is (λ (b : ℕ). not (label_byte b)) 0 (take label_longest l) j q in
           let n = rw length-take at i.0 in
@@ -59,9 +58,9 @@ module _ (l : List ℕ) where
             before = λ i h. in_front i (omega arith) (first-before (λ (b : ℕ). not (label_byte b)) 0 (take label_longest l) j q i h);
             no_dash = λ h. d;
           })
-      by_first d Nothing q e = by_length (leb (length l) label_longest) refl e
+      by_first d None q e = by_length (leb (length l) label_longest) refl e
         where
-          by_length : (t : Bool) → leb (length l) label_longest ≡ t → cond t Nothing (At label_longest) ≡ At k → FirstBad l k
+          by_length : (t : Bool) → leb (length l) label_longest ≡ t → cond t None (Some label_longest) ≡ Some k → FirstBad l k
           by_length true h e = let z : ◌≡◌ {A = ℕ} 0 1 = cc in absurd (omega arith)
           by_length false h e =
               let z : label_longest ≡ k = cc in
@@ -73,7 +72,7 @@ module _ (l : List ℕ) where
                 no_dash = λ h. d;
               })
 
-      by_tests : (a : Bool) → eqb (length l) 0 ≡ a → (d : Bool) → eqb (get_or l 0 0) 45 ≡ d → (f : Found) → searched ≡ f → cond a (At 0) (cond d (At 0) (or_too_long f (length l))) ≡ At k → FirstBad l k
+      by_tests : (a : Bool) → eqb (length l) 0 ≡ a → (d : Bool) → eqb (get_or l 0 0) 45 ≡ d → (f : Option ℕ) → searched ≡ f → cond a (Some 0) (cond d (Some 0) (or_too_long f (length l))) ≡ Some k → FirstBad l k
       by_tests true h d i f q e = let z : 0 ≡ k = cc in rw (← z) (at-start (nothing l (eqb-true (length l) 0 h)))
       by_tests false h true i f q e = let z : 0 ≡ k = cc in rw (← z) (at-start (BadAt.leading_dash l (eqb-true (get_or l 0 0) 45 i)))
       by_tests false h false i f q e = by_first (eqb-false (get_or l 0 0) 45 i) f q e
@@ -82,15 +81,15 @@ dash-is-byte : (l : List ℕ) → get_or l 0 0 ≡ 45 → length l ≡ 0 → ⊥
 dash-is-byte [] e i = omega arith
 dash-is-byte (b ∷ bs) e i = omega arith
 
-fault_back : (l : List ℕ) (k : ℕ) → FirstBad l k → fault_of l ≡ At k
+fault_back : (l : List ℕ) (k : ℕ) → FirstBad l k → fault_of l ≡ Some k
 fault_back l k w = by-fault w.fault w.before w.no_dash
   where
-    by-fault : {l : List ℕ} {k : ℕ} → BadAt l k → ((i : ℕ) → i < k → LabelByte (get_or l i 0)) → (0 < k → get_or l 0 0 ≡ 45 → ⊥) → fault_of l ≡ At k
+    by-fault : {l : List ℕ} {k : ℕ} → BadAt l k → ((i : ℕ) → i < k → LabelByte (get_or l i 0)) → (0 < k → get_or l 0 0 ≡ 45 → ⊥) → fault_of l ≡ Some k
     by-fault BadAt.empty before d = fault-empty [] refl
     by-fault (BadAt.leading_dash l e) before d = fault-dash l (dash-is-byte l e) e
     by-fault (BadAt.no_label_byte l zero h i bad) before d = by-dash (eqb (get_or l 0 0) 45) refl
       where
-        by-dash : (t : Bool) → eqb (get_or l 0 0) 45 ≡ t → fault_of l ≡ At 0
+        by-dash : (t : Bool) → eqb (get_or l 0 0) 45 ≡ t → fault_of l ≡ Some 0
         by-dash true e = fault-dash l (λ q. omega arith) (eqb-true (get_or l 0 0) 45 e)
         by-dash false e = fault-at l (λ q. omega arith) (eqb-false (get_or l 0 0) 45 e) 0 h i (λ j q. absurd (omega arith)) (unlabel (get_or l 0 0) bad)
     by-fault (BadAt.no_label_byte l (suc k) h i bad) before d =
@@ -107,17 +106,17 @@ bad_byte_small l = by-fault (fault_of l) refl
     small (BadAt.no_label_byte l k h i bad) = omega arith
     small (BadAt.too_long l h) = omega arith
 
-    by-fault : (f : Found) → fault_of l ≡ f → place_of f 0 ≤ 255
-    by-fault (At k) e = small (fault_there l k e).fault
-    by-fault Nothing e = omega arith
+    by-fault : (f : Option ℕ) → fault_of l ≡ f → place_of f 0 ≤ 255
+    by-fault (Some k) e = small (fault_there l k e).fault
+    by-fault None e = omega arith
 
 -- a label that is not well formed has one
 pub bad_byte-is : (l : List ℕ) → well_formed l ≡ false → FirstBad l (bad_byte l)
 bad_byte-is l w = by-fault (fault_of l) refl
   where
-    by-fault : (f : Found) → fault_of l ≡ f → FirstBad l (place_of f 0)
-    by-fault (At k) e = fault_there l k e
-    by-fault Nothing e = absurd (no (sym w ∙ fault-formed l e))
+    by-fault : (f : Option ℕ) → fault_of l ≡ f → FirstBad l (place_of f 0)
+    by-fault (Some k) e = fault_there l k e
+    by-fault None e = absurd (no (sym w ∙ fault-formed l e))
 
 -- ---- a text, by the runs of blanks and of other bytes, as the reader passes them
 
@@ -305,12 +304,12 @@ only_there (BadIn.behind start bs f rest place h bytes ends w later) =
     ∙ place-field (start + length bs) f rest w.some bytes (closed rest ends)
     ∙ rw ((label_form f).1 w, s) (only_there later)
 
-no_fault : (l : List ℕ) → well_formed l ≡ true → fault_of l ≡ Nothing
+no_fault : (l : List ℕ) → well_formed l ≡ true → fault_of l ≡ None
 no_fault l w = by-fault (fault_of l) (sym (formed_missing l) ∙ w)
   where
-    by-fault : (f : Found) → missing f ≡ true → f ≡ Nothing
-    by-fault (At k) e = absurd (no e)
-    by-fault Nothing e = refl
+    by-fault : (f : Option ℕ) → missing f ≡ true → f ≡ None
+    by-fault (Some k) e = absurd (no e)
+    by-fault None e = refl
 
 pub first_bad_byte : FirstBadByte
 unfolding bad_byte_in

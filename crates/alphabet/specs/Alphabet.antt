@@ -1,10 +1,8 @@
 -- 01, Labels 1 and 4, and the fields of 'Rule text': the class of a byte, a well-formed label, and the fields of a line; 02, Three: where the first bad byte is.
 -- The alphabet is that of the kernel's Smack text (source documents 000, 001 and 004); the 23-character limit of the
 -- first version (source document 003) is overruled. Assumes nothing.
-use Rattle.std.specs.Prelude.{ℕ, ◌+◌, ◌<◌, ◌≤◌, ◌≡◌, ◌↔◌, ◌≢◌, ◌⊎◌, Bool, true, false, cond, not, ◌&&◌, ◌||◌, List, [], ◌∷◌, ◌++◌, length, take, get_or, eqb, leb}
+use Rattle.std.specs.Prelude.{ℕ, ◌+◌, ◌<◌, ◌≤◌, ◌≡◌, ◌↔◌, ◌≢◌, ◌⊎◌, Bool, true, false, cond, not, ◌&&◌, ◌||◌, List, [], ◌∷◌, ◌++◌, length, take, get_or, eqb, leb, Option, Some, None}
 use Rattle.search.specs.Search.{first, all, those, place_of}
-use Rattle.search.specs.declared.Found.{Found}
-use Rattle.search.specs.declared.Found.TheVariants.{At, Nothing}
 
 -- ---- bytes
 
@@ -87,17 +85,17 @@ LabelForm = (l : List ℕ) → (well_formed l ≡ true) ↔ WellFormed l
 
 -- 0 where the label is empty or begins with a dash, the first byte that is no label byte, or 255 where it is too long and has no earlier fault; nothing
 -- where it is well formed
-abbrev pub or_too_long : Found → ℕ → Found
-or_too_long (At k) n = At k
-or_too_long Nothing n = cond (leb n label_longest) Nothing (At label_longest)
+abbrev pub or_too_long : Option ℕ → ℕ → Option ℕ
+or_too_long (Some k) n = Some k
+or_too_long None n = cond (leb n label_longest) None (Some label_longest)
 
-unfoldable pub fault_of : List ℕ → Found
+unfoldable pub fault_of : List ℕ → Option ℕ
 unfolding label_byte
 fault_of l =
     cond (eqb (length l) 0)
-    (At 0)
+    (Some 0)
     (cond (eqb (get_or l 0 0) dash)
-    (At 0)
+    (Some 0)
     (or_too_long (first (λ (b : ℕ). not (label_byte b)) (take label_longest l)) (length l)))
 
 -- the same as a number, of a label that is not well formed
@@ -204,7 +202,7 @@ pub data BadIn : ℕ → List ℕ → ℕ → Type 0 where
 
 -- so it is of every label, and of every text with a field that is no label; and there is no other such place
 pub record FirstBadByte : Type 0 where
-  pub label : (l : List ℕ) (k : ℕ) → (fault_of l ≡ At k) ↔ FirstBad l k
-  pub well_formed_is : (l : List ℕ) → (fault_of l ≡ Nothing) ↔ WellFormed l
+  pub label : (l : List ℕ) (k : ℕ) → (fault_of l ≡ Some k) ↔ FirstBad l k
+  pub well_formed_is : (l : List ℕ) → (fault_of l ≡ None) ↔ WellFormed l
   pub text : (text : List ℕ) → all well_formed (fields text) ≡ false → BadIn 0 text (bad_byte_in text)
   pub no_other : (text : List ℕ) (place : ℕ) → BadIn 0 text place → bad_byte_in text ≡ place

@@ -1,13 +1,12 @@
 // The bytes of labels and lines: the class of each byte, what a well-formed label is, and the fields of a line (01, Labels and Rule text).
 #![tactic(auto)]
 
-ghost use Rattle.std.specs.Prelude.{◌≡◌, ◌+◌, ◌≤◌, drop, get_or, length};
+ghost use Rattle.std.specs.Prelude.{◌≡◌, true, false, IfOk, IfErr, ◌+◌, ◌≤◌, drop, get_or, length};
 ghost use Rattle.refusals.specs.Refusals.{bad_label_at};
 ghost use Rattle.alphabet.specs.Alphabet.{label_byte, class_of, ByteClasses, well_formed, fault_of, bad_byte, bad_byte_in, FieldsOfALine, FirstBadByte};
 ghost use Rattle.alphabet.specs.Within.{class_table, text_longest, run, field_at, label_field_at, label_bytes, high_bit};
 
 use refusals::Refusal;
-use search::Found;
 
 // The bytes that have a part of their own.
 pub const NEWLINE: u8 = b'\n';
@@ -314,27 +313,25 @@ fn class(classes: &[u8], b: u8) -> u8
 
 // The place of the first fault of a label, or nothing where it is well formed: 0 for an empty label and for a leading dash, 255 for one
 // that is too long and has no earlier fault.
-pub fn label_fault(label: &[u8]) -> Found
+pub fn label_fault(label: &[u8]) -> Option<usize>
     ensures { result ≡ fault_of label.now }
 {
     if label.len() == 0 {
-        return Found::At(0);
+        return Some(0);
     }
     if label[0] == DASH {
-        return Found::At(0);
+        return Some(0);
     }
     let classes = classes();
-    let mut i = 0;
-    while i < label.len() {
+    for (i, b) in label.iter().enumerate() {
         if i == LABEL_LONGEST {
-            return Found::At(LABEL_LONGEST);
+            return Some(LABEL_LONGEST);
         }
-        if class(&classes, label[i]) != IN_A_LABEL {
-            return Found::At(i);
+        if class(&classes, *b) != IN_A_LABEL {
+            return Some(i);
         }
-        i += 1;
     }
-    Found::Nothing
+    None
 }
 
 // Refusal 3 of a label that is not well formed, with the place of its first bad byte.
@@ -342,11 +339,8 @@ pub fn bad_label(label: &[u8]) -> Refusal
     ensures { result ≡ bad_label_at (bad_byte label.now) }
 {
     match label_fault(label) {
-        Found::At(place) => Refusal {
-            number: refusals::BAD_LABEL.number,
-            place,
-        },
-        Found::Nothing => refusals::BAD_LABEL,
+        Some(place) => Refusal::BadLabel { place },
+        None => Refusal::BadLabel { place: 0 },
     }
 }
 
@@ -355,10 +349,8 @@ pub fn bad_label_at(label: &[u8], start: usize) -> Refusal
     requires { start ≤ text_longest }
     ensures { result ≡ bad_label_at (start + bad_byte label.now) }
 {
-    let bad = bad_label(label);
-    Refusal {
-        number: bad.number,
-        place: start + bad.place,
+    Refusal::BadLabel {
+        place: start + bad_label(label).place(),
     }
 }
 
@@ -381,40 +373,15 @@ fn label_high(b: u8) -> u8
         & (b ^ 255)
 }
 
-// 128 or more exactly where the 4, 16 or 32 bytes of a label from an index on are label bytes. How many is a constant in each, so that the compiler
-// can take them at once; the smaller of two numbers is 128 or more where both are. Who calls one has made sure that the label has that many.
-fn lowest_of_4(label: &[u8], at: usize) -> u8
-    requires { at + 4 ≤ length label.now }
-    ensures { high_bit result ≡ label_bytes label.now at (at + 4) }
-{
-    search::smaller(
-        search::smaller(label_high(label[at]), label_high(label[at + 1])),
-        search::smaller(label_high(label[at + 2]), label_high(label[at + 3])),
-    )
-}
-
-fn lowest_of_16(label: &[u8], at: usize) -> u8
-    requires { at + 16 ≤ length label.now }
-    ensures { high_bit result ≡ label_bytes label.now at (at + 16) }
+// 128 or more exactly where the N bytes of a label from an index on are label bytes. How many is a constant, so that the compiler can take them
+// at once; the smaller of two numbers is 128 or more where both are. Who calls it has made sure that the label has that many.
+fn lowest_of<const N: usize>(label: &[u8], at: usize) -> u8
+    requires { at + N ≤ length label.now }
+    ensures { high_bit result ≡ label_bytes label.now at (at + N) }
 {
     let mut low = 255;
-    let mut i = 0;
-    while i < 16 {
+    for i in 0..N {
         low = search::smaller(low, label_high(label[at + i]));
-        i += 1;
-    }
-    low
-}
-
-fn lowest_of_32(label: &[u8], at: usize) -> u8
-    requires { at + 32 ≤ length label.now }
-    ensures { high_bit result ≡ label_bytes label.now at (at + 32) }
-{
-    let mut low = 255;
-    let mut i = 0;
-    while i < 32 {
-        low = search::smaller(low, label_high(label[at + i]));
-        i += 1;
     }
     low
 }
@@ -427,10 +394,8 @@ fn lowest(label: &[u8]) -> u8
     let n = label.len();
     if n < 4 {
         let mut low = 255;
-        let mut i = 0;
-        while i < n {
-            low = search::smaller(low, label_high(label[i]));
-            i += 1;
+        for b in label {
+            low = search::smaller(low, label_high(*b));
         }
         return low;
     }
@@ -438,17 +403,17 @@ fn lowest(label: &[u8]) -> u8
         let second = search::second_four(n);
         let third = search::third_four(n);
         return search::smaller(
-            search::smaller(lowest_of_4(label, 0), lowest_of_4(label, second)),
-            search::smaller(lowest_of_4(label, third), lowest_of_4(label, n - 4)),
+            search::smaller(lowest_of::<4>(label, 0), lowest_of::<4>(label, second)),
+            search::smaller(lowest_of::<4>(label, third), lowest_of::<4>(label, n - 4)),
         );
     }
     if n < 32 {
-        return search::smaller(lowest_of_16(label, 0), lowest_of_16(label, n - 16));
+        return search::smaller(lowest_of::<16>(label, 0), lowest_of::<16>(label, n - 16));
     }
-    let mut low = lowest_of_32(label, n - 32);
+    let mut low = lowest_of::<32>(label, n - 32);
     let mut i = 0;
     while i + 32 < n {
-        low = search::smaller(low, lowest_of_32(label, i));
+        low = search::smaller(low, lowest_of::<32>(label, i));
         i += 32;
     }
     low
@@ -465,8 +430,19 @@ pub fn well_formed(label: &[u8]) -> bool
     (127 < lowest(label)) & (label[0] != DASH)
 }
 
+// That a label is well formed, or refusal 3 with the place of its first bad byte.
+pub fn check_label(label: &[u8]) -> Result<(), Refusal>
+    ensures ok { IfOk result (λ _. well_formed label.now ≡ true) }
+    ensures err { IfErr result (λ why. (why ≡ bad_label_at (bad_byte label.now)) × (well_formed label.now ≡ false)) }
+{
+    if !well_formed(label) {
+        return Err(bad_label(label));
+    }
+    Ok(())
+}
+
 // What a field reader answers: where the next field starts and where it ends, which is where the reader goes on; or that none is left.
-#[derive(Drop)]
+#[derive(Clone, Copy, Debug, PartialEq, Eq)]
 pub enum Field {
     Part { start: usize, end: usize },
     End,
@@ -477,14 +453,12 @@ fn skip(classes: &[u8], line: &[u8], from: usize, blanks: bool) -> usize
     requires { classes.now ≡ class_table }
     ensures { result ≡ from + run blanks (drop from line.now) }
 {
-    let mut i = from;
-    while i < line.len() {
+    for i in from..line.len() {
         if (class(classes, line[i]) == BLANK) != blanks {
             return i;
         }
-        i += 1;
     }
-    i
+    from.max(line.len())
 }
 
 // The next field of a line from an index on: a longest run of bytes that are no blanks. Who calls it lends the table that `classes` gives.
@@ -509,7 +483,7 @@ pub fn next_field(line: &[u8], from: usize) -> Field
 }
 
 // A field with whether its bytes are a well-formed label; or that none is left.
-#[derive(Drop)]
+#[derive(Clone, Copy, Debug, PartialEq, Eq)]
 pub enum LabelField {
     Part {
         start: usize,
@@ -531,8 +505,8 @@ pub fn next_label_field(classes: &[u8], line: &[u8], from: usize) -> LabelField
     }
     let start = end;
     let mut joined = IN_A_LABEL;
-    while end < line.len() {
-        let class = class(classes, line[end]);
+    for b in &line[start..] {
+        let class = class(classes, *b);
         if class == BLANK {
             break;
         }
@@ -558,7 +532,7 @@ pub fn bad_label_in(text: &[u8]) -> Refusal
     let mut at = 0;
     loop {
         let LabelField::Part { start, end, formed } = next_label_field(&classes, text, at) else {
-            return refusals::BAD_LABEL;
+            return Refusal::BadLabel { place: 0 };
         };
         if !formed {
             return bad_label_at(&text[start..end], start);

@@ -5,65 +5,61 @@
 ghost use Rattle.program.specs.Turns.{went_count};
 ghost use Rattle.program.specs.Steps.{Front};
 
-use program::{Session, Turn};
+use program::{Declined, Session};
 use std::io::Read;
+use store::LentMut;
 
 // How much is read at once, and the room for what so much input may say: a line for each byte.
 const PIECE: usize = 1024;
 
 const OUT: usize = PIECE * program::LINE_ROOM;
 
-// What one read came to: the session to go on with, or that there is nothing more to do.
-#[derive(Drop)]
-enum Next {
-    More(Session),
-    Stop,
-}
-
 // Says on standard error why the run ends early. Where that can't be written either, nobody is told.
 fn complain(rt: &impl Eprint, why: &str) {
     let _ = eprintln!(rt; "balqirven_ask: {why}");
 }
 
-// Writes what a call of the session put at the front of the output, and answers how to go on.
-fn put_out(rt: &(impl Print + Eprint), out: &[u8], turn: Turn) -> Next
+// Writes what a call of the session put at the front of the output, and answers the session to go on with, or nothing where there is no more to do.
+fn put_out(
+    rt: &(impl Print + Eprint),
+    out: &[u8],
+    turn: Result<(Session, usize), Declined>,
+) -> Option<Session>
     requires { Front (went_count turn) out.now }
 {
-    let Turn::Went(next, count) = turn else {
+    let Ok((next, count)) = turn else {
         complain(rt, "damaged state");
-        return Next::Stop;
+        return None;
     };
     match rt.write_all(&out[..count]) {
-        Ok(()) => Next::More(next),
+        Ok(()) => Some(next),
         Err(_) => {
             complain(rt, "cannot write to standard output");
-            Next::Stop
+            None
         }
     }
 }
 
-// Reads once, in whatever piece comes, and answers how to go on.
+// Reads once, in whatever piece comes, and answers the session to go on with, or nothing where there is no more to do.
 fn read_once(
     rt: &(impl Print + Eprint),
     input: &mut impl Read,
-    labels: &mut [u8],
-    entries: &mut [u8],
-    words: &mut [u64],
+    state: &mut LentMut,
     line: &mut [u8],
     out: &mut [u8],
     s: Session,
-) -> Next {
+) -> Option<Session> {
     let mut piece = [0u8; PIECE];
     let Ok(n) = input.read(&mut piece) else {
         complain(rt, "cannot read standard input");
-        return Next::Stop;
+        return None;
     };
     if n == 0 {
-        let last = program::finish(labels, entries, words, line, out, s);
+        let last = program::finish(state, line, out, s);
         put_out(rt, out, last);
-        return Next::Stop;
+        return None;
     }
-    let turn = program::feed(labels, entries, words, line, out, s, &piece[..n]);
+    let turn = program::feed(state, line, out, s, &piece[..n]);
     put_out(rt, out, turn)
 }
 
@@ -76,23 +72,17 @@ fn out_of_turns(rt: &impl Eprint) {
 fn read_all(
     rt: &(impl Print + Eprint),
     input: &mut impl Read,
-    labels: &mut [u8],
-    entries: &mut [u8],
-    words: &mut [u64],
+    state: &mut LentMut,
     line: &mut [u8],
     out: &mut [u8],
     begun: Session,
 ) {
     let mut s = begun;
     for _ in 0..u64::MAX {
-        match read_once(rt, input, labels, entries, words, line, out, s) {
-            Next::More(next) => {
-                s = next;
-            }
-            Next::Stop => {
-                return;
-            }
-        }
+        let Some(next) = read_once(rt, input, state, line, out, s) else {
+            return;
+        };
+        s = next;
     }
     out_of_turns(rt);
 }
@@ -104,14 +94,10 @@ fn main(rt: HostRuntime) {
     let mut line = [0u8; alphabet::LINE_LIMIT];
     let mut out = [0u8; OUT];
     let s = program::begin(&mut labels, &entries, &mut words);
-    read_all(
-        &rt,
-        &mut rt.stdin(),
-        &mut labels,
-        &mut entries,
-        &mut words,
-        &mut line,
-        &mut out,
-        s,
-    );
+    let mut state = LentMut {
+        labels: &mut labels,
+        entries: &mut entries,
+        words: &mut words,
+    };
+    read_all(&rt, &mut rt.stdin(), &mut state, &mut line, &mut out, s);
 }

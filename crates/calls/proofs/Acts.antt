@@ -11,8 +11,7 @@ use Rattle.search.specs.Bytes.{same_bytes}
 use Rattle.refusals.specs.Refusals.{too_long, same_labels, labels_full, rules_full, mappings_full, bad_label_at}
 use Rattle.alphabet.specs.Alphabet.{well_formed, fields, bad_byte, bad_byte_in}
 use Rattle.modes.specs.Modes.{read_modes, line_letters, change_letters, stored_modes}
-use Rattle.modes.specs.declared.Access.{Access}
-use Rattle.modes.specs.declared.Access.TheVariants.{Modes, Bad}
+use Rattle.std.proofs.Common.{Option, Some, None}
 use Rattle.store.specs.Table.{Table, label_in, no_place}
 use Rattle.lines.specs.Lines.{Said, skipped, refused, rule, change, rule_of, change_of, rule_by, rule_with, rule_fields, change_by, change_with, change_fields, bring_up_in}
 use Rattle.writes.specs.Writes.{judged, changed}
@@ -70,15 +69,15 @@ no_change : (line : List ℕ) → NoChange (rule_of line)
 unfolding rule_of rule_by
 no_change line = by_length (ltb 600 (length line))
   where
-    by-access : (s o : List ℕ) (b : Bool) (x : Access) → NoChange (rule_with s o x)
-    by-access s o b Bad = tt
-    by-access s o b (Modes n) = by-same (same_bytes s o)
+    by-access : (s o : List ℕ) (b : Bool) (x : Option ℕ) → NoChange (rule_with s o x)
+    by-access s o b None = tt
+    by-access s o b (Some n) = by-same (same_bytes s o)
       where
         by-same : (c : Bool) → NoChange (cond c (refused same_labels) (rule s o (stored_modes n)))
         by-same true = tt
         by-same false = tt
 
-    by-formed : (s o : List ℕ) (x : Access) (b : Bool) → NoChange (cond b (rule_with s o x) (refused (bad_label_at (bad_byte_in line))))
+    by-formed : (s o : List ℕ) (x : Option ℕ) (b : Bool) → NoChange (cond b (rule_with s o x) (refused (bad_label_at (bad_byte_in line))))
     by-formed s o x true = by-access s o true x
     by-formed s o x false = tt
 
@@ -130,16 +129,16 @@ only-change : (text : List ℕ) → OnlyChange (change_of text)
 unfolding change_of change_by
 only-change text = by_length (ltb 600 (length text))
   where
-    by-access : (s o : List ℕ) (x y : Access) → OnlyChange (change_with s o x y)
-    by-access s o Bad y = tt
-    by-access s o (Modes a) Bad = tt
-    by-access s o (Modes a) (Modes d) = by-same (same_bytes s o)
+    by-access : (s o : List ℕ) (x y : Option ℕ) → OnlyChange (change_with s o x y)
+    by-access s o None y = tt
+    by-access s o (Some a) None = tt
+    by-access s o (Some a) (Some d) = by-same (same_bytes s o)
       where
         by-same : (c : Bool) → OnlyChange (cond c (refused same_labels) (change s o a d))
         by-same true = tt
         by-same false = tt
 
-    by-formed : (s o : List ℕ) (x y : Access) (b : Bool) → OnlyChange (cond b (change_with s o x y) (refused (bad_label_at (bad_byte_in text))))
+    by-formed : (s o : List ℕ) (x y : Option ℕ) (b : Bool) → OnlyChange (cond b (change_with s o x y) (refused (bad_label_at (bad_byte_in text))))
     by-formed s o x y true = by-access s o x y
     by-formed s o x y false = tt
 

@@ -6,6 +6,7 @@ use mathlib.Core.Path.{◌≡◌, refl, sym, ap, ◌∙◌}
 use mathlib.Core.Bool.{Bool, true, false, cond}
 use mathlib.Core.List.{List, [], ◌∷◌}
 use lib.ListN.{length, take, drop}
+use Rattle.refusals.specs.Refusals.{damaged}
 use Rattle.std.specs.Borrow.{Bor, MutBor}
 use prog.Routine.{Env, Callee}
 use prog.Wired.{Code, Wired}
@@ -74,8 +75,8 @@ use Rattle.balqirven.proofs.bq_label.Kinds as label-kinds
 use Rattle.balqirven.proofs.bq_label.Reads as label-reads
 use Rattle.balqirven.proofs.bq_label.Symbol as label-symbol
 use Rattle.balqirven.proofs.bq_label.Met as label-met
-use Rattle.store.specs.declared.Done.{Done}
-use Rattle.store.specs.declared.Done.TheVariants as d
+use Rattle.std.proofs.Common.{Result, Ok, Err}
+use Rattle.refusals.specs.declared.Refusal.{Refusal}
 use Rattle.store.specs.Layout.{Store}
 use Rattle.writes.specs.Writes.{change_answer, change_store}
 use Rattle.revoke.specs.Revoke.{revoke_answer, revoke_store}
@@ -89,8 +90,6 @@ use Rattle.cipso_option.specs.Option.{option_answer, option_out, peer_given, pee
 use Rattle.answers.specs.Answers.{shown, object_shown}
 use Rattle.reports.specs.declared.Loader.{Loader}
 use Rattle.reports.specs.Report.{fresh_loader}
-use Rattle.load.specs.declared.Fed.TheVariants as f
-use Rattle.load.specs.declared.Ended.TheVariants as e
 use Rattle.load.specs.Loader.{Load, load, ready, step_piece, step_end, piece_answer, piece_after, end_answer, end_after}
 use Rattle.answers.specs.Answers.{write_shown, revoke_shown, piece_shown, end_shown, output_shown, lookup_shown, search_shown, part_shown}
 use Rattle.listing.proofs.Laws.{label-done, label_is, label-refused}
@@ -164,7 +163,7 @@ piece-loader : (s : Load) (text : List ℕ) → (piece_shown s.loader (piece_ans
 unfolding piece_answer piece_after
 piece-loader s text = by-test (ready s)
   where
-    by-test : (b : Bool) → (piece_shown s.loader (cond b (f.Done (step_piece s text).loader) (f.Refused 0))).loader ≡ (cond b (step_piece s text) s).loader
+    by-test : (b : Bool) → (piece_shown s.loader (cond b (Ok (step_piece s text).loader) (Err damaged))).loader ≡ (cond b (step_piece s text) s).loader
     by-test true = refl
     by-test false = refl
 
@@ -174,7 +173,7 @@ end-loader s = by-test (ready s)
   where
     by-test :
         (b : Bool) →
-        (end_shown s.loader (cond b (e.Report (step_end s).loader.report fresh_loader) (e.Refused 0))).loader
+        (end_shown s.loader (cond b (Ok ((step_end s).loader.report, fresh_loader)) (Err damaged))).loader
         ≡ (cond b (load (step_end s).store (step_end s).line fresh_loader) s).loader
     by-test true = refl
     by-test false = refl
@@ -187,16 +186,16 @@ label-given : (st : Store) (k : ℕ) → take (part_shown k (length (label_given
 label-given st k = by_answer (label_answer st k) refl
   where
     by_answer :
-        (x : Done) →
+        (x : Result (Unit {0}) Refusal) →
         label_answer st k ≡ x →
         take (part_shown k (length (label_given st k)) x).length (drop (part_shown k (length (label_given st k)) x).start st.labels) ≡ label_given st k
-    by_answer d.Done e =
+    by_answer (Ok tt) e =
         let h = label-done st k e in
         let few : k < 64 = omega (arith, h.1, h.0.counts.labels) in
         ap (λ (x : List ℕ). take (length x) (drop (k * 256 + 1) st.labels)) (sym (label_is st k h.0 h.1))
         ∙ label-stands st.labels k h.0.sizes.labels few
         ∙ label_is st k h.0 h.1
-    by_answer (d.Refused j) e = label-refused st k j e
+    by_answer (Err j) e = label-refused st k j e
 
 -- calls within the contracts, from any state
 

@@ -4,24 +4,19 @@ use mathlib.Core.Path.{◌≡◌, refl, sym, ap, ◌∙◌, subst}
 use mathlib.Core.Bool.{true, false}
 use mathlib.Core.List.{List, [], ◌∷◌, foldl, map}
 use Rattle.refusals.specs.Refusals as refusal
-use Rattle.store.specs.declared.Done.{Done}
-use Rattle.store.specs.declared.Done.TheVariants as d
+use Rattle.std.proofs.Common.{Result, Ok, Err}
+use Rattle.refusals.specs.declared.Refusal.{Refusal}
+use Rattle.reports.specs.declared.Report.{Report}
 use Rattle.store.specs.Table.{Table}
 use Rattle.store.specs.Layout.{Store, store, table_of, undamaged_of}
 use Rattle.writes.specs.Writes.{change_answer}
 use Rattle.revoke.specs.Revoke.{revoke_answer}
-use Rattle.revoke.specs.declared.Revoked.{Revoked}
-use Rattle.revoke.specs.declared.Revoked.TheVariants as v
 use Rattle.onlycap.specs.Onlycap.{onlycap_answer}
 use Rattle.cipso.specs.Cipso.{map_answer}
 use Rattle.listing.specs.Listing.{label_answer}
 use Rattle.cipso_option.specs.Option.{peer_shown}
 use Rattle.answers.specs.Answers.{shown, object_shown}
 use Rattle.reports.specs.declared.Loader.{Loader}
-use Rattle.load.specs.declared.Fed.{Fed}
-use Rattle.load.specs.declared.Fed.TheVariants as f
-use Rattle.load.specs.declared.Ended.{Ended}
-use Rattle.load.specs.declared.Ended.TheVariants as e
 use Rattle.load.specs.Loader.{Load, load, ready, piece_answer, piece_after, end_answer, end_after}
 use Rattle.answers.specs.Answers.{write_shown, revoke_shown, piece_shown, end_shown, output_shown, lookup_shown, search_shown}
 use Rattle.answers.specs.declared.Length.{Length}
@@ -37,21 +32,21 @@ use Rattle.calls.proofs.Acts.{made, grown-made}
 
 -- ---- what a host reads of an answer is the answer
 
-shown-taken : (l : Loader) (x : Fed) → taken_reply (piece_shown l x) ≡ fed_reply x
-shown-taken l (f.Done n) = refl
-shown-taken l (f.Refused n) = refl
+shown-taken : (l : Loader) (x : Result Loader Refusal) → taken_reply (piece_shown l x) ≡ fed_reply x
+shown-taken l (Ok n) = refl
+shown-taken l (Err n) = refl
 
-shown-finished : (l : Loader) (x : Ended) → finished_reply (end_shown l x) ≡ end-reply x
-shown-finished l (e.Report n m) = refl
-shown-finished l (e.Refused n) = refl
+shown-finished : (l : Loader) (x : Result (Report × Loader) Refusal) → finished_reply (end_shown l x) ≡ end-reply x
+shown-finished l (Ok (n, m)) = refl
+shown-finished l (Err n) = refl
 
-shown-written : (x : Done) → written_reply (write_shown x) ≡ done_reply x
-shown-written d.Done = refl
-shown-written (d.Refused n) = refl
+shown-written : (x : Result (Unit {0}) Refusal) → written_reply (write_shown x) ≡ done_reply x
+shown-written (Ok tt) = refl
+shown-written (Err n) = refl
 
-shown-counted : (x : Revoked) → counted_reply (revoke_shown x) ≡ count_reply x
-shown-counted (v.Count n) = refl
-shown-counted (v.Refused n) = refl
+shown-counted : (x : Result ℕ Refusal) → counted_reply (revoke_shown x) ≡ count_reply x
+shown-counted (Ok n) = refl
+shown-counted (Err n) = refl
 
 both_listed : {x y : Length} {out to : List ℕ} → x ≡ y → out ≡ to → r.listed x out ≡ r.listed y to
 both_listed e f = rw (e, f)
@@ -156,11 +151,11 @@ unfolding ready
 never_ready s e = rw e
 
 module _ {s : Load} (u : undamaged_of s.store ≡ false) where
-  piece-refused : (text : List ℕ) {s' : Load} → s' ≡ piece_after s text → (fed_reply (piece_answer s text) ≡ r.refusal refusal.damaged) × (s' ≡ s)
+  piece-refused : (text : List ℕ) {s' : Load} → s' ≡ piece_after s text → (fed_reply (piece_answer s text) ≡ r.refusal (refusal.told refusal.damaged)) × (s' ≡ s)
   unfolding piece_answer piece_after
   piece-refused text q = let z = never_ready s u in (rw z, rw z at q)
 
-  end_refused : {s' : Load} → s' ≡ end_after s → (end-reply (end_answer s) ≡ r.refusal refusal.damaged) × (s' ≡ s)
+  end_refused : {s' : Load} → s' ≡ end_after s → (end-reply (end_answer s) ≡ r.refusal (refusal.told refusal.damaged)) × (s' ≡ s)
   unfolding end_answer end_after
   end_refused q = let z = never_ready s u in (rw z, rw z at q)
 

@@ -1,6 +1,6 @@
 -- Demand 3: what holds after every list of calls. Assumes nothing.
-use Rattle.std.specs.Prelude.{ℕ, ◌≡◌, true, cond, List, [], ◌∷◌, ◌++◌}
-use Rattle.refusals.specs.Refusals.{damaged}
+use Rattle.std.specs.Prelude.{ℕ, ◌≡◌, true, cond, List, [], ◌∷◌, ◌++◌, Err}
+use Rattle.refusals.specs.Refusals.{told, damaged}
 use Rattle.refusals.specs.declared.Refusal.{Refusal}
 use Rattle.alphabet.specs.Alphabet.{is_newline, fields}
 use Rattle.numbers.specs.declared.CategorySet.{CategorySet}
@@ -10,12 +10,8 @@ use Rattle.lines.specs.Lines.{rule_of}
 use Rattle.writes.specs.Writes.{judged, changed}
 use Rattle.store.specs.Judged.{is_skipped, is_refused, is_accepted}
 use Rattle.cipso_option.specs.Option.{not_read, peer_shown}
-use Rattle.new_object.specs.declared.ObjectLabel.TheVariants as object-label
 use Rattle.answers.specs.Answers.{shown, lookup_shown, search_shown, output_shown, object_shown}
 use Rattle.access.specs.declared.Answer.TheVariants as answer
-use Rattle.lookups.specs.declared.Lookup.TheVariants as lookup
-use Rattle.lookups.specs.declared.Label.TheVariants as label
-use Rattle.output.specs.declared.Output.TheVariants as listed
 use Rattle.load.specs.Loader.{Load}
 use Rattle.lists.specs.Reader as r
 use Rattle.lists.specs.Reader.{start_on, Write, Call, Reply, judge_write, after_all, says_all, Event, byte, stop, wrote, events}
@@ -95,15 +91,15 @@ pub record PlainReaders (s : Load) (cs : List Call) (rs : List Reply) (s' : Load
 -- ---- of a damaged table every call is refused with 0, and a lent buffer is as it was
 
 abbrev pub refusal_of : Call → Reply
-refusal_of (r.piece text) = r.refusal damaged
-refusal_of r.end_call = r.refusal damaged
-refusal_of (r.write w) = r.refusal damaged
+refusal_of (r.piece text) = r.refusal (told damaged)
+refusal_of r.end_call = r.refusal (told damaged)
+refusal_of (r.write w) = r.refusal (told damaged)
 refusal_of (r.ask (r.question s o request capable)) = r.answered (shown (answer.Refused damaged))
-refusal_of (r.ask (r.by_label l)) = r.mapped (lookup_shown (lookup.Refused damaged))
-refusal_of (r.ask (r.by_level level set)) = r.lowest (search_shown (label.Refused damaged.number))
-refusal_of (r.ask (r.list_a_rule k out)) = r.listed (output_shown (listed.Refused damaged.number)) out
-refusal_of (r.ask (r.label k)) = r.refusal damaged
-refusal_of (r.ask (r.label_check k)) = r.refusal damaged
-refusal_of (r.ask (r.write_option l out)) = r.listed (output_shown (listed.Refused damaged.number)) out
-refusal_of (r.ask (r.read_option option)) = r.peer (peer_shown (not_read damaged.number))
-refusal_of (r.ask (r.new_object creator folder folder_transmutes is_folder)) = r.labelled (object_shown (object-label.Refused damaged.number))
+refusal_of (r.ask (r.by_label l)) = r.mapped (lookup_shown (Err damaged))
+refusal_of (r.ask (r.by_level level set)) = r.lowest (search_shown (Err damaged))
+refusal_of (r.ask (r.list_a_rule k out)) = r.listed (output_shown (Err damaged)) out
+refusal_of (r.ask (r.label k)) = r.refusal (told damaged)
+refusal_of (r.ask (r.label_check k)) = r.refusal (told damaged)
+refusal_of (r.ask (r.write_option l out)) = r.listed (output_shown (Err damaged)) out
+refusal_of (r.ask (r.read_option option)) = r.peer (peer_shown (not_read damaged))
+refusal_of (r.ask (r.new_object creator folder folder_transmutes is_folder)) = r.labelled (object_shown (Err damaged))

@@ -10,8 +10,7 @@ use borrow.Author.Tests.{eq-eqb, ne_eqb, le-leb, lt-leb, ltb-true, ltb-false}
 use lib.ListN.{length, take, drop, get_or, length-append, length-take, length-drop, drop_of_length-le}
 use lib.Seq.{take-suc, take_all, take_at}
 use Rattle.search.specs.Search.{first, entries}
-use Rattle.search.specs.declared.Found.{Found}
-use Rattle.search.specs.declared.Found.TheVariants.{At, Nothing}
+use Rattle.std.proofs.Common.{Some, Result, Ok, Err}
 use Rattle.search.specs.Bytes.{same_bytes, written}
 use Rattle.search.proofs.Laws.{no, same_lengths, first-is, entries-length, entries_at}
 use Rattle.numbers.specs.declared.CategorySet.{CategorySet}
@@ -19,15 +18,12 @@ use Rattle.set_bytes.specs.SetBytes.{bitmap_bytes, set_of_bitmap, only_categorie
 use Rattle.set_bytes.proofs.Laws.{own-length, bitmap-length}
 use Rattle.store.specs.Table.{Table, label_numbered}
 use Rattle.store.specs.Layout.{Store, label_at, table_of, undamaged_of}
-use Rattle.refusals.specs.Refusals.{damaged}
+use Rattle.refusals.specs.Refusals.{damaged, bad_level_or_category, bad_option, bad_option_category, other_doi}
 use Rattle.output.specs.Output as text
-use Rattle.lookups.specs.Lookups.{label_lookup, by_label_of, sought, has_both, numbered, level_lookup, by_level_of}
-use Rattle.lookups.specs.declared.Lookup.TheVariants as lookup
-use Rattle.lookups.specs.declared.Label.TheVariants as found
+use Rattle.lookups.specs.Lookups.{label_lookup, by_label_of, sought, has_both, level_lookup, by_level_of}
+use Rattle.refusals.specs.declared.Refusal.{Refusal}
 use Rattle.cipso_option.specs.Option.{option_bytes, our_doi, until_last, trimmed, option_by, label_option, option_given, doi_in, level_in, bitmap_in, is_option, Peer, not_read, own_peer, mapped_peer, peer_at, peer_of, peer_given}
 use Rattle.cipso_option.specs.Within.{said_of, mapped_given}
-use Rattle.cipso_option.specs.declared.Said.{Said}
-use Rattle.cipso_option.specs.declared.Said.TheVariants as said
 
 -- ---- bytes without trailing zero bytes
 
@@ -144,24 +140,20 @@ rest-whole o = take_all (length o - 10) (bitmap_in o) (omega (arith, length-drop
 -- ---- a label that was found by level and set
 
 module _ (st : Store) (level : ℕ) (s : CategorySet) (n : ℕ) where
-  pub found_tested : by_level_of st level s ≡ found.Number n → (undamaged_of st ≡ true) × (n < get_or st.words 0 0)
+  pub found_tested : by_level_of st level s ≡ Ok (Some n) → (undamaged_of st ≡ true) × (n < get_or st.words 0 0)
   unfolding by_level_of level_lookup
   found_tested e = by-damage (undamaged_of st) refl e
     where
       among : List ℕ
       among = entries (λ (k : ℕ). k) (length (table_of st).labels)
 
-      by-found : (f : Found) → first (has_both (table_of st) level s) among ≡ f → numbered f ≡ found.Number n → n < get_or st.words 0 0
-      by-found (At k) q e =
-          let z : k ≡ n = cc in
-          omega (arith, z, (first-is (has_both (table_of st) level s) 0 among k q).0, entries-length (λ (k : ℕ). k) (length (table_of st).labels), entries-length (label_at st.labels) (get_or st.words 0 0))
-      by-found Nothing q e = let z : ◌≡◌ {A = ℕ} 0 1 = cc in absurd (omega arith)
-
-      by-sought : (t : Bool) → cond t (numbered (first (has_both (table_of st) level s) among)) (found.Refused 9) ≡ found.Number n → n < get_or st.words 0 0
-      by-sought true e = by-found (first (has_both (table_of st) level s) among) refl e
+      by-sought : (t : Bool) → cond t (Ok (first (has_both (table_of st) level s) among)) (Err bad_level_or_category) ≡ Ok (Some n) → n < get_or st.words 0 0
+      by-sought true e =
+          let q : first (has_both (table_of st) level s) among ≡ Some n = cc in
+          omega (arith, (first-is (has_both (table_of st) level s) 0 among n q).0, entries-length (λ (k : ℕ). k) (length (table_of st).labels), entries-length (label_at st.labels) (get_or st.words 0 0))
       by-sought false e = let z : ◌≡◌ {A = ℕ} 0 1 = cc in absurd (omega arith)
 
-      by-damage : (t : Bool) → undamaged_of st ≡ t → cond t (level_lookup (table_of st) level s) (found.Refused 0) ≡ found.Number n → (undamaged_of st ≡ true) × (n < get_or st.words 0 0)
+      by-damage : (t : Bool) → undamaged_of st ≡ t → cond t (level_lookup (table_of st) level s) (Err damaged) ≡ Ok (Some n) → (undamaged_of st ≡ true) × (n < get_or st.words 0 0)
       by-damage true q e = (q, by-sought (sought level s) e)
       by-damage false q e = let z : ◌≡◌ {A = ℕ} 0 1 = cc in absurd (omega arith)
 
@@ -212,43 +204,43 @@ pub option_given_lem : (st : Store) (l : List ℕ) → option_given st l ≡ opt
 unfolding option_given label_option by_label_of
 option_given_lem st l = by-test (undamaged_of st)
   where
-    by-test : (t : Bool) → cond t (option_by l (label_lookup (table_of st) l)) (text.refused 0) ≡ option_by l (cond t (label_lookup (table_of st) l) (lookup.Refused damaged))
+    by-test : (t : Bool) → cond t (option_by l (label_lookup (table_of st) l)) (text.refused damaged) ≡ option_by l (cond t (label_lookup (table_of st) l) (Err damaged))
     by-test true = refl
     by-test false = refl
 
-abbrev pub peer_said : Table → Said → Peer
-peer_said t (said.Refused n) = not_read n
-peer_said t (said.At level s) = peer_at t level s
+abbrev pub peer_said : Table → Result (ℕ × CategorySet) Refusal → Peer
+peer_said t (Err n) = not_read n
+peer_said t (Ok (level, s)) = peer_at t level s
 
 pub peer-said : (t : Table) (o : List ℕ) → peer_of t o ≡ peer_said t (said_of o)
 unfolding peer_of said_of
 peer-said t o = by_tests (is_option o) (same_bytes (doi_in o) our_doi) (only_categories (bitmap_in o))
   where
     by_tests : (a b c : Bool)
-        → cond a (cond b (cond c (peer_at t (level_in o) (set_of_bitmap (bitmap_in o))) (not_read 18)) (not_read 17)) (not_read 16)
-        ≡ peer_said t (cond a (cond b (cond c (said.At (level_in o) (set_of_bitmap (bitmap_in o))) (said.Refused 18)) (said.Refused 17)) (said.Refused 16))
+        → cond a (cond b (cond c (peer_at t (level_in o) (set_of_bitmap (bitmap_in o))) (not_read bad_option_category)) (not_read other_doi)) (not_read bad_option)
+        ≡ peer_said t (cond a (cond b (cond c (Ok (level_in o, set_of_bitmap (bitmap_in o))) (Err bad_option_category)) (Err other_doi)) (Err bad_option))
     by_tests true true true = refl
     by_tests true true false = refl
     by_tests true false c = refl
     by_tests false b c = refl
 
 module _ (st : Store) (o : List ℕ) where
-  pub peer-damaged : undamaged_of st ≡ false → peer_given st o ≡ not_read 0
+  pub peer-damaged : undamaged_of st ≡ false → peer_given st o ≡ not_read damaged
   unfolding peer_given
   peer-damaged u = rw u
 
-  pub peer_tested : {x : Said} → undamaged_of st ≡ true → said_of o ≡ x → peer_given st o ≡ peer_said (table_of st) x
+  pub peer_tested : {x : Result (ℕ × CategorySet) Refusal} → undamaged_of st ≡ true → said_of o ≡ x → peer_given st o ≡ peer_said (table_of st) x
   unfolding peer_given
   peer_tested {x} u e = rw u (peer-said (table_of st) o ∙ ap (peer_said (table_of st)) e)
 
-  pub peer-mapped : {level : ℕ} {s : CategorySet} → (level ≡ 250 → ⊥) → said_of o ≡ said.At level s → peer_given st o ≡ mapped_given st level s
+  pub peer-mapped : {level : ℕ} {s : CategorySet} → (level ≡ 250 → ⊥) → said_of o ≡ Ok (level, s) → peer_given st o ≡ mapped_given st level s
   unfolding peer_given peer_at by_level_of
-  peer-mapped {level} {s} h e = ap (λ (x : Peer). cond (undamaged_of st) x (not_read 0)) (peer-said (table_of st) o ∙ ap (peer_said (table_of st)) e ∙ rw (ne_eqb level 250 h)) ∙ by-test (undamaged_of st)
+  peer-mapped {level} {s} h e = ap (λ (x : Peer). cond (undamaged_of st) x (not_read damaged)) (peer-said (table_of st) o ∙ ap (peer_said (table_of st)) e ∙ rw (ne_eqb level 250 h)) ∙ by-test (undamaged_of st)
     where
-      by-test : (t : Bool) → cond t (mapped_peer (table_of st) (level_lookup (table_of st) level s)) (not_read 0) ≡ mapped_peer (table_of st) (cond t (level_lookup (table_of st) level s) (found.Refused 0))
+      by-test : (t : Bool) → cond t (mapped_peer (table_of st) (level_lookup (table_of st) level s)) (not_read damaged) ≡ mapped_peer (table_of st) (cond t (level_lookup (table_of st) level s) (Err damaged))
       by-test true = refl
       by-test false = refl
 
-  pub peer-own : {level : ℕ} {s : CategorySet} → undamaged_of st ≡ true → level ≡ 250 → said_of o ≡ said.At level s → peer_given st o ≡ own_peer (trimmed (own_bytes s))
+  pub peer-own : {level : ℕ} {s : CategorySet} → undamaged_of st ≡ true → level ≡ 250 → said_of o ≡ Ok (level, s) → peer_given st o ≡ own_peer (trimmed (own_bytes s))
   unfolding peer_at
   peer-own {level} {s} u h e = peer_tested u e ∙ rw (eq-eqb level 250 h)

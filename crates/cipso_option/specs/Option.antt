@@ -1,7 +1,7 @@
 -- 02, Five: the packet option (CIPSO, FIPS 188), written for a label and read back to one. Refusals of the writer: 0, 3, 19 and 12; of the reader: 0, 16, 17,
 -- 18, then 3 or 21. Nothing is stored. How bits are categories stands in the crate set_bytes. Assumes nothing.
-use Rattle.std.specs.Prelude.{ℕ, ◌+◌, Bool, true, false, cond, ◌&&◌, List, [], ◌∷◌, ◌++◌, length, take, drop, get_or, eqb, leb}
-use Rattle.refusals.specs.Refusals.{damaged, bad_label, bad_option, other_doi, bad_option_category, not_in_an_option, no_such_mapping}
+use Rattle.std.specs.Prelude.{ℕ, ◌+◌, Bool, true, false, cond, ◌&&◌, List, [], ◌∷◌, ◌++◌, length, take, drop, get_or, eqb, leb, Option, Some, None, Result, Ok, Err}
+use Rattle.refusals.specs.Refusals.{number_of, damaged, bad_label, bad_option, other_doi, bad_option_category, not_in_an_option, no_such_mapping}
 use Rattle.search.specs.Search.{entries}
 use Rattle.search.specs.Bytes.{same_bytes, written}
 use Rattle.alphabet.specs.Alphabet.{well_formed, label_longest}
@@ -11,11 +11,8 @@ use Rattle.set_bytes.specs.SetBytes.{bitmap_bytes, set_of_bitmap, only_categorie
 use Rattle.store.specs.Table.{Table, label_numbered}
 use Rattle.store.specs.Layout.{Store, table_of, undamaged_of}
 use Rattle.lookups.specs.Lookups.{label_lookup, level_lookup}
-use Rattle.lookups.specs.declared.Lookup.{Lookup}
-use Rattle.lookups.specs.declared.Lookup.TheVariants as lookup
-use Rattle.lookups.specs.declared.Label.{Label}
-use Rattle.lookups.specs.declared.Label.TheVariants as found
-use Rattle.output.specs.declared.Output.{Output}
+use Rattle.refusals.specs.declared.Refusal.{Refusal}
+use Rattle.lookups.specs.declared.Cipso.{Cipso}
 use Rattle.output.specs.Output.{Text, text, refused, text_answer, text_out}
 use Rattle.cipso_option.specs.declared.PeerLabel.{PeerLabel}
 
@@ -50,10 +47,10 @@ abbrev pub own_longest : ℕ
 own_longest = 23
 
 -- 'A mapped label uses its mapping. An unmapped label of at most 23 bytes goes at level 250 as its own bits'; 19 it has over 23
-abbrev pub option_by : List ℕ → Lookup → Text
-option_by l (lookup.Mapped level s count) = text (option_of level s)
-option_by l lookup.Unmapped = cond (leb (length l) own_longest) (text (option_of own_level (set_of_own l))) (refused not_in_an_option.number)
-option_by l (lookup.Refused r) = refused r.number
+abbrev pub option_by : List ℕ → Result (Option Cipso) Refusal → Text
+option_by l (Ok (Some m)) = text (option_of m.level m.set)
+option_by l (Ok None) = cond (leb (length l) own_longest) (text (option_of own_level (set_of_own l))) (refused not_in_an_option)
+option_by l (Err r) = refused r
 
 -- 3 the label is not well formed, as the look-up by label says
 unfoldable pub label_option : Table → List ℕ → Text
@@ -61,10 +58,10 @@ label_option t l = option_by l (label_lookup t l)
 
 -- of a lent state: 0 before every other where it is damaged. Last comes 12, where the lent output is too short
 unfoldable pub option_given : Store → List ℕ → Text
-option_given st l = cond (undamaged_of st) (label_option (table_of st) l) (refused damaged.number)
+option_given st l = cond (undamaged_of st) (label_option (table_of st) l) (refused damaged)
 
 -- the answer, and the lent output afterwards
-unfoldable pub option_answer : Store → List ℕ → List ℕ → Output
+unfoldable pub option_answer : Store → List ℕ → List ℕ → Result ℕ Refusal
 option_answer st l out = text_answer (option_given st l) out
 
 unfoldable pub option_out : Store → List ℕ → List ℕ → List ℕ
@@ -90,20 +87,20 @@ bitmap_in option = drop 10 option
 unfoldable pub is_option : List ℕ → Bool
 is_option option = leb (length (bitmap_in option)) bitmap_limit && same_bytes option (option_bytes (doi_in option) (level_in option) (bitmap_in option))
 
--- what an option says: the label of the packet; or the number of a refusal
+-- what an option says: the label of the packet; or a refusal
 pub data Peer : Type 0 where
   label : List ℕ → Peer
-  not_read : ℕ → Peer
+  not_read : Refusal → Peer
 
 -- at level 250: 3 where the bytes are no label
 abbrev pub own_peer : List ℕ → Peer
-own_peer l = cond (well_formed l) (label l) (not_read bad_label.number)
+own_peer l = cond (well_formed l) (label l) (not_read bad_label)
 
 -- at another level: 21 where no mapping matches. (A byte and a set of categories can always be looked up: the last does not come)
-abbrev pub mapped_peer : Table → Label → Peer
-mapped_peer t (found.Number n) = label (label_numbered t n)
-mapped_peer t found.Nothing = not_read no_such_mapping.number
-mapped_peer t (found.Refused n) = not_read n
+abbrev pub mapped_peer : Table → Result (Option ℕ) Refusal → Peer
+mapped_peer t (Ok (Some n)) = label (label_numbered t n)
+mapped_peer t (Ok None) = not_read no_such_mapping
+mapped_peer t (Err r) = not_read r
 
 -- 'At level 250 the reader rebuilds the label, dropping trailing zero bytes'; at any other it is the label that the look-up by level and set finds
 unfoldable pub peer_at : Table → ℕ → CategorySet → Peer
@@ -114,13 +111,13 @@ unfoldable pub peer_of : Table → List ℕ → Peer
 peer_of t option =
     cond (is_option option)
     (cond (same_bytes (doi_in option) our_doi)
-    (cond (only_categories (bitmap_in option)) (peer_at t (level_in option) (set_of_bitmap (bitmap_in option))) (not_read bad_option_category.number))
-    (not_read other_doi.number))
-    (not_read bad_option.number)
+    (cond (only_categories (bitmap_in option)) (peer_at t (level_in option) (set_of_bitmap (bitmap_in option))) (not_read bad_option_category))
+    (not_read other_doi))
+    (not_read bad_option)
 
 -- of a lent state: 0 before every other where it is damaged
 unfoldable pub peer_given : Store → List ℕ → Peer
-peer_given st option = cond (undamaged_of st) (peer_of (table_of st) option) (not_read damaged.number)
+peer_given st option = cond (undamaged_of st) (peer_of (table_of st) option) (not_read damaged)
 
 -- k zero bytes
 abbrev pub zero_bytes : ℕ → List ℕ
@@ -133,4 +130,4 @@ room = zero_bytes label_longest
 
 abbrev pub peer_shown : Peer → PeerLabel
 peer_shown (label l) = record { refused = false; number = 0; length = length l; bytes = written room 0 l }
-peer_shown (not_read n) = record { refused = true; number = n; length = 0; bytes = room }
+peer_shown (not_read r) = record { refused = true; number = number_of r; length = 0; bytes = room }

@@ -4,15 +4,15 @@
 ghost use Rattle.std.specs.Prelude.{◌≡◌, ◌<◌, ◌≤◌, length};
 ghost use Rattle.output.specs.Output.{put_answer, put_out};
 ghost use Rattle.store.specs.Layout.{store};
+ghost use Rattle.store.specs.LentWithin.{lent};
 ghost use Rattle.set_bytes.specs.SetBytes.{own_bytes};
 ghost use Rattle.search.specs.Bytes.{same_bytes};
 ghost use Rattle.cipso_option.specs.Option.{trimmed, option_of, option_answer, option_out, is_option, doi_in, our_doi, peer_given, peer_shown, label as sender, not_read, own_peer};
 ghost use Rattle.cipso_option.specs.Within.{said_of, mapped_given};
 
-use lookups::{Label, Lookup};
 use numbers::CategorySet;
-use output::Output;
-use search::Found;
+use refusals::Refusal;
+use store::Lent;
 
 // The most bytes of a label that goes as its own bits.
 pub const OWN_LONGEST: usize = 23;
@@ -25,13 +25,6 @@ pub struct PeerLabel {
     pub number: u8,
     pub length: usize,
     pub bytes: [u8; 255],
-}
-
-// What an option says by its bytes alone: a refusal's number; or its level and its set.
-#[derive(Drop)]
-enum Said {
-    Refused(u8),
-    At(u8, CategorySet),
 }
 
 // How many bytes there are up to the last that is not 0.
@@ -49,7 +42,7 @@ fn trimmed_length(bytes: &[u8]) -> usize
 }
 
 // Writes the option of a level and a set.
-fn put_option(out: &mut [u8], level: u8, set: CategorySet) -> Output
+fn put_option(out: &mut [u8], level: u8, set: CategorySet) -> Result<usize, Refusal>
     ensures value { result ≡ put_answer (option_of level set) out.old }
     ensures out_after { out.new ≡ put_out (option_of level set) out.old }
 {
@@ -68,27 +61,17 @@ fn put_option(out: &mut [u8], level: u8, set: CategorySet) -> Output
 }
 
 // Writes the option of a label: of its mapping, or of its own bits.
-pub fn write_option(
-    labels: &[u8],
-    entries: &[u8],
-    words: &[u64],
-    label: &[u8],
-    out: &mut [u8],
-) -> Output
-    ensures value { result ≡ option_answer (store labels.now entries.now words.now) label.now out.old }
-    ensures out_after { out.new ≡ option_out (store labels.now entries.now words.now) label.now out.old }
+pub fn write_option(state: Lent, label: &[u8], out: &mut [u8]) -> Result<usize, Refusal>
+    ensures value { result ≡ option_answer (lent state.entry) label.now out.old }
+    ensures out_after { out.new ≡ option_out (lent state.entry) label.now out.old }
 {
-    let mapped = lookups::by_label(labels, entries, words, label);
-    match mapped {
-        Lookup::Refused(refusal) => Output::Refused(refusal.number),
-        Lookup::Mapped { level, set, .. } => put_option(out, level, set),
-        Lookup::Unmapped => {
-            if OWN_LONGEST < label.len() {
-                return Output::Refused(refusals::NOT_IN_AN_OPTION.number);
-            }
-            put_option(out, numbers::OWN_LEVEL as u8, set_bytes::set_of_own(label))
-        }
+    if let Some(mapped) = lookups::by_label(state, label)? {
+        return put_option(out, mapped.level, mapped.set);
     }
+    if OWN_LONGEST < label.len() {
+        return Err(Refusal::NotInAnOption);
+    }
+    put_option(out, numbers::OWN_LEVEL as u8, set_bytes::set_of_own(label))
 }
 
 // Whether bytes have an option's layout.
@@ -115,30 +98,30 @@ fn is_ours(option: &[u8]) -> bool
     (option[2] == 0) & ((option[3] == 0) & ((option[4] == 0) & (option[5] == 3)))
 }
 
-// What an option says by its bytes alone.
-fn said_by(option: &[u8]) -> Said
+// What an option says by its bytes alone: its level and its set.
+fn said_by(option: &[u8]) -> Result<(u8, CategorySet), Refusal>
     ensures { result ≡ said_of option.now }
 {
     if !is_option(option) {
-        return Said::Refused(refusals::BAD_OPTION.number);
+        return Err(Refusal::BadOption);
     }
     if !is_ours(option) {
-        return Said::Refused(refusals::OTHER_DOI.number);
+        return Err(Refusal::OtherDoi);
     }
     let bitmap = &option[10..option.len()];
     if !set_bytes::only_categories(bitmap) {
-        return Said::Refused(refusals::BAD_OPTION_CATEGORY.number);
+        return Err(Refusal::BadOptionCategory);
     }
-    Said::At(option[9], set_bytes::set_of_bitmap(bitmap))
+    Ok((option[9], set_bytes::set_of_bitmap(bitmap)))
 }
 
 // A refusal as a host sees it.
-fn refused(number: u8) -> PeerLabel
-    ensures { result ≡ peer_shown (not_read number) }
+fn refused(refusal: Refusal) -> PeerLabel
+    ensures { result ≡ peer_shown (not_read refusal) }
 {
     PeerLabel {
         refused: true,
-        number,
+        number: refusal.number(),
         length: 0,
         bytes: [0u8; 255],
     }
@@ -166,48 +149,42 @@ fn own_peer(set: CategorySet) -> PeerLabel
     let mut bytes = [0u8; 23];
     set_bytes::write_own(&mut bytes, set);
     let n = trimmed_length(&bytes);
-    let Found::Nothing = alphabet::label_fault(&bytes[0..n]) else {
-        return refused(refusals::BAD_LABEL.number);
-    };
+    if !alphabet::well_formed(&bytes[0..n]) {
+        return refused(Refusal::BadLabel { place: 0 });
+    }
     shown(&bytes[0..n])
 }
 
 // The lowest-numbered label with a level and a set.
-fn mapped_peer(
-    labels: &[u8],
-    entries: &[u8],
-    words: &[u64],
-    level: u8,
-    set: CategorySet,
-) -> PeerLabel
-    ensures { result ≡ peer_shown (mapped_given (store labels.now entries.now words.now) level set) }
+fn mapped_peer(state: Lent, level: u8, set: CategorySet) -> PeerLabel
+    ensures { result ≡ peer_shown (mapped_given (lent state.entry) level set) }
 {
-    let found = lookups::by_level(labels, entries, words, level as u64, set);
+    let found = lookups::by_level(state, level as u64, set);
     match found {
-        Label::Refused(number) => refused(number),
-        Label::Nothing => refused(refusals::NO_SUCH_MAPPING.number),
-        Label::Number(n) => shown(places::label_at(labels, n)),
+        Ok(Some(n)) => shown(places::label_at(state.labels, n)),
+        Ok(None) => refused(Refusal::NoSuchMapping),
+        Err(refusal) => refused(refusal),
     }
 }
 
 // The label that an option says.
-pub fn read_option(labels: &[u8], entries: &[u8], words: &[u64], option: &[u8]) -> PeerLabel
-    ensures { result ≡ peer_shown (peer_given (store labels.now entries.now words.now) option.now) }
+pub fn read_option(state: Lent, option: &[u8]) -> PeerLabel
+    ensures { result ≡ peer_shown (peer_given (lent state.entry) option.now) }
 {
     let said = said_by(option);
     match said {
-        Said::Refused(number) => {
-            if !damage::undamaged(labels, entries, words) {
-                return refused(refusals::DAMAGED.number);
+        Err(refusal) => {
+            if !damage::undamaged(state) {
+                return refused(Refusal::Damaged);
             }
-            refused(number)
+            refused(refusal)
         }
-        Said::At(level, set) => {
+        Ok((level, set)) => {
             if level as u64 != numbers::OWN_LEVEL {
-                return mapped_peer(labels, entries, words, level, set);
+                return mapped_peer(state, level, set);
             }
-            if !damage::undamaged(labels, entries, words) {
-                return refused(refusals::DAMAGED.number);
+            if !damage::undamaged(state) {
+                return refused(Refusal::Damaged);
             }
             own_peer(set)
         }

@@ -1,6 +1,6 @@
 -- 01, Either side of a limit, and 02, Six: the cases P1 to P12 that are proved, as one table and one test over it; further ones; and those of a new object
 -- (02, Seven). Assumes nothing.
-use Rattle.std.specs.Prelude.{ℕ, Bool, true, false, cond, not, ◌&&◌, eqb}
+use Rattle.std.specs.Prelude.{ℕ, Bool, true, false, cond, not, ◌&&◌, eqb, Option, Some, None, Result, Ok, Err}
 use mathlib.Core.List.{List, [], ◌∷◌, foldl}
 use Rattle.search.specs.Bytes.{ascii, same_bytes}
 use Rattle.modes.specs.Modes.{modes_text}
@@ -16,8 +16,8 @@ use Rattle.answers.specs.declared.Shown.{Shown}
 use Rattle.answers.specs.declared.Labelled.{Labelled}
 use Rattle.cipso.specs.Cipso.{mapping_write}
 use Rattle.lookups.specs.Lookups.{label_lookup}
-use Rattle.lookups.specs.declared.Lookup.{Lookup}
-use Rattle.lookups.specs.declared.Lookup.TheVariants as l
+use Rattle.refusals.specs.declared.Refusal.{Refusal}
+use Rattle.lookups.specs.declared.Cipso.{Cipso}
 use Rattle.numbers.specs.Categories.{categories}
 
 -- a case: after these lines are loaded into a fresh table, a subject asks a request of an object; after a line and a change, a pair has
@@ -40,10 +40,10 @@ pair_modes t s o = modes_or_none (modes_between t s o)
 abbrev pub same_shown : Shown → Shown → Bool
 same_shown a b = eqb a.kind b.kind && (eqb a.number b.number && eqb a.place b.place)
 
-abbrev pub same_lookup : Lookup → ℕ → List ℕ → ℕ → Bool
-same_lookup (l.Mapped level set count) x cs n = eqb level x && (same_bytes (categories set) cs && eqb count n)
-same_lookup l.Unmapped x cs n = false
-same_lookup (l.Refused k) x cs n = false
+abbrev pub same_lookup : Result (Option Cipso) Refusal → ℕ → List ℕ → ℕ → Bool
+same_lookup (Ok (Some m)) x cs n = eqb m.level x && (same_bytes (categories m.set) cs && eqb m.count n)
+same_lookup (Ok None) x cs n = false
+same_lookup (Err k) x cs n = false
 
 -- whether two tests say the same
 abbrev pub same_truth : Bool → Bool → Bool

@@ -2,7 +2,7 @@
 -- of an answer line; a record of a run that matches; where the first bad byte is; categories that are none; the retired letter b. Assumes nothing.
 use Rattle.std.specs.Prelude.{ℕ, ◌≡◌, true, false, ◌↔◌, [], ◌∷◌}
 use Rattle.search.specs.Bytes.{ascii}
-use Rattle.refusals.specs.Refusals.{plain, bad_label_at}
+use Rattle.refusals.specs.Refusals.{told, wrong_fields, bad_access, bad_level_or_category, bad_label_at}
 use Rattle.numbers.specs.Categories.{no_categories}
 use Rattle.numbers.specs.declared.CategorySet.{CategorySet}
 use Rattle.store.specs.Table.{fresh}
@@ -43,12 +43,12 @@ pub record ExamplesOf02 : Type 0 where
   pub subject : rule_of (ascii " \tAir/2 Do\\or q") ≡ refused (bad_label_at 5)
   pub object : rule_of (ascii "Air  Do'or r") ≡ refused (bad_label_at 7)
   pub leading_dash : rule_of (ascii "Air -Door r") ≡ refused (bad_label_at 4)
-  pub other_fault : rule_of (ascii "Air/2 Door r w") ≡ refused (plain 2)
+  pub other_fault : rule_of (ascii "Air/2 Door r w") ≡ refused wrong_fields
   -- in an override list and a mapping
   pub override_list : onlycap_write (ascii "Air - Door") fresh ≡ is_refused (bad_label_at 4)
   pub mapping : mapping_write (ascii " Air\" 999") fresh ≡ is_refused (bad_label_at 4)
-  pub category_0 : mapping_write (ascii "Vault7 9 1 0") fresh ≡ is_refused (plain 9)
-  pub category_185 : mapping_write (ascii "Vault7 9 184 185") fresh ≡ is_refused (plain 9)
+  pub category_0 : mapping_write (ascii "Vault7 9 1 0") fresh ≡ is_refused bad_level_or_category
+  pub category_185 : mapping_write (ascii "Vault7 9 184 185") fresh ≡ is_refused bad_level_or_category
   -- the program prints no place
   pub program_line : output (ascii "Air/2 Door r\n?\nAir/2 Door r\n") ≡ ascii "1 0 0 1 1 3 0\nrefused 3\n"
   -- the report keeps the place of the first refused line, however the text is cut
@@ -69,7 +69,7 @@ pub record ExamplesOf02 : Type 0 where
       says_all (start_on fresh)
       (write (r.change (ascii " Air/2 Do\\or q -")) ∷ write (r.revoke (ascii "Air ")) ∷ write (r.onlycap (ascii "Air - /")) ∷ write (r.mapping (ascii "\tAi/r 9"))
       ∷ ask (r.by_label (ascii "Air/")) ∷ ask (r.question (ascii "Air/") (ascii "D/") [] false) ∷ ask (r.question (ascii "Air") (ascii "D/") [] true) ∷ [])
-      ≡ refusal (bad_label_at 4) ∷ refusal (bad_label_at 3) ∷ refusal (bad_label_at 4) ∷ refusal (bad_label_at 3)
+      ≡ refusal (told (bad_label_at 4)) ∷ refusal (told (bad_label_at 3)) ∷ refusal (told (bad_label_at 4)) ∷ refusal (told (bad_label_at 3))
       ∷ mapped (record { kind = 2; number = 3; level = 0; count = 0; set = no_categories; place = 3 })
       ∷ answered (record { kind = 3; number = 3; place = 3 })
       ∷ answered (record { kind = 3; number = 3; place = 1 })
@@ -77,8 +77,8 @@ pub record ExamplesOf02 : Type 0 where
   -- in a line b, in either case, is a placeholder; another bad byte beside it is still refused
   pub b_alone : rule_of (ascii "Air Door b") ≡ rule (ascii "Air") (ascii "Door") 0
   pub b_beside : rule_of (ascii "Air Door -bRBx") ≡ rule (ascii "Air") (ascii "Door") 40
-  pub b_and_q : rule_of (ascii "Air Door bq") ≡ refused (plain 4)
-  pub b_in_a_change : (change_of (ascii "Air Door b -") ≡ refused (plain 4)) × (change_of (ascii "Air Door r B") ≡ refused (plain 4))
+  pub b_and_q : rule_of (ascii "Air Door bq") ≡ refused bad_access
+  pub b_in_a_change : (change_of (ascii "Air Door b -") ≡ refused bad_access) × (change_of (ascii "Air Door r B") ≡ refused bad_access)
   -- the count is of accepted lines whose access field held it, once a line: not of those that are refused, and not of labels
   pub b_lines :
       reports (says_all (start_on fresh) (piece (ascii "Air Door rb\nAir Air b\nb B r\nB b BbB\nAir Door qb\n\nAir Door r b\n") ∷ end_call ∷ []))

@@ -1,6 +1,6 @@
 -- 01's numbers and 02's, each as it stands there, and those of the lent parts: the refusals, the limits, and what a host gets for each case of an answer. Elsewhere they are spoken of by name; here
 -- a name that has another number is refused. Assumes nothing.
-use Rattle.std.specs.Prelude.{ℕ, ◌+◌, ◌≤◌, ◌≡◌, Bool, true, false, not, ◌&&◌, eqb, leb, length, take, get_or}
+use Rattle.std.specs.Prelude.{ℕ, ◌+◌, ◌≤◌, ◌≡◌, Bool, true, false, not, ◌&&◌, eqb, leb, length, take, get_or, Some, None, Ok, Err}
 use mathlib.Core.List.{List, [], ◌∷◌, map, foldl}
 use Rattle.search.specs.Bytes.{ascii}
 use Rattle.refusals.specs.Refusals as refusal
@@ -20,15 +20,9 @@ use Rattle.fixed_load.specs.Records.{record_label, label_place, record_size}
 use Rattle.access.specs.declared.Denial.TheVariants.{StarSubject, AnyOther}
 use Rattle.access.specs.declared.Answer.TheVariants as answer
 use Rattle.new_object.specs.declared.ObjectLabel.TheVariants as object-label
-use Rattle.lookups.specs.declared.Lookup.TheVariants as lookup
-use Rattle.lookups.specs.declared.Label.TheVariants as label
-use Rattle.output.specs.declared.Output.TheVariants as output
-use Rattle.store.specs.declared.Done.TheVariants as done
-use Rattle.revoke.specs.declared.Revoked.TheVariants as revoked
+use Rattle.lookups.specs.Lookups.{mapped}
 use Rattle.reports.specs.declared.Report.{Report}
 use Rattle.reports.specs.declared.Loader.{Loader}
-use Rattle.load.specs.declared.Fed.TheVariants as fed
-use Rattle.load.specs.declared.Ended.TheVariants as ended
 use Rattle.answers.specs.Answers.{shown, write_shown, revoke_shown, piece_shown, end_shown, lookup_shown, search_shown, output_shown, object_shown}
 use Rattle.store.specs.Pairs.{has_modes, no_rule, modes_or_none}
 
@@ -43,7 +37,7 @@ abbrev pub limits : List ℕ
 limits = label_longest ∷ label_limit ∷ rule_limit ∷ mapping_limit ∷ onlycap_limit ∷ line_limit ∷ level_limit ∷ count_limit ∷ longest_rule ∷ []
 
 pub record NumbersOf01 : Type 0 where
-  pub refused_by : refusals ≡ map refusal.plain (0 ∷ 1 ∷ 2 ∷ 3 ∷ 4 ∷ 5 ∷ 6 ∷ 7 ∷ 8 ∷ 9 ∷ 10 ∷ 11 ∷ 12 ∷ 13 ∷ [])
+  pub refused_by : map refusal.told refusals ≡ map refusal.plain (0 ∷ 1 ∷ 2 ∷ 3 ∷ 4 ∷ 5 ∷ 6 ∷ 7 ∷ 8 ∷ 9 ∷ 10 ∷ 11 ∷ 12 ∷ 13 ∷ [])
   pub sizes : limits ≡ 255 ∷ 64 ∷ 256 ∷ 32 ∷ 8 ∷ 600 ∷ 255 ∷ 4294967295 ∷ 518 ∷ []
   -- a fresh table has the five labels and nothing else; a change of a pair that has no rule starts from no letter, and of one that has a rule from its modes
   pub fresh_table :
@@ -61,20 +55,20 @@ pub record NumbersOf01 : Type 0 where
   pub denied_7 : shown (answer.Denied AnyOther) ≡ record { kind = 1; number = 7; place = 0 }
   pub override_1 : shown (answer.Override StarSubject) ≡ record { kind = 2; number = 1; place = 0 }
   pub override_7 : shown (answer.Override AnyOther) ≡ record { kind = 2; number = 7; place = 0 }
-  pub refused : (r : Refusal) → shown (answer.Refused r) ≡ record { kind = 3; number = r.number; place = r.place }
+  pub refused : (r : Refusal) → shown (answer.Refused r) ≡ record { kind = 3; number = refusal.number_of r; place = refusal.place_of r }
   -- a look-up: 0 found, 1 none, 2 refused
   pub mapped :
       (level : ℕ) (set : CategorySet) (count : ℕ) →
-      lookup_shown (lookup.Mapped level set count) ≡ record { kind = 0; number = 0; level = level; count = count; set = set; place = 0 }
-  pub unmapped : lookup_shown lookup.Unmapped ≡ record { kind = 1; number = 0; level = 0; count = 0; set = no_categories; place = 0 }
+      lookup_shown (mapped level set count) ≡ record { kind = 0; number = 0; level = level; count = count; set = set; place = 0 }
+  pub unmapped : lookup_shown (Ok None) ≡ record { kind = 1; number = 0; level = 0; count = 0; set = no_categories; place = 0 }
   pub look_up_refused :
-      (r : Refusal) → lookup_shown (lookup.Refused r) ≡ record { kind = 2; number = r.number; level = 0; count = 0; set = no_categories; place = r.place }
-  pub found : (k : ℕ) → search_shown (label.Number k) ≡ record { kind = 0; number = 0; label = k }
-  pub none : search_shown label.Nothing ≡ record { kind = 1; number = 0; label = 0 }
-  pub search_refused : (n : ℕ) → search_shown (label.Refused n) ≡ record { kind = 2; number = n; label = 0 }
+      (r : Refusal) → lookup_shown (Err r) ≡ record { kind = 2; number = refusal.number_of r; level = 0; count = 0; set = no_categories; place = refusal.place_of r }
+  pub found : (k : ℕ) → search_shown (Ok (Some k)) ≡ record { kind = 0; number = 0; label = k }
+  pub none : search_shown (Ok None) ≡ record { kind = 1; number = 0; label = 0 }
+  pub search_refused : (r : Refusal) → search_shown (Err r) ≡ record { kind = 2; number = refusal.number_of r; label = 0 }
   -- a text written to a lent output, as a listed rule is: its length, or refused
-  pub listed : (k : ℕ) → output_shown (output.Length k) ≡ record { refused = false; number = 0; length = k }
-  pub not_listed : (n : ℕ) → output_shown (output.Refused n) ≡ record { refused = true; number = n; length = 0 }
+  pub listed : (k : ℕ) → output_shown (Ok k) ≡ record { refused = false; number = 0; length = k }
+  pub not_listed : (r : Refusal) → output_shown (Err r) ≡ record { refused = true; number = refusal.number_of r; length = 0 }
 
 -- what 02 adds, request by request. One: the refusals 14 and 15; the most bytes of a label in an old record, the bytes of a label's place, and those
 -- of the record. Three: the place beside a 3, as every answer that has one shows it; a refusal is plain where its place is 0. Four: the highest category
@@ -84,22 +78,22 @@ pub record NumbersOf01 : Type 0 where
 -- new object
 pub record NumbersOf02 : Type 0 where
   pub old_records :
-      ((refusal.bad_record).number ∷ (refusal.not_in_a_record).number ∷ record_label ∷ label_place ∷ record_size ∷ []) ≡ 14 ∷ 15 ∷ 23 ∷ 24 ∷ 53 ∷ []
-  pub bad_label : (p : ℕ) → refusal.bad_label_at p ≡ record { number = 3; place = p }
+      (refusal.number_of refusal.bad_record ∷ refusal.number_of refusal.not_in_a_record ∷ record_label ∷ label_place ∷ record_size ∷ []) ≡ 14 ∷ 15 ∷ 23 ∷ 24 ∷ 53 ∷ []
+  pub bad_label : (p : ℕ) → refusal.told (refusal.bad_label_at p) ≡ record { number = 3; place = p }
   pub plain : (n : ℕ) → refusal.plain n ≡ record { number = n; place = 0 }
-  pub written : (write_shown done.Done ≡ record { refused = false; number = 0; place = 0 })
-      × ((r : Refusal) → write_shown (done.Refused r) ≡ record { refused = true; number = r.number; place = r.place })
-  pub revoked : ((k : ℕ) → revoke_shown (revoked.Count k) ≡ record { refused = false; number = 0; count = k; place = 0 })
-      × ((r : Refusal) → revoke_shown (revoked.Refused r) ≡ record { refused = true; number = r.number; count = 0; place = r.place })
+  pub written : (write_shown (Ok tt) ≡ record { refused = false; number = 0; place = 0 })
+      × ((r : Refusal) → write_shown (Err r) ≡ record { refused = true; number = refusal.number_of r; place = refusal.place_of r })
+  pub revoked : ((k : ℕ) → revoke_shown (Ok k) ≡ record { refused = false; number = 0; count = k; place = 0 })
+      × ((r : Refusal) → revoke_shown (Err r) ≡ record { refused = true; number = refusal.number_of r; count = 0; place = refusal.place_of r })
   -- a piece and the end call, which are refused with 0 alone: the loader is then the one that was handed in, and the report has no number and no place
-  pub taken : ((old l : Loader) → piece_shown old (fed.Done l) ≡ record { refused = false; number = 0; loader = l })
-      × ((old : Loader) (n : ℕ) → piece_shown old (fed.Refused n) ≡ record { refused = true; number = n; loader = old })
-  pub finished : ((old l : Loader) (r : Report) → end_shown old (ended.Report r l) ≡ record { refused = false; number = 0; report = r; loader = l })
-      × ((old : Loader) (n : ℕ) →
-      end_shown old (ended.Refused n)
+  pub taken : ((old l : Loader) → piece_shown old (Ok l) ≡ record { refused = false; number = 0; loader = l })
+      × ((old : Loader) (r : Refusal) → piece_shown old (Err r) ≡ record { refused = true; number = refusal.number_of r; loader = old })
+  pub finished : ((old l : Loader) (r : Report) → end_shown old (Ok (r, l)) ≡ record { refused = false; number = 0; report = r; loader = l })
+      × ((old : Loader) (r : Refusal) →
+      end_shown old (Err r)
       ≡ record {
         refused = true;
-        number = n;
+        number = refusal.number_of r;
         report = record { lines = 0; accepted = 0; skipped = 0; refused = 0; first = 0; reason = 0; place = 0; bringup = 0 };
         loader = old;
       })
@@ -113,7 +107,7 @@ pub record NumbersOf02 : Type 0 where
       foldl with_category no_categories (1 ∷ 64 ∷ 65 ∷ 127 ∷ 128 ∷ 129 ∷ 184 ∷ [])
       ≡ record { first = 9223372036854775809; second = 9223372036854775811; third = 9223372036854776064 }
   pub packet_option :
-      ((refusal.bad_option).number ∷ (refusal.other_doi).number ∷ (refusal.bad_option_category).number ∷ (refusal.not_in_an_option).number ∷ (refusal.no_such_mapping).number
+      (refusal.number_of refusal.bad_option ∷ refusal.number_of refusal.other_doi ∷ refusal.number_of refusal.bad_option_category ∷ refusal.number_of refusal.not_in_an_option ∷ (refusal.number_of refusal.no_such_mapping)
       ∷ own_level ∷ own_longest ∷ bitmap_limit ∷ [])
       ≡ 16 ∷ 17 ∷ 18 ∷ 19 ∷ 21 ∷ 250 ∷ 23 ∷ 30 ∷ []
   pub mapping_levels : (n : ℕ) → is_mapping_level n ≡ (leb n 255 && not (eqb n 250))
@@ -124,11 +118,11 @@ pub record NumbersOf02 : Type 0 where
       ((peer_shown (option.label l)).refused ≡ false) × ((peer_shown (option.label l)).number ≡ 0) × ((peer_shown (option.label l)).length ≡ length l)
       × (take (length l) (peer_shown (option.label l)).bytes ≡ l) × (length (peer_shown (option.label l)).bytes ≡ 255)
       × ((i : ℕ) → length l ≤ i → get_or (peer_shown (option.label l)).bytes i 0 ≡ 0)
-  pub peer_refused : (n : ℕ) →
-      ((peer_shown (option.not_read n)).refused ≡ true) × ((peer_shown (option.not_read n)).number ≡ n) × ((peer_shown (option.not_read n)).length ≡ 0)
-      × (length (peer_shown (option.not_read n)).bytes ≡ 255) × ((i : ℕ) → get_or (peer_shown (option.not_read n)).bytes i 0 ≡ 0)
-  pub new_object : (object_shown object-label.CreatorLabel ≡ record { kind = 0; number = 0; transmutes = false })
-      × (object_shown object-label.Denied ≡ record { kind = 1; number = 0; transmutes = false })
-      × ((new_transmutes : Bool) → object_shown (object-label.FolderLabel new_transmutes) ≡ record { kind = 2; number = 0; transmutes = new_transmutes })
-      × ((n : ℕ) → object_shown (object-label.Refused n) ≡ record { kind = 3; number = n; transmutes = false })
+  pub peer_refused : (r : Refusal) →
+      ((peer_shown (option.not_read r)).refused ≡ true) × ((peer_shown (option.not_read r)).number ≡ refusal.number_of r) × ((peer_shown (option.not_read r)).length ≡ 0)
+      × (length (peer_shown (option.not_read r)).bytes ≡ 255) × ((i : ℕ) → get_or (peer_shown (option.not_read r)).bytes i 0 ≡ 0)
+  pub new_object : (object_shown (Ok object-label.CreatorLabel) ≡ record { kind = 0; number = 0; transmutes = false })
+      × (object_shown (Ok object-label.Denied) ≡ record { kind = 1; number = 0; transmutes = false })
+      × ((new_transmutes : Bool) → object_shown (Ok (object-label.FolderLabel new_transmutes)) ≡ record { kind = 2; number = 0; transmutes = new_transmutes })
+      × ((r : Refusal) → object_shown (Err r) ≡ record { kind = 3; number = refusal.number_of r; transmutes = false })
   pub no_category : no_categories ≡ record { first = 0; second = 0; third = 0 }

@@ -6,6 +6,7 @@ use Rattle.alphabet.specs.Alphabet.{fields}
 use Rattle.modes.specs.Modes.{any, one_of}
 use Rattle.lines.specs.Lines.{rule_of}
 use Rattle.writes.specs.Writes.{judged}
+use Rattle.refusals.specs.Refusals.{number_of, place_of}
 use Rattle.refusals.specs.declared.Refusal.{Refusal}
 use Rattle.store.specs.Table.{Table}
 use Rattle.store.specs.Judged.{is_skipped, is_refused, is_accepted}
@@ -37,7 +38,7 @@ pub record LineCounts : Type 0 where
   pub accepted : (c : Totals) (t : Table) → More c (counted c false (is_accepted t)) 1 0 0 0 × Kept c (counted c false (is_accepted t))
   pub accepted_with_b : (c : Totals) (t : Table) → More c (counted c true (is_accepted t)) 1 0 0 1 × Kept c (counted c true (is_accepted t))
   pub refused : (c : Totals) (held : Bool) (why : Refusal) → More c (counted c held (is_refused why)) 0 0 1 0
-  pub first : (c : Totals) (held : Bool) (why : Refusal) → c.refused ≡ 0 → FirstIs (counted c held (is_refused why)) (c.lines + 1) why.number why.place
+  pub first : (c : Totals) (held : Bool) (why : Refusal) → c.refused ≡ 0 → FirstIs (counted c held (is_refused why)) (c.lines + 1) (number_of why) (place_of why)
   pub later : (c : Totals) (held : Bool) (why : Refusal) → c.refused ≢ 0 → Kept c (counted c held (is_refused why))
   -- 02, Six: a line that ends and is accepted is one more of those with b exactly where a byte of its third field is b or B; a refused one is not
   pub with_b :

@@ -1,25 +1,25 @@
 -- The search of a run: what it answers is what 01 and 02, Four, say of the records, of a run of any length and content. Assumes nothing.
-use Rattle.std.specs.Prelude.{ℕ, ◌+◌, ◌*◌, ◌<◌, ◌≤◌, true, false, ◌≡◌, ◌↔◌, List, length, get_or}
+use Rattle.std.specs.Prelude.{ℕ, ◌+◌, ◌*◌, ◌<◌, ◌≤◌, true, false, ◌≡◌, ◌↔◌, List, length, get_or, Some, None, Ok, Err}
 use Rattle.refusals.specs.Refusals.{bad_level_or_category}
+use Rattle.refusals.specs.declared.Refusal.{Refusal}
 use Rattle.numbers.specs.Categories.{has_category}
 use Rattle.numbers.specs.declared.CategorySet.{CategorySet}
 use Rattle.run.specs.declared.Record.{Record}
-use Rattle.lookups.specs.declared.Label.TheVariants as label
 use Rattle.run.specs.Lowest.{LowestInRun, Unmatched}
 use Rattle.lookups.specs.Lookups.{sought}
 use Rattle.run.specs.Run.{matches, run_of, records_of}
 
 pub record SearchesTheRun : Type 0 where
   -- a number that is answered is the lowest of those whose level and set both match
-  pub found : (run : List Record) (level : ℕ) (set : CategorySet) (n : ℕ) → run_of run level set ≡ label.Number n → LowestInRun run level set n
+  pub found : (run : List Record) (level : ℕ) (set : CategorySet) (n : ℕ) → run_of run level set ≡ Ok (Some n) → LowestInRun run level set n
   -- none is answered exactly where none matches
-  pub none : (run : List Record) (level : ℕ) (set : CategorySet) → run_of run level set ≡ label.Nothing → Unmatched run level set
-  pub unmatched : (run : List Record) (level : ℕ) (set : CategorySet) → sought level set ≡ true → Unmatched run level set → run_of run level set ≡ label.Nothing
+  pub none : (run : List Record) (level : ℕ) (set : CategorySet) → run_of run level set ≡ Ok None → Unmatched run level set
+  pub unmatched : (run : List Record) (level : ℕ) (set : CategorySet) → sought level set ≡ true → Unmatched run level set → run_of run level set ≡ Ok None
   -- a level and a set can be searched for, in the table or in a run, exactly where the level is 0 to 255 and the set has no bit behind category 184
   pub searchable : (level : ℕ) (set : CategorySet) → (sought level set ≡ true) ↔ ((level ≤ 255) × ((k : ℕ) → 184 < k → k ≤ 192 → has_category set k ≡ false))
   -- 9 is answered exactly where the level or the set cannot be searched for
-  pub refused : (run : List Record) (level : ℕ) (set : CategorySet) → sought level set ≡ false → run_of run level set ≡ label.Refused bad_level_or_category.number
-  pub only_9 : (run : List Record) (level : ℕ) (set : CategorySet) (k : ℕ) → run_of run level set ≡ label.Refused k → (k ≡ bad_level_or_category.number) × (sought level set ≡ false)
+  pub refused : (run : List Record) (level : ℕ) (set : CategorySet) → sought level set ≡ false → run_of run level set ≡ Err bad_level_or_category
+  pub only_9 : (run : List Record) (level : ℕ) (set : CategorySet) (why : Refusal) → run_of run level set ≡ Err why → (why ≡ bad_level_or_category) × (sought level set ≡ false)
   -- a record whose set has a bit that is no category matches nothing that can be searched for
   pub no_set :
       (r : Record) (level : ℕ) (set : CategorySet) →

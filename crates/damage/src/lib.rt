@@ -1,15 +1,20 @@
 // The damage test (01: refusal 0): every call makes it first, of the whole lent state.
 #![tactic(auto)]
 
-ghost use Rattle.std.specs.Prelude.{◌≡◌, ℕ, ◌+◌, ◌<◌, ◌≤◌, length, get_or, take, []};
+ghost use Rattle.std.specs.Prelude.{◌≡◌, true, false, IfOk, IfErr, ℕ, ◌+◌, ◌<◌, ◌≤◌, length, get_or, take, []};
+ghost use Rattle.refusals.specs.Refusals.{damaged};
 ghost use Rattle.search.specs.Search.{all, entries as listed};
 ghost use Rattle.modes.specs.Modes.{known_modes};
 ghost use Rattle.numbers.specs.Categories.{known_third};
 ghost use Rattle.store.specs.Table.{sound_rule, sound_table, rule_limit, mapping_limit, onlycap_limit};
 ghost use Rattle.store.specs.Layout.{store, modes_from, onlycap_from, thirds_from, rule_at, table_of, undamaged_of};
 ghost use Rattle.store.specs.Within.{Counts};
+ghost use Rattle.store.specs.LentWithin.{lent, tested};
 ghost use Rattle.damage.specs.Undamaged.{WhatUndamagedIs};
 ghost use Rattle.damage.specs.Within.{Bounded};
+
+use refusals::Refusal;
+use store::{Lent, Tables};
 
 // Where the sets' third words and the onlycap list end.
 const THIRDS_TO: usize = store::THIRDS_FROM + store::MAPPING_LIMIT;
@@ -23,10 +28,8 @@ fn all_known(run: &[u64], count: usize) -> bool
     ensures { result ≡ all known_third (take count run.now) }
 {
     let mut ok = true;
-    let mut i = 0;
-    while i < count {
-        ok = ok & (run[i] % numbers::LOWEST_CATEGORY_BIT == 0);
-        i += 1;
+    for word in &run[..count] {
+        ok &= *word % numbers::LOWEST_CATEGORY_BIT == 0;
     }
     ok
 }
@@ -38,24 +41,14 @@ fn all_modes_known(run: &[u8], count: usize) -> bool
     ensures { result ≡ all known_modes (take count run.now) }
 {
     let mut ok = true;
-    let mut i = 0;
-    while i < count {
-        let modes = run[i];
-        ok = ok & (modes & modes::RULE_LETTERS == modes);
-        i += 1;
+    for &modes in &run[..count] {
+        ok &= modes & modes::RULE_LETTERS == modes;
     }
     ok
 }
 
-// The larger of two numbers. (That it is one of them is nowhere needed.)
-fn larger(a: u8, b: u8) -> u8
-    ensures { (a ≤ result) × (b ≤ result) }
-{
-    if a < b { b } else { a }
-}
-
 // What no rule of a run exceeds: the largest number of a label, and the modes of all of them joined.
-#[derive(Drop)]
+#[derive(Clone, Copy, Debug, PartialEq, Eq)]
 struct Bounds {
     label: u8,
     modes: u8,
@@ -69,11 +62,9 @@ fn largest(entries: &[u8], count: usize) -> Bounds
 {
     let mut label = 0;
     let mut modes = 0;
-    let mut i = 0;
-    while i < count {
-        label = larger(label, larger(entries[i], entries[store::OBJECTS_FROM + i]));
-        modes = modes | entries[store::MODES_FROM + i];
-        i += 1;
+    for i in 0..count {
+        label = entries[i].max(entries[store::OBJECTS_FROM + i]).max(label);
+        modes |= entries[store::MODES_FROM + i];
     }
     Bounds { label, modes }
 }
@@ -124,29 +115,53 @@ pub fn what_undamaged_is()
 {}
 
 // Whether the lent state is undamaged: refusal 0 otherwise.
-pub fn undamaged(labels: &[u8], entries: &[u8], words: &[u64]) -> bool
-    ensures { result ≡ undamaged_of (store labels.now entries.now words.now) }
+pub fn undamaged(state: Lent) -> bool
+    ensures { result ≡ undamaged_of (lent state.entry) }
 {
-    if labels.len() != store::LABELS_SIZE {
+    if state.labels.len() != store::LABELS_SIZE {
         return false;
     }
-    if entries.len() != store::ENTRIES_SIZE {
+    if state.entries.len() != store::ENTRIES_SIZE {
         return false;
     }
-    if words.len() != store::WORDS_SIZE {
+    if state.words.len() != store::WORDS_SIZE {
         return false;
     }
-    if (store::LABEL_LIMIT as u64) < words[store::LABEL_COUNT] {
+    if (store::LABEL_LIMIT as u64) < state.words[store::LABEL_COUNT] {
         return false;
     }
-    if (store::RULE_LIMIT as u64) < words[store::RULE_COUNT] {
+    if (store::RULE_LIMIT as u64) < state.words[store::RULE_COUNT] {
         return false;
     }
-    if (store::MAPPING_LIMIT as u64) < words[store::MAPPING_COUNT] {
+    if (store::MAPPING_LIMIT as u64) < state.words[store::MAPPING_COUNT] {
         return false;
     }
-    if (store::ONLYCAP_LIMIT as u64) < words[store::ONLYCAP_COUNT] {
+    if (store::ONLYCAP_LIMIT as u64) < state.words[store::ONLYCAP_COUNT] {
         return false;
     }
-    sound(entries, words)
+    sound(state.entries, state.words)
+}
+
+// That the lent state is undamaged, or refusal 0.
+pub fn check(state: Lent) -> Result<(), Refusal>
+    ensures ok { IfOk result (λ _. undamaged_of (lent state.entry) ≡ true) }
+    ensures err { IfErr result (λ why. (why ≡ damaged) × (undamaged_of (lent state.entry) ≡ false)) }
+{
+    if !undamaged(state) {
+        return Err(Refusal::Damaged);
+    }
+    Ok(())
+}
+
+// The tables of the lent state, or refusal 0.
+pub fn tested<'a>(state: Lent<'a>) -> Result<Tables<'a>, Refusal>
+    ensures ok { IfOk result (λ t. (tested t ≡ lent state.entry) × (undamaged_of (lent state.entry) ≡ true)) }
+    ensures err { IfErr result (λ why. (why ≡ damaged) × (undamaged_of (lent state.entry) ≡ false)) }
+{
+    check(state)?;
+    Ok(Tables {
+        labels: state.labels,
+        entries: state.entries,
+        words: state.words,
+    })
 }

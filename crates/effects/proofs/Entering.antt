@@ -12,8 +12,7 @@ use lib.Dec.{eqb}
 use borrow.Author.Tests.{eq-eqb, ne_eqb}
 use Rattle.search.specs.Search.{first, all, those, later, place_of}
 use Rattle.search.specs.Bytes.{same_bytes}
-use Rattle.search.specs.declared.Found.{Found}
-use Rattle.search.specs.declared.Found.TheVariants.{At, Nothing}
+use Rattle.std.proofs.Common.{Option, Some, None}
 use Rattle.search.proofs.Laws.{no, and_both, not_so, same_refl, same-equal, first-is, first-at, first-map, Distinct, Front, front_same, front-more}
 use Rattle.store.specs.Table.{Table, labels_entered, enter, number_in}
 use Rattle.store.proofs.Pairs.{enter-front, enter-once}
@@ -33,10 +32,10 @@ pub or_assoc : (a b c : Bool) → ((a || b) || c) ≡ (a || (b || c))
 or_assoc true b c = refl
 or_assoc false b c = refl
 
-found-later : (b : Bool) (f : Found) → is_found (cond b (At zero) (later f)) ≡ (b || is_found f)
+found-later : (b : Bool) (f : Option ℕ) → is_found (cond b (Some zero) (later f)) ≡ (b || is_found f)
 found-later true f = refl
-found-later false (At k) = refl
-found-later false Nothing = refl
+found-later false (Some k) = refl
+found-later false None = refl
 
 pub found_cons : {A : Type 0} (p : A → Bool) (x : A) (xs : List A) → is_found (first p (x ∷ xs)) ≡ (p x || is_found (first p xs))
 unfolding first
@@ -44,7 +43,7 @@ found_cons p x xs = found-later (p x) (first p xs)
 
 pub found_snoc : {A : Type 0} (p : A → Bool) (l : List A) (x : A) → is_found (first p (l ++ (x ∷ []))) ≡ (is_found (first p l) || p x)
 unfolding first
-found_snoc p [] x = found-later (p x) Nothing ∙ or_false (p x)
+found_snoc p [] x = found-later (p x) None ∙ or_false (p x)
 found_snoc p (y ∷ ys) x =
     found-later (p y) (first p (ys ++ (x ∷ [])))
     ∙ ap (λ (b : Bool). p y || b) (found_snoc p ys x)
@@ -58,9 +57,9 @@ found_some p d (x ∷ xs) zero h e = found_cons p x xs ∙ rw e
 found_some p d (x ∷ xs) (suc k) h e = found_cons p x xs ∙ rw (found_some p d xs k (le_of_suc-le-suc h) e) (or-true (p x))
 
 -- what is found has a place
-pub found-at : (f : Found) → is_found f ≡ true → f ≡ At (place_of f 0)
-found-at (At k) e = refl
-found-at Nothing e = absurd (no e)
+pub found-at : (f : Option ℕ) → is_found f ≡ true → f ≡ Some (place_of f 0)
+found-at (Some k) e = refl
+found-at None e = absurd (no e)
 
 -- tests that agree on what passes a third find the same among what passes it
 pub first_agree : {A : Type 0} (p q c : A → Bool) → ((x : A) → c x ≡ true → p x ≡ q x) → (l : List A) → all c l ≡ true → first p l ≡ first q l
@@ -79,9 +78,9 @@ among-enter x g ls = by-found (first (same_bytes g) ls) refl
     by-same true e h = let z : among x ls ≡ true = ap (λ (y : List ℕ). among y ls) (same-equal x g e) ∙ h in rw z
     by-same false e h = sym (or_false (among x ls))
 
-    by-found : (f : Found) → first (same_bytes g) ls ≡ f → among x (labels_entered f ls g) ≡ (among x ls || same_bytes x g)
-    by-found (At k) e = by-same (same_bytes x g) refl (ap is_found e)
-    by-found Nothing e = found_snoc (same_bytes x) ls g
+    by-found : (f : Option ℕ) → first (same_bytes g) ls ≡ f → among x (labels_entered f ls g) ≡ (among x ls || same_bytes x g)
+    by-found (Some k) e = by-same (same_bytes x g) refl (ap is_found e)
+    by-found None e = found_snoc (same_bytes x) ls g
 
 pub among-fold : (x : List ℕ) (fs ls : List (List ℕ)) → among x (foldl enter ls fs) ≡ (among x ls || among x fs)
 unfolding first
@@ -153,7 +152,7 @@ module _ (fs : List (List ℕ)) where
   joined_ordered zero h = record { below = λ k i. absurd (omega arith); order = λ j k a i. absurd (omega arith) }
   joined_ordered (suc n) h = by-found (first (same_bytes (get_or fs n [])) (joined [] fs n)) refl (joined_ordered n (omega arith))
     where
-      new : first (same_bytes (get_or fs n [])) (joined [] fs n) ≡ Nothing → first (same_bytes (get_or fs n [])) fs ≡ At n
+      new : first (same_bytes (get_or fs n [])) (joined [] fs n) ≡ None → first (same_bytes (get_or fs n [])) fs ≡ Some n
       new e =
           first-at (same_bytes (get_or fs n [])) [] fs n h
           (λ m i.
@@ -162,12 +161,12 @@ module _ (fs : List (List ℕ)) where
           (same_refl (get_or fs n []))
 
       by-found :
-          (f : Found) →
+          (f : Option ℕ) →
           first (same_bytes (get_or fs n [])) (joined [] fs n) ≡ f →
           Ordered n (joined [] fs n) →
           Ordered (suc n) (labels_entered f (joined [] fs n) (get_or fs n []))
-      by-found (At k) e o = record { below = λ j i. omega (arith, o.below j i); order = o.order }
-      by-found Nothing e o = ordered_snoc n (joined [] fs n) (get_or fs n []) o (ap (λ (f : Found). place_of f 0) (new e))
+      by-found (Some k) e o = record { below = λ j i. omega (arith, o.below j i); order = o.order }
+      by-found None e o = ordered_snoc n (joined [] fs n) (get_or fs n []) o (ap (λ (f : Option ℕ). place_of f 0) (new e))
 
 pub appearances : (fs : List (List ℕ)) → FirstAppearances fs (foldl enter [] fs)
 unfolding first
@@ -192,9 +191,9 @@ found-append x (l ∷ ls) ds =
 enter-by : (ls : List (List ℕ)) (x : List ℕ) → enter ls x ≡ cond (among x ls) ls (ls ++ (x ∷ []))
 enter-by ls x = by-found (first (same_bytes x) ls)
   where
-    by-found : (f : Found) → labels_entered f ls x ≡ cond (is_found f) ls (ls ++ (x ∷ []))
-    by-found (At i) = refl
-    by-found Nothing = refl
+    by-found : (f : Option ℕ) → labels_entered f ls x ≡ cond (is_found f) ls (ls ++ (x ∷ []))
+    by-found (Some i) = refl
+    by-found None = refl
 
 fold-behind : (ls fs ds : List (List ℕ)) → foldl enter (ls ++ ds) fs ≡ ls ++ foldl enter ds (those (λ (x : List ℕ). not (among x ls)) fs)
 fold-behind ls [] ds = refl
@@ -252,8 +251,8 @@ pub number-listed :
     (ls ds : List (List ℕ)) →
     all (in_all ls) ds ≡ true →
     (x : List ℕ) (i : ℕ) →
-    first (same_bytes x) ls ≡ At i →
-    on_list (map (number_in ls) ds) (At i) ≡ among x ds
+    first (same_bytes x) ls ≡ Some i →
+    on_list (map (number_in ls) ds) (Some i) ≡ among x ds
 number-listed ls ds e x i q =
     ap is_found (first-map (eqb i) (number_in ls) ds ∙ first_agree (λ (d : List ℕ). eqb i (number_in ls d)) (same_bytes x) (in_all ls) agree ds e)
   where
@@ -261,7 +260,7 @@ number-listed ls ds e x i q =
     agree d h = by-test (same_bytes x d) refl
       where
         by-test : (b : Bool) → same_bytes x d ≡ b → eqb i (number_in ls d) ≡ b
-        by-test true z = eq-eqb _ _ (sym (ap (λ (y : List ℕ). number_in ls y) (sym (same-equal x d z)) ∙ ap (λ (f : Found). place_of f 0) q))
+        by-test true z = eq-eqb _ _ (sym (ap (λ (y : List ℕ). number_in ls y) (sym (same-equal x d z)) ∙ ap (λ (f : Option ℕ). place_of f 0) q))
         by-test false z =
             ne_eqb _ _
-            (λ w. no (sym z ∙ ap (λ (y : List ℕ). same_bytes y d) (one_label ls x d i q (found-at (first (same_bytes d) ls) h ∙ ap At (sym w))) ∙ same_refl d))
+            (λ w. no (sym z ∙ ap (λ (y : List ℕ). same_bytes y d) (one_label ls x d i q (found-at (first (same_bytes d) ls) h ∙ ap Some (sym w))) ∙ same_refl d))

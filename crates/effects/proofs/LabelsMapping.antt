@@ -5,17 +5,21 @@ use mathlib.Core.List.{List}
 use Prim.Native.Nat.{ℕ}
 use native.Mathlib.Omega.{arith}
 use lib.ListN.{length}
-use Rattle.search.specs.declared.Found.{Found}
-use Rattle.search.specs.declared.Found.TheVariants.{At, Nothing}
+use Rattle.std.proofs.Common.{Option, Some, None, Result, Ok, Err}
 use Rattle.refusals.specs.Refusals.{bad_label_at}
+use Rattle.refusals.specs.declared.Refusal.{Refusal}
 use Rattle.alphabet.specs.Alphabet.{well_formed, bad_byte}
 use Rattle.numbers.specs.Categories.{categories}
 use Rattle.numbers.specs.declared.CategorySet.{CategorySet}
 use Rattle.store.specs.Table.{Table, label_in, mapping_in, mapping_numbered}
-use Rattle.lookups.specs.declared.Lookup.TheVariants.{Mapped, Unmapped, Refused}
-use Rattle.lookups.specs.Lookups.{mapped_as, looked_up, lookup_by, label_lookup}
+use Rattle.lookups.specs.declared.Cipso.{Cipso}
+use Rattle.lookups.specs.Lookups.{mapped, mapped_as, looked_up, lookup_by, label_lookup}
 use Rattle.effects.specs.Effects.{HasMapping}
 use Rattle.effects.specs.OverrideAndLookUp.{LabelsMapping}
+
+-- two look-ups that find the same have the same level, set and count
+pub same_mapped : {a b : Cipso} → ◌≡◌ {A = Result (Option Cipso) Refusal} (Ok (Some a)) (Ok (Some b)) → a ≡ b
+same_mapped e = cc
 
 module _ (t : Table) (l : List ℕ) where
   -- by what is found: the label's mapping, or none
@@ -24,68 +28,67 @@ module _ (t : Table) (l : List ℕ) where
 
   found-mapped :
       (level : ℕ) (s : CategorySet) (count : ℕ) →
-      lookup_by t (label_in t l) ≡ Mapped level s count →
+      lookup_by t (label_in t l) ≡ mapped level s count →
       (k : ℕ) × HasMapping t l k × ((mapping_numbered t k).level ≡ level) × ((mapping_numbered t k).set ≡ s) × (count ≡ length (categories s))
   found-mapped level s count e = by_label (label_in t l) refl e
     where
       by-mapping :
           (n : ℕ) →
-          label_in t l ≡ At n →
-          (g : Found) →
+          label_in t l ≡ Some n →
+          (g : Option ℕ) →
           mapping_in t n ≡ g →
-          looked_up t.mappings g ≡ Mapped level s count →
+          looked_up t.mappings g ≡ mapped level s count →
           (k : ℕ) × HasMapping t l k × ((mapping_numbered t k).level ≡ level) × ((mapping_numbered t k).set ≡ s) × (count ≡ length (categories s))
-      by-mapping n a (At k) b e =
-          let x : (mapping_numbered t k).level ≡ level = cc in
-          let y : (mapping_numbered t k).set ≡ s = cc in
-          let z : length (categories (mapping_numbered t k).set) ≡ count = cc in
-          (k, (n, a, b), x, y, sym z ∙ ap (λ (v : CategorySet). length (categories v)) y)
-      by-mapping n a Nothing b e = let z : ◌≡◌ {A = ℕ} 0 1 = cc in absurd (omega arith)
+      by-mapping n a (Some k) b e =
+          let q = same_mapped e in
+          let y : (mapping_numbered t k).set ≡ s = ap (λ (m : Cipso). m.set) q in
+          (k, (n, a, b), ap (λ (m : Cipso). m.level) q, y, ap (λ (m : Cipso). m.count) (sym q) ∙ ap (λ (v : CategorySet). length (categories v)) y)
+      by-mapping n a None b e = let z : ◌≡◌ {A = ℕ} 0 1 = cc in absurd (omega arith)
 
       by_label :
-          (f : Found) →
+          (f : Option ℕ) →
           label_in t l ≡ f →
-          lookup_by t f ≡ Mapped level s count →
+          lookup_by t f ≡ mapped level s count →
           (k : ℕ) × HasMapping t l k × ((mapping_numbered t k).level ≡ level) × ((mapping_numbered t k).set ≡ s) × (count ≡ length (categories s))
-      by_label (At n) a e = by-mapping n a (mapping_in t n) refl e
-      by_label Nothing a e = let z : ◌≡◌ {A = ℕ} 0 1 = cc in absurd (omega arith)
+      by_label (Some n) a e = by-mapping n a (mapping_in t n) refl e
+      by_label None a e = let z : ◌≡◌ {A = ℕ} 0 1 = cc in absurd (omega arith)
 
-  found-unmapped : lookup_by t (label_in t l) ≡ Unmapped → (k : ℕ) → HasMapping t l k → ⊥
+  found-unmapped : lookup_by t (label_in t l) ≡ Ok None → (k : ℕ) → HasMapping t l k → ⊥
   found-unmapped e k h = let q = has-mapping k h in let z : ◌≡◌ {A = ℕ} 0 1 = cc in omega arith
 
-  unmapped-found : ((k : ℕ) → HasMapping t l k → ⊥) → lookup_by t (label_in t l) ≡ Unmapped
+  unmapped-found : ((k : ℕ) → HasMapping t l k → ⊥) → lookup_by t (label_in t l) ≡ Ok None
   unmapped-found none = by_label (label_in t l) refl
     where
-      by-mapping : (n : ℕ) → label_in t l ≡ At n → (g : Found) → mapping_in t n ≡ g → looked_up t.mappings g ≡ Unmapped
-      by-mapping n a (At k) b = absurd (none k (n, a, b))
-      by-mapping n a Nothing b = refl
+      by-mapping : (n : ℕ) → label_in t l ≡ Some n → (g : Option ℕ) → mapping_in t n ≡ g → looked_up t.mappings g ≡ Ok None
+      by-mapping n a (Some k) b = absurd (none k (n, a, b))
+      by-mapping n a None b = refl
 
-      by_label : (f : Found) → label_in t l ≡ f → lookup_by t f ≡ Unmapped
-      by_label (At n) a = by-mapping n a (mapping_in t n) refl
-      by_label Nothing a = refl
+      by_label : (f : Option ℕ) → label_in t l ≡ f → lookup_by t f ≡ Ok None
+      by_label (Some n) a = by-mapping n a (mapping_in t n) refl
+      by_label None a = refl
 
   -- a look-up that is not refused is of a well formed label
-  formed-mapped : (level : ℕ) (s : CategorySet) (count : ℕ) → label_lookup t l ≡ Mapped level s count → (well_formed l ≡ true) × (lookup_by t (label_in t l) ≡ Mapped level s count)
+  formed-mapped : (level : ℕ) (s : CategorySet) (count : ℕ) → label_lookup t l ≡ mapped level s count → (well_formed l ≡ true) × (lookup_by t (label_in t l) ≡ mapped level s count)
   unfolding label_lookup
   formed-mapped level s count e = by-test (well_formed l) refl e
     where
       by-test :
           (b : Bool) →
           well_formed l ≡ b →
-          cond b (lookup_by t (label_in t l)) (Refused (bad_label_at (bad_byte l))) ≡ Mapped level s count →
-          (well_formed l ≡ true) × (lookup_by t (label_in t l) ≡ Mapped level s count)
+          cond b (lookup_by t (label_in t l)) (Err (bad_label_at (bad_byte l))) ≡ mapped level s count →
+          (well_formed l ≡ true) × (lookup_by t (label_in t l) ≡ mapped level s count)
       by-test true q e = (q, e)
       by-test false q e = let z : ◌≡◌ {A = ℕ} 0 1 = cc in absurd (omega arith)
 
-  formed-unmapped : label_lookup t l ≡ Unmapped → (well_formed l ≡ true) × (lookup_by t (label_in t l) ≡ Unmapped)
+  formed-unmapped : label_lookup t l ≡ Ok None → (well_formed l ≡ true) × (lookup_by t (label_in t l) ≡ Ok None)
   unfolding label_lookup
   formed-unmapped e = by-test (well_formed l) refl e
     where
       by-test :
           (b : Bool) →
           well_formed l ≡ b →
-          cond b (lookup_by t (label_in t l)) (Refused (bad_label_at (bad_byte l))) ≡ Unmapped →
-          (well_formed l ≡ true) × (lookup_by t (label_in t l) ≡ Unmapped)
+          cond b (lookup_by t (label_in t l)) (Err (bad_label_at (bad_byte l))) ≡ Ok None →
+          (well_formed l ≡ true) × (lookup_by t (label_in t l) ≡ Ok None)
       by-test true q e = (q, e)
       by-test false q e = let z : ◌≡◌ {A = ℕ} 0 1 = cc in absurd (omega arith)
 

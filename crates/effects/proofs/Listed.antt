@@ -10,8 +10,7 @@ use lib.ListN.{length, get_or}
 use borrow.Author.Tests.{ne_eqb}
 use Rattle.search.specs.Search.{first, all}
 use Rattle.search.specs.Bytes.{same_bytes}
-use Rattle.search.specs.declared.Found.{Found}
-use Rattle.search.specs.declared.Found.TheVariants.{At, Nothing}
+use Rattle.std.proofs.Common.{Option, Some, None}
 use Rattle.search.proofs.Laws.{no, same_refl, same-equal, all-by, front_same}
 use Rattle.refusals.specs.Refusals.{too_long, labels_full, too_many_overrides, bad_label_at}
 use Rattle.alphabet.specs.Alphabet.{well_formed, fields, bad_byte_in}
@@ -92,9 +91,9 @@ module _ (t : Table) (sound : SoundTable t) where
         none true b z = absurd (no z)
         none false b z = z
 
-        by-found : (g : Found) → first (same_bytes x) ls ≡ g → on_list (map (number_in ls) ds) g ≡ among x fs
-        by-found (At i) q = number-listed ls ds all_there x i q ∙ among-different x
-        by-found Nothing q = none (among x t.labels) (among x fs) (sym (ap is_found q) ∙ among-labels x)
+        by-found : (g : Option ℕ) → first (same_bytes x) ls ≡ g → on_list (map (number_in ls) ds) g ≡ among x fs
+        by-found (Some i) q = number-listed ls ds all_there x i q ∙ among-different x
+        by-found None q = none (among x t.labels) (among x fs) (sym (ap is_found q) ∙ among-labels x)
 
     labels-set : SetsList t (with_list t fs) fs
     unfolding effective

@@ -15,18 +15,15 @@ use Rattle.alphabet.specs.Alphabet.{well_formed, fields, bad_byte_in}
 use Rattle.numbers.specs.Numbers.{number_of}
 use Rattle.numbers.specs.Categories.{is_mapping_level, is_category, has_category, no_categories, with_category, known_set, InWords}
 use Rattle.numbers.specs.declared.CategorySet.{CategorySet}
-use Rattle.numbers.specs.declared.Number.{Number}
-use Rattle.numbers.specs.declared.Number.TheVariants as number
+use Rattle.std.proofs.Common.{Option, Some, None}
 use Rattle.numbers.proofs.Sets.{none-words, category_sets}
-use Rattle.cipso.specs.declared.Categories.{Categories}
-use Rattle.cipso.specs.declared.Categories.TheVariants as read
 use Rattle.cipso.specs.Cipso.{refused, mapping, with_number, with_field, categories_of, with_set, with_level, said_by, said_fields, mapping_of}
 use Rattle.effects.specs.MappingText.{OneIs, MappingText}
 
 -- ---- the set that fields make of another
 
 record Made (s₀ : CategorySet) (fs : List (List ℕ)) (s : CategorySet) : Type 0 where
-  categories : (j : ℕ) → j < length fs → (k : ℕ) × (number_of (get_or fs j []) ≡ number.Value k) × (is_category k ≡ true)
+  categories : (j : ℕ) → j < length fs → (k : ℕ) × (number_of (get_or fs j []) ≡ Some k) × (is_category k ≡ true)
   has : (k : ℕ) → is_category k ≡ true → (has_category s k ≡ true) ↔ ((has_category s₀ k ≡ true) ⊎ OneIs fs k)
   known : known_set s ≡ known_set s₀
   words : InWords s
@@ -40,10 +37,10 @@ made_none s w =
       words = w;
     }
 
-same-value : {n k : ℕ} {v : Number} → v ≡ number.Value n → v ≡ number.Value k → n ≡ k
+same-value : {n k : ℕ} {v : Option ℕ} → v ≡ Some n → v ≡ Some k → n ≡ k
 same-value a b = cc
 
-module _ (f : List ℕ) (fs : List (List ℕ)) (n : ℕ) (s₀ s : CategorySet) (w₀ : InWords s₀) (q : number_of f ≡ number.Value n) (c : is_category n ≡ true) where
+module _ (f : List ℕ) (fs : List (List ℕ)) (n : ℕ) (s₀ s : CategorySet) (w₀ : InWords s₀) (q : number_of f ≡ Some n) (c : is_category n ≡ true) where
   module _ (m : Made (with_category s₀ n) fs s) where
     more-has : (k : ℕ) → is_category k ≡ true → (has_category s k ≡ true) ↔ ((has_category s₀ k ≡ true) ⊎ OneIs (f ∷ fs) k)
     more-has k d = (
@@ -56,13 +53,13 @@ module _ (f : List ℕ) (fs : List (List ℕ)) (n : ℕ) (s₀ s : CategorySet) 
 
         with-to : (has_category s₀ k ≡ true) ⊎ (k ≡ n) → (has_category s₀ k ≡ true) ⊎ OneIs (f ∷ fs) k
         with-to (inl z) = inl z
-        with-to (inr z) = inr (zero, omega arith, q ∙ ap number.Value (sym z))
+        with-to (inr z) = inr (zero, omega arith, q ∙ ap Some (sym z))
 
-        back : (j : ℕ) → j < suc (length fs) → number_of (get_or (f ∷ fs) j []) ≡ number.Value k → has_category s k ≡ true
+        back : (j : ℕ) → j < suc (length fs) → number_of (get_or (f ∷ fs) j []) ≡ Some k → has_category s k ≡ true
         back zero h z = (m.has k d).1 (inl (category_sets.one_more s₀ n k w₀ c d ∙ one.1 (inr (same-value z q))))
         back (suc j) h z = (m.has k d).1 (inr (j, le_of_suc-le-suc h, z))
 
-    more-categories : (j : ℕ) → j < suc (length fs) → (k : ℕ) × (number_of (get_or (f ∷ fs) j []) ≡ number.Value k) × (is_category k ≡ true)
+    more-categories : (j : ℕ) → j < suc (length fs) → (k : ℕ) × (number_of (get_or (f ∷ fs) j []) ≡ Some k) × (is_category k ≡ true)
     more-categories zero h = (n, q, c)
     more-categories (suc j) h = m.categories j (le_of_suc-le-suc h)
 
@@ -75,49 +72,49 @@ module _ (f : List ℕ) (fs : List (List ℕ)) (n : ℕ) (s₀ s : CategorySet) 
           words = m.words;
         }
 
-bad_stays : (fs : List (List ℕ)) → foldl with_field read.Bad fs ≡ read.Bad
+bad_stays : (fs : List (List ℕ)) → foldl with_field None fs ≡ None
 bad_stays [] = refl
 bad_stays (f ∷ fs) = bad_stays fs
 
-not_bad : (fs : List (List ℕ)) (s : CategorySet) → foldl with_field read.Bad fs ≡ read.Set s → ⊥
+not_bad : (fs : List (List ℕ)) (s : CategorySet) → foldl with_field None fs ≡ Some s → ⊥
 not_bad fs s e = let q = bad_stays fs in let z : ◌≡◌ {A = ℕ} 0 1 = cc in omega arith
 
-made : (fs : List (List ℕ)) (s₀ s : CategorySet) → InWords s₀ → foldl with_field (read.Set s₀) fs ≡ read.Set s → Made s₀ fs s
+made : (fs : List (List ℕ)) (s₀ s : CategorySet) → InWords s₀ → foldl with_field (Some s₀) fs ≡ Some s → Made s₀ fs s
 made [] s₀ s w e = let z : s₀ ≡ s = cc in subst (Made s₀ []) z (made_none s₀ w)
 made (f ∷ fs) s₀ s w e = by_number (number_of f) refl (made fs) e
   where
     by-test :
         (n : ℕ) →
-        number_of f ≡ number.Value n →
+        number_of f ≡ Some n →
         (b : Bool) →
         is_category n ≡ b →
-        ((s₀ s : CategorySet) → InWords s₀ → foldl with_field (read.Set s₀) fs ≡ read.Set s → Made s₀ fs s) →
-        foldl with_field (cond b (read.Set (with_category s₀ n)) read.Bad) fs ≡ read.Set s →
+        ((s₀ s : CategorySet) → InWords s₀ → foldl with_field (Some s₀) fs ≡ Some s → Made s₀ fs s) →
+        foldl with_field (cond b (Some (with_category s₀ n)) None) fs ≡ Some s →
         Made s₀ (f ∷ fs) s
     by-test n q true c ih e = made_more f fs n s₀ s w q c (ih (with_category s₀ n) s (category_sets.still_words s₀ n w c) e)
     by-test n q false c ih e = absurd (not_bad fs s e)
 
     by_number :
-        (v : Number) →
+        (v : Option ℕ) →
         number_of f ≡ v →
-        ((s₀ s : CategorySet) → InWords s₀ → foldl with_field (read.Set s₀) fs ≡ read.Set s → Made s₀ fs s) →
-        foldl with_field (with_number s₀ v) fs ≡ read.Set s →
+        ((s₀ s : CategorySet) → InWords s₀ → foldl with_field (Some s₀) fs ≡ Some s → Made s₀ fs s) →
+        foldl with_field (with_number s₀ v) fs ≡ Some s →
         Made s₀ (f ∷ fs) s
-    by_number (number.Value n) q ih e = by-test n q (is_category n) refl ih e
-    by_number number.Bad q ih e = absurd (not_bad fs s e)
+    by_number (Some n) q ih e = by-test n q (is_category n) refl ih e
+    by_number None q ih e = absurd (not_bad fs s e)
 
 -- fields that are all categories make a set
 makes :
     (fs : List (List ℕ)) (s₀ : CategorySet) →
-    ((j : ℕ) → j < length fs → (k : ℕ) × (number_of (get_or fs j []) ≡ number.Value k) × (is_category k ≡ true)) →
-    (s : CategorySet) × (foldl with_field (read.Set s₀) fs ≡ read.Set s)
+    ((j : ℕ) → j < length fs → (k : ℕ) × (number_of (get_or fs j []) ≡ Some k) × (is_category k ≡ true)) →
+    (s : CategorySet) × (foldl with_field (Some s₀) fs ≡ Some s)
 makes [] s₀ h = (s₀, refl)
 makes (f ∷ fs) s₀ h =
     let r = h zero (omega arith) in
     let ih = makes fs (with_category s₀ r.0) (λ j i. h (suc j) (suc-le-suc i)) in (
       ih.0,
-      ap (λ (v : Number). foldl with_field (with_number s₀ v) fs) r.1
-          ∙ ap (λ (b : Bool). foldl with_field (cond b (read.Set (with_category s₀ r.0)) read.Bad) fs) r.2
+      ap (λ (v : Option ℕ). foldl with_field (with_number s₀ v) fs) r.1
+          ∙ ap (λ (b : Bool). foldl with_field (cond b (Some (with_category s₀ r.0)) None) fs) r.2
           ∙ ih.1,
     )
 
@@ -139,14 +136,14 @@ text_says_lem text l level s e = by_length (ltb 1000 (length text)) refl e
         length text ≤ 1000 →
         fields text ≡ x ∷ f ∷ cs →
         well_formed x ≡ true →
-        number_of f ≡ number.Value n →
+        number_of f ≡ Some n →
         is_mapping_level n ≡ true →
-        (c : Categories) →
-        foldl with_field (read.Set no_categories) cs ≡ c →
+        (c : Option CategorySet) →
+        foldl with_field (Some no_categories) cs ≡ c →
         with_set x n c ≡ mapping l level s →
         MappingText text l level s
-    by-set x f cs n short parts formed number mapping_level read.Bad q e = let z : ◌≡◌ {A = ℕ} 0 1 = cc in absurd (omega arith)
-    by-set x f cs n short parts formed number mapping_level (read.Set v) q e =
+    by-set x f cs n short parts formed number mapping_level None q e = let z : ◌≡◌ {A = ℕ} 0 1 = cc in absurd (omega arith)
+    by-set x f cs n short parts formed number mapping_level (Some v) q e =
         let i : x ≡ l = cc in
         let j : n ≡ level = cc in
         let k : v ≡ s = cc in
@@ -171,12 +168,12 @@ text_says_lem text l level s e = by_length (ltb 1000 (length text)) refl e
         length text ≤ 1000 →
         fields text ≡ x ∷ f ∷ cs →
         well_formed x ≡ true →
-        number_of f ≡ number.Value n →
+        number_of f ≡ Some n →
         (b : Bool) →
         is_mapping_level n ≡ b →
-        cond b (with_set x n (foldl with_field (read.Set no_categories) cs)) (refused bad_level_or_category) ≡ mapping l level s →
+        cond b (with_set x n (foldl with_field (Some no_categories) cs)) (refused bad_level_or_category) ≡ mapping l level s →
         MappingText text l level s
-    by_level x f cs n short parts formed q true mapping_level e = by-set x f cs n short parts formed q mapping_level (foldl with_field (read.Set no_categories) cs) refl e
+    by_level x f cs n short parts formed q true mapping_level e = by-set x f cs n short parts formed q mapping_level (foldl with_field (Some no_categories) cs) refl e
     by_level x f cs n short parts formed q false mapping_level e = let z : ◌≡◌ {A = ℕ} 0 1 = cc in absurd (omega arith)
 
     by_number :
@@ -184,12 +181,12 @@ text_says_lem text l level s e = by_length (ltb 1000 (length text)) refl e
         length text ≤ 1000 →
         fields text ≡ x ∷ f ∷ cs →
         well_formed x ≡ true →
-        (v : Number) →
+        (v : Option ℕ) →
         number_of f ≡ v →
-        with_level x v (foldl with_field (read.Set no_categories) cs) ≡ mapping l level s →
+        with_level x v (foldl with_field (Some no_categories) cs) ≡ mapping l level s →
         MappingText text l level s
-    by_number x f cs short parts formed (number.Value n) q e = by_level x f cs n short parts formed q (is_mapping_level n) refl e
-    by_number x f cs short parts formed number.Bad q e = let z : ◌≡◌ {A = ℕ} 0 1 = cc in absurd (omega arith)
+    by_number x f cs short parts formed (Some n) q e = by_level x f cs n short parts formed q (is_mapping_level n) refl e
+    by_number x f cs short parts formed None q e = let z : ◌≡◌ {A = ℕ} 0 1 = cc in absurd (omega arith)
 
     by-formed :
         (x f : List ℕ) (cs : List (List ℕ)) →
@@ -197,7 +194,7 @@ text_says_lem text l level s e = by_length (ltb 1000 (length text)) refl e
         fields text ≡ x ∷ f ∷ cs →
         (b : Bool) →
         well_formed x ≡ b →
-        cond b (with_level x (number_of f) (foldl with_field (read.Set no_categories) cs)) (refused (bad_label_at (bad_byte_in text))) ≡ mapping l level s →
+        cond b (with_level x (number_of f) (foldl with_field (Some no_categories) cs)) (refused (bad_label_at (bad_byte_in text))) ≡ mapping l level s →
         MappingText text l level s
     by-formed x f cs short parts true formed e = by_number x f cs short parts formed (number_of f) refl e
     by-formed x f cs short parts false formed e = let z : ◌≡◌ {A = ℕ} 0 1 = cc in absurd (omega arith)

@@ -10,14 +10,11 @@ use borrow.Author.Tests.{eqb-true}
 use lib.ListN.{length, get_or, set, length-map}
 use Rattle.search.specs.Search.{all, put}
 use Rattle.search.specs.Bytes.{same_bytes}
-use Rattle.search.specs.declared.Found.{Found}
-use Rattle.search.specs.declared.Found.TheVariants.{At, Nothing}
+use Rattle.std.proofs.Common.{Option, Some, None}
 use Rattle.search.proofs.Laws.{map_snoc}
 use Rattle.refusals.specs.Refusals.{too_long, bad_label_at, same_labels, labels_full, rules_full}
 use Rattle.alphabet.specs.Alphabet.{dash, is_blank, label_byte, well_formed, fields, bad_byte_in}
 use Rattle.modes.specs.Modes.{bit_of, allowed_byte, modes_of, read_modes, line_letters, request_letters, known_modes, stored_modes}
-use Rattle.modes.specs.declared.Access.{Access}
-use Rattle.modes.specs.declared.Access.TheVariants.{Modes, Bad}
 use Rattle.modes.proofs.Bits.{and_swap, and_or}
 use Rattle.modes.proofs.Laws.{joined, read_known, known-stored}
 use Rattle.lines.specs.Lines.{refused, rule, rule_with, rule_by, rule_fields, rule_of, bring_up_in}
@@ -42,10 +39,10 @@ map-set [] i r = refl
 map-set (x ∷ xs) zero r = refl
 map-set (x ∷ xs) (suc i) r = ap (λ (l : List Rule). rule_without_b x ∷ l) (map-set xs i r)
 
-map-put : (f : Found) (l : List Rule) (r : Rule) → map rule_without_b (put f l r) ≡ put f (map rule_without_b l) (rule_without_b r)
+map-put : (f : Option ℕ) (l : List Rule) (r : Rule) → map rule_without_b (put f l r) ≡ put f (map rule_without_b l) (rule_without_b r)
 unfolding put
-map-put (At i) l r = map-set l i r
-map-put Nothing l r = map_snoc rule_without_b l r
+map-put (Some i) l r = map-set l i r
+map-put None l r = map_snoc rule_without_b l r
 
 rule-at : (l : List Rule) (k : ℕ) → get_or (map rule_without_b l) k none ≡ rule_without_b (get_or l k none)
 rule-at [] k = refl
@@ -59,14 +56,14 @@ modes_without_b (has_modes m) = has_modes (stored_modes m)
 modes_without_b no_rule = no_rule
 
 module _ (t : Table) where
-  same-rule : (s o : Found) → rule_between (without_b t) s o ≡ rule_between t s o
-  same-rule (At i) (At j) = same_place rule_without_b (λ r. refl) (λ r. refl) t.rules i j
-  same-rule (At i) Nothing = refl
-  same-rule Nothing o = refl
+  same-rule : (s o : Option ℕ) → rule_between (without_b t) s o ≡ rule_between t s o
+  same-rule (Some i) (Some j) = same_place rule_without_b (λ r. refl) (λ r. refl) t.rules i j
+  same-rule (Some i) None = refl
+  same-rule None o = refl
 
-  found-modes : (f : Found) → modes_found (map rule_without_b t.rules) f ≡ modes_without_b (modes_found t.rules f)
-  found-modes (At k) = ap (λ (r : Rule). has_modes r.modes) (rule-at t.rules k)
-  found-modes Nothing = refl
+  found-modes : (f : Option ℕ) → modes_found (map rule_without_b t.rules) f ≡ modes_without_b (modes_found t.rules f)
+  found-modes (Some k) = ap (λ (r : Rule). has_modes r.modes) (rule-at t.rules k)
+  found-modes None = refl
 
   same-modes : (s o : List ℕ) → modes_between (without_b t) s o ≡ modes_without_b (modes_between t s o)
   unfolding modes_between
@@ -107,9 +104,9 @@ module _ (t : Table) where
       by-same s o m true = refl
       by-same s o m false = pair-judged s o m
 
-      by-access : (s o : List ℕ) (a : Access) → judged (without_b t) (rule_with s o a) ≡ judged_without_b (judged t (rule_with_01 s o a))
-      by-access s o (Modes m) = by-same s o m (same_bytes s o)
-      by-access s o Bad = refl
+      by-access : (s o : List ℕ) (a : Option ℕ) → judged (without_b t) (rule_with s o a) ≡ judged_without_b (judged t (rule_with_01 s o a))
+      by-access s o (Some m) = by-same s o m (same_bytes s o)
+      by-access s o None = refl
 
       by-formed :
           (s o a : List ℕ) (b : Bool) →
@@ -175,9 +172,9 @@ module _ (t : Table) (s o : List ℕ) (capable : Bool) where
   unfolding decide effective
   decide-same wanted k = rw (same-modes t s o, pass_same (modes_between t s o) wanted k)
 
-  request_same : (a : Access) → ((m : ℕ) → a ≡ Modes m → known_modes m ≡ true) → by_request (without_b t) s o capable a ≡ by_request t s o capable a
-  request_same (Modes m) k = decide-same m (k m refl)
-  request_same Bad k = refl
+  request_same : (a : Option ℕ) → ((m : ℕ) → a ≡ Some m → known_modes m ≡ true) → by_request (without_b t) s o capable a ≡ by_request t s o capable a
+  request_same (Some m) k = decide-same m (k m refl)
+  request_same None k = refl
 
 request_known : known_modes request_letters ≡ true
 unfolding known_modes
@@ -224,8 +221,8 @@ placeholder place s o a = rw (field_allowed a) (by-test (all (allowed_byte line_
   where
     by-test :
         (t : Bool) →
-        cond (well_formed s && well_formed o) (rule_with s o (cond t (Modes (foldl joined 0 a)) Bad)) (refused (bad_label_at place))
-        ≡ cond (well_formed s && well_formed o) (rule_with s o (cond t (Modes (foldl joined 0 (map dash_for_b a))) Bad)) (refused (bad_label_at place))
+        cond (well_formed s && well_formed o) (rule_with s o (cond t (Some (foldl joined 0 a)) None)) (refused (bad_label_at place))
+        ≡ cond (well_formed s && well_formed o) (rule_with s o (cond t (Some (foldl joined 0 (map dash_for_b a))) None)) (refused (bad_label_at place))
     by-test true = rw (field_stored a 0 0 refl)
     by-test false = refl
 

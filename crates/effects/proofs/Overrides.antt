@@ -15,8 +15,7 @@ use Rattle.refusals.specs.Refusals.{bad_request, bad_label_at}
 use Rattle.refusals.specs.declared.Refusal.{Refusal}
 use Rattle.alphabet.specs.Alphabet.{well_formed, bad_byte_of_two}
 use Rattle.modes.specs.Modes.{read_modes, request_letters}
-use Rattle.modes.specs.declared.Access.{Access}
-use Rattle.modes.specs.declared.Access.TheVariants.{Modes, Bad}
+use Rattle.std.proofs.Common.{Option, Some, None}
 use Rattle.store.specs.Table.{Table, label_in}
 use Rattle.access.specs.SevenRules.{first_of, seven_rules}
 use Rattle.access.specs.declared.Denial.{Denial}
@@ -46,17 +45,17 @@ refused_stays false n = refl
 
 module _ (t : Table) (s o request : List ℕ) where
   request_overridden :
-      (r : Access) → by_request t s o true r ≡ cond (effective t (label_in t s) true) (overridden (by_request t s o false r)) (by_request t s o false r)
+      (r : Option ℕ) → by_request t s o true r ≡ cond (effective t (label_in t s) true) (overridden (by_request t s o false r)) (by_request t s o false r)
   unfolding decide effective
-  request_overridden (Modes wanted) = verdict_overridden (effective t (label_in t s) true) (first_of (seven_rules t s o wanted))
-  request_overridden Bad = refused_stays (effective t (label_in t s) true) bad_request
+  request_overridden (Some wanted) = verdict_overridden (effective t (label_in t s) true) (first_of (seven_rules t s o wanted))
+  request_overridden None = refused_stays (effective t (label_in t s) true) bad_request
 
   answer-overridden : answer t s o request true ≡ cond (effective t (label_in t s) true) (overridden (answer t s o request false)) (answer t s o request false)
   unfolding answer
   answer-overridden = by_tests (well_formed s && well_formed o) (eqb (length request) 0) (read_modes request_letters false request)
     where
       by_tests :
-          (a b : Bool) (r : Access) →
+          (a b : Bool) (r : Option ℕ) →
           cond a (cond b (Refused bad_request) (by_request t s o true r)) (Refused (bad_label_at (bad_byte_of_two s o)))
           ≡ cond (effective t (label_in t s) true)
           (overridden (cond a (cond b (Refused bad_request) (by_request t s o false r)) (Refused (bad_label_at (bad_byte_of_two s o)))))
@@ -65,16 +64,16 @@ module _ (t : Table) (s o request : List ℕ) where
       by_tests true false r = request_overridden r
       by_tests false b r = refused_stays (effective t (label_in t s) true) (bad_label_at (bad_byte_of_two s o))
 
-  request_never : (r : Access) (by : Denial) → by_request t s o false r ≡ Override by → ⊥
+  request_never : (r : Option ℕ) (by : Denial) → by_request t s o false r ≡ Override by → ⊥
   unfolding decide effective
-  request_never (Modes wanted) by e = verdict_never (first_of (seven_rules t s o wanted)) by e
-  request_never Bad by e = let z : ◌≡◌ {A = ℕ} 0 1 = cc in omega arith
+  request_never (Some wanted) by e = verdict_never (first_of (seven_rules t s o wanted)) by e
+  request_never None by e = let z : ◌≡◌ {A = ℕ} 0 1 = cc in omega arith
 
   answer_never : (by : Denial) → answer t s o request false ≡ Override by → ⊥
   unfolding answer
   answer_never by e = by_tests (well_formed s && well_formed o) (eqb (length request) 0) (read_modes request_letters false request) e
     where
-      by_tests : (a b : Bool) (r : Access) → cond a (cond b (Refused bad_request) (by_request t s o false r)) (Refused (bad_label_at (bad_byte_of_two s o))) ≡ Override by → ⊥
+      by_tests : (a b : Bool) (r : Option ℕ) → cond a (cond b (Refused bad_request) (by_request t s o false r)) (Refused (bad_label_at (bad_byte_of_two s o))) ≡ Override by → ⊥
       by_tests true true r e = let z : ◌≡◌ {A = ℕ} 0 1 = cc in omega arith
       by_tests true false r e = request_never r by e
       by_tests false b r e = let z : ◌≡◌ {A = ℕ} 0 1 = cc in omega arith

@@ -12,8 +12,7 @@ use borrow.Author.Tests.{eqb-true, eqb-false}
 use Rattle.search.specs.Search.{put, place_of}
 use Rattle.search.specs.Within.{count_after}
 use Rattle.search.specs.Bytes.{same_bytes}
-use Rattle.search.specs.declared.Found.{Found}
-use Rattle.search.specs.declared.Found.TheVariants.{At, Nothing}
+use Rattle.std.proofs.Common.{Option, Some, None}
 use Rattle.search.proofs.Laws.{no, and_both, same_refl, first-is, put-at, put_other, length-put, Front, front-more, front-first}
 use Rattle.refusals.specs.Refusals.{labels_full, rules_full}
 use Rattle.store.specs.declared.Rule.{Rule}
@@ -34,19 +33,19 @@ none = record { subject = 0; object = 0; modes = 0 }
 
 -- ---- a rule put in its pair's place, or last
 
-module _ (rules : List Rule) (f : Found) (v : Rule) where
+module _ (rules : List Rule) (f : Option ℕ) (v : Rule) where
   -- a part that the new rule has in common with the one that it replaces
   part-kept :
       (part : Rule → ℕ) →
-      ((p : ℕ) → f ≡ At p → (p < length rules) × (part (get_or rules p none) ≡ part v)) →
+      ((p : ℕ) → f ≡ Some p → (p < length rules) × (part (get_or rules p none) ≡ part v)) →
       (k : ℕ) →
       k < length rules →
       part (get_or (put f rules v) k none) ≡ part (get_or rules k none)
   part-kept part same k h = by_place (eqb k (place_of f (length rules))) refl
     where
-      inside : (g : Found) → f ≡ g → k ≡ place_of g (length rules) → (place_of g (length rules) < count_after g (length rules)) × (part (get_or rules k none) ≡ part v)
-      inside (At p) e z = ((same p e).0, ap (λ (j : ℕ). part (get_or rules j none)) z ∙ (same p e).1)
-      inside Nothing e z = absurd (omega arith)
+      inside : (g : Option ℕ) → f ≡ g → k ≡ place_of g (length rules) → (place_of g (length rules) < count_after g (length rules)) × (part (get_or rules k none) ≡ part v)
+      inside (Some p) e z = ((same p e).0, ap (λ (j : ℕ). part (get_or rules j none)) z ∙ (same p e).1)
+      inside None e z = absurd (omega arith)
 
       by_place : (b : Bool) → eqb k (place_of f (length rules)) ≡ b → part (get_or (put f rules v) k none) ≡ part (get_or rules k none)
       by_place true e =
@@ -56,33 +55,33 @@ module _ (rules : List Rule) (f : Found) (v : Rule) where
       by_place false e = ap part (put_other none f rules v k h (eqb-false _ _ e))
 
   -- every other place is as it was
-  place_kept : (k : ℕ) → k < length rules → f ≢ At k → get_or (put f rules v) k none ≡ get_or rules k none
+  place_kept : (k : ℕ) → k < length rules → f ≢ Some k → get_or (put f rules v) k none ≡ get_or rules k none
   place_kept k h apart = put_other none f rules v k h (by_case f apart)
     where
-      by_case : (g : Found) → g ≢ At k → k ≡ place_of g (length rules) → ⊥
-      by_case (At p) q z = q (ap At (sym z))
-      by_case Nothing q z = omega arith
+      by_case : (g : Option ℕ) → g ≢ Some k → k ≡ place_of g (length rules) → ⊥
+      by_case (Some p) q z = q (ap Some (sym z))
+      by_case None q z = omega arith
 
   count_kept : has_rule (modes_found rules f) ≡ true → length (put f rules v) ≡ length rules
   count_kept h = length-put f rules v ∙ by_case f h
     where
-      by_case : (g : Found) → has_rule (modes_found rules g) ≡ true → count_after g (length rules) ≡ length rules
-      by_case (At p) h = refl
-      by_case Nothing h = absurd (no h)
+      by_case : (g : Option ℕ) → has_rule (modes_found rules g) ≡ true → count_after g (length rules) ≡ length rules
+      by_case (Some p) h = refl
+      by_case None h = absurd (no h)
 
   count-more : has_rule (modes_found rules f) ≡ false → length (put f rules v) ≡ suc (length rules)
   count-more h = length-put f rules v ∙ by_case f h
     where
-      by_case : (g : Found) → has_rule (modes_found rules g) ≡ false → count_after g (length rules) ≡ suc (length rules)
-      by_case (At p) h = absurd (no (sym h))
-      by_case Nothing h = add-one (length rules)
+      by_case : (g : Option ℕ) → has_rule (modes_found rules g) ≡ false → count_after g (length rules) ≡ suc (length rules)
+      by_case (Some p) h = absurd (no (sym h))
+      by_case None h = add-one (length rules)
 
   last-is : has_rule (modes_found rules f) ≡ false → get_or (put f rules v) (length rules) none ≡ v
   last-is h = by_case f h
     where
-      by_case : (g : Found) → has_rule (modes_found rules g) ≡ false → get_or (put g rules v) (length rules) none ≡ v
-      by_case (At p) h = absurd (no (sym h))
-      by_case Nothing h = put-at none Nothing rules v (omega arith)
+      by_case : (g : Option ℕ) → has_rule (modes_found rules g) ≡ false → get_or (put g rules v) (length rules) none ≡ v
+      by_case (Some p) h = absurd (no (sym h))
+      by_case None h = put-at none None rules v (omega arith)
 
 -- ---- the pair's labels
 
@@ -103,26 +102,26 @@ module _ (t : Table) (s o : List ℕ) where
   -- the pair's rule is of these two numbers
   pair-at :
       (p : ℕ) →
-      pair_rule t s o ≡ At p →
+      pair_rule t s o ≡ Some p →
       (p < length t.rules) × ((get_or t.rules p none).subject ≡ number_in ls s) × ((get_or t.rules p none).object ≡ number_in ls o)
   unfolding is_pair
   pair-at p e = by_both (label_in t s) (label_in t o) refl refl e
     where
       by_both :
-          (f g : Found) →
+          (f g : Option ℕ) →
           label_in t s ≡ f →
           label_in t o ≡ g →
-          rule_between t f g ≡ At p →
+          rule_between t f g ≡ Some p →
           (p < length t.rules) × ((get_or t.rules p none).subject ≡ number_in ls s) × ((get_or t.rules p none).object ≡ number_in ls o)
-      by_both (At i) (At j) a b e =
+      by_both (Some i) (Some j) a b e =
           let h = first-is (is_pair i j) none t.rules p e in
           let q = and_both (eqb (get_or t.rules p none).subject i) (eqb (get_or t.rules p none).object j) h.1 in (
             h.0,
-            eqb-true _ _ q.0 ∙ sym (ap (λ (f : Found). place_of f 0) (front-first (same_bytes s) i front a)),
-            eqb-true _ _ q.1 ∙ sym (ap (λ (f : Found). place_of f 0) (front-first (same_bytes o) j front b)),
+            eqb-true _ _ q.0 ∙ sym (ap (λ (f : Option ℕ). place_of f 0) (front-first (same_bytes s) i front a)),
+            eqb-true _ _ q.1 ∙ sym (ap (λ (f : Option ℕ). place_of f 0) (front-first (same_bytes o) j front b)),
           )
-      by_both (At i) Nothing a b e = let z : ◌≡◌ {A = ℕ} 0 1 = cc in absurd (omega arith)
-      by_both Nothing g a b e = let z : ◌≡◌ {A = ℕ} 0 1 = cc in absurd (omega arith)
+      by_both (Some i) None a b e = let z : ◌≡◌ {A = ℕ} 0 1 = cc in absurd (omega arith)
+      by_both None g a b e = let z : ◌≡◌ {A = ℕ} 0 1 = cc in absurd (omega arith)
 
   module _ (m : ℕ) where
     abbrev new : Rule

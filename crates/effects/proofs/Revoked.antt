@@ -10,8 +10,7 @@ use lib.ListN.{length, get_or, length-map}
 use borrow.Author.Tests.{eqb-true, eq-eqb, ne_eqb}
 use Rattle.search.specs.Search.{first, all, those}
 use Rattle.search.specs.Bytes.{same_bytes}
-use Rattle.search.specs.declared.Found.{Found}
-use Rattle.search.specs.declared.Found.TheVariants.{At, Nothing}
+use Rattle.std.proofs.Common.{Option, Some, None, Ok}
 use Rattle.search.proofs.Laws.{no, and_both, not_so, same_refl, same-equal, first-is, first-map, first-same, map_at}
 use Rattle.refusals.specs.Refusals.{damaged, too_long, bad_label_at}
 use Rattle.alphabet.specs.Alphabet.{well_formed, bad_byte}
@@ -20,7 +19,6 @@ use Rattle.store.specs.Table.{Table, label_in, label_numbered, is_pair, sound_ru
 use Rattle.store.specs.Pairs.{has_modes, rule_between, modes_found, modes_between}
 use Rattle.store.specs.Layout.{Store, table_of, undamaged_of}
 use Rattle.store.specs.Judged.{Judged, is_skipped, is_refused, is_accepted, on_state}
-use Rattle.revoke.specs.declared.Revoked.TheVariants.{Count}
 use Rattle.revoke.specs.Revoke.{has_subject, how_many, revoked_rule, without_modes, subject_count, revoke_write, count_of, revoke_count, revoke_answer}
 use Rattle.access.specs.Access.{effective}
 use Rattle.new_object.proofs.WhichLabel.{goes_by-modes, pair_alone}
@@ -34,10 +32,10 @@ use Rattle.effects.specs.Effects.{cleared, Revokes, CountsRules, rules_of}
 abbrev none : Rule
 none = record { subject = 0; object = 0; modes = 0 }
 
-number : {i j : ℕ} → At i ≡ At j → i ≡ j
+number : {i j : ℕ} → Some i ≡ Some j → i ≡ j
 number q = cc
 
-nowhere : {i : ℕ} → Nothing ≡ At i → ⊥
+nowhere : {i : ℕ} → None ≡ Some i → ⊥
 nowhere q = let z : ◌≡◌ {A = ℕ} 0 1 = cc in omega arith
 
 -- a search for a pair finds the same place among rules whose labels are the same, whatever their modes
@@ -71,7 +69,7 @@ module _ (n : ℕ) where
   pair_place rules i j = same_place (revoked_rule n) same_subject same_object rules i j
 
   -- the rule found there has the subject
-  pair-subject : (rules : List Rule) (i j k : ℕ) → first (is_pair i j) rules ≡ At k → (k < length rules) × ((get_or rules k none).subject ≡ i)
+  pair-subject : (rules : List Rule) (i j k : ℕ) → first (is_pair i j) rules ≡ Some k → (k < length rules) × ((get_or rules k none).subject ≡ i)
   unfolding is_pair
   pair-subject rules i j k e =
       let h = first-is (is_pair i j) none rules k e in
@@ -84,26 +82,26 @@ module _ (n : ℕ) where
   own-modes rules j = ap (modes_found (after rules)) (pair_place rules n j) ∙ by_case (first (is_pair n j) rules) (pair-subject rules n j)
     where
       by_case :
-          (f : Found) →
-          ((k : ℕ) → f ≡ At k → (k < length rules) × ((get_or rules k none).subject ≡ n)) →
+          (f : Option ℕ) →
+          ((k : ℕ) → f ≡ Some k → (k < length rules) × ((get_or rules k none).subject ≡ n)) →
           modes_found (after rules) f ≡ cleared (modes_found rules f)
-      by_case (At k) h =
+      by_case (Some k) h =
           ap (λ (r : Rule). has_modes r.modes) (map_at (revoked_rule n) none none rules k (h k refl).0)
           ∙ ap (λ (b : Bool). has_modes (emptied b (get_or rules k none)).modes) (eq-eqb _ _ (h k refl).1)
-      by_case Nothing h = refl
+      by_case None h = refl
 
   other_modes :
       (rules : List Rule) (i j : ℕ) → i ≢ n → modes_found (after rules) (first (is_pair i j) (after rules)) ≡ modes_found rules (first (is_pair i j) rules)
   other_modes rules i j apart = ap (modes_found (after rules)) (pair_place rules i j) ∙ by_case (first (is_pair i j) rules) (pair-subject rules i j)
     where
       by_case :
-          (f : Found) →
-          ((k : ℕ) → f ≡ At k → (k < length rules) × ((get_or rules k none).subject ≡ i)) →
+          (f : Option ℕ) →
+          ((k : ℕ) → f ≡ Some k → (k < length rules) × ((get_or rules k none).subject ≡ i)) →
           modes_found (after rules) f ≡ modes_found rules f
-      by_case (At k) h =
+      by_case (Some k) h =
           ap (λ (r : Rule). has_modes r.modes) (map_at (revoked_rule n) none none rules k (h k refl).0)
           ∙ ap (λ (b : Bool). has_modes (emptied b (get_or rules k none)).modes) (ne_eqb _ _ (λ q. apart (sym (h k refl).1 ∙ q)))
-      by_case Nothing h = refl
+      by_case None h = refl
 
   -- the rule at a place, with the modes that a test leaves it
   modes-at : (rules : List Rule) (k : ℕ) → has_subject n (get_or rules k none) ≡ true → (get_or (after rules) k none).modes ≡ 0
@@ -127,22 +125,22 @@ module _ (n : ℕ) where
   place-part part same (r ∷ rs) (suc k) = place-part part same rs k
 
 module _ (t : Table) (l : List ℕ) where
-  module _ (n : ℕ) (e : label_in t l ≡ At n) where
+  module _ (n : ℕ) (e : label_in t l ≡ Some n) where
     abbrev t' : Table
-    t' = without_modes t (At n)
+    t' = without_modes t (Some n)
 
-    by-object : (g : Found) → modes_found t'.rules (rule_between t' (label_in t l) g) ≡ cleared (modes_found t.rules (rule_between t (label_in t l) g))
-    by-object (At j) = rw e (own-modes n t.rules j)
-    by-object Nothing = rw e
+    by-object : (g : Option ℕ) → modes_found t'.rules (rule_between t' (label_in t l) g) ≡ cleared (modes_found t.rules (rule_between t (label_in t l) g))
+    by-object (Some j) = rw e (own-modes n t.rules j)
+    by-object None = rw e
 
-    by_both : (f g : Found) → ((i : ℕ) → f ≡ At i → i ≢ n) → modes_found t'.rules (rule_between t' f g) ≡ modes_found t.rules (rule_between t f g)
-    by_both (At i) (At j) apart = other_modes n t.rules i j (apart i refl)
-    by_both (At i) Nothing apart = refl
-    by_both Nothing g apart = refl
+    by_both : (f g : Option ℕ) → ((i : ℕ) → f ≡ Some i → i ≢ n) → modes_found t'.rules (rule_between t' f g) ≡ modes_found t.rules (rule_between t f g)
+    by_both (Some i) (Some j) apart = other_modes n t.rules i j (apart i refl)
+    by_both (Some i) None apart = refl
+    by_both None g apart = refl
 
     other : (x y : List ℕ) → x ≢ l → modes_between t' x y ≡ modes_between t x y
     unfolding modes_between
-    other x y apart = by_both (label_in t x) (label_in t y) (λ i q z. apart (one_label t.labels x l n (q ∙ ap At z) e))
+    other x y apart = by_both (label_in t x) (label_in t y) (λ i q z. apart (one_label t.labels x l n (q ∙ ap Some z) e))
 
     revokes-at : Revokes t t' l
     unfolding modes_between effective
@@ -157,13 +155,13 @@ module _ (t : Table) (l : List ℕ) where
           subjects = place-part n (λ r. r.subject) (same_subject n) t.rules;
           objects = place-part n (λ r. r.object) (same_object n) t.rules;
           own_rules = λ k q. modes-at n t.rules k (eq-eqb _ _ (number (sym q ∙ e)));
-          other_rules = λ k q. modes_stay n t.rules k (ne_eqb _ _ (λ z. q (e ∙ ap At (sym z))));
+          other_rules = λ k q. modes_stay n t.rules k (ne_eqb _ _ (λ z. q (e ∙ ap Some (sym z))));
           labels = refl;
           mappings = refl;
           onlycap = refl;
         }
 
-  revokes_none : label_in t l ≡ Nothing → Revokes t t l
+  revokes_none : label_in t l ≡ None → Revokes t t l
   unfolding modes_between
   revokes_none e =
       record {
@@ -182,7 +180,7 @@ module _ (t : Table) (l : List ℕ) where
         onlycap = refl;
       }
     where
-      unknown : (g : Found) → modes_found t.rules (rule_between t (label_in t l) g) ≡ cleared (modes_found t.rules (rule_between t (label_in t l) g))
+      unknown : (g : Option ℕ) → modes_found t.rules (rule_between t (label_in t l) g) ≡ cleared (modes_found t.rules (rule_between t (label_in t l) g))
       unknown g = rw e
 
 -- AN ACCEPTED REVOKE
@@ -191,13 +189,13 @@ unfolding revoke_write
 revoke-clears t t' l e = by_tests (ltb 600 (length l)) (well_formed l) (label_in t l) refl e
   where
     by_tests :
-        (a b : Bool) (f : Found) →
+        (a b : Bool) (f : Option ℕ) →
         label_in t l ≡ f →
         cond a (is_refused too_long) (cond b (is_accepted (without_modes t f)) (is_refused (bad_label_at (bad_byte l)))) ≡ is_accepted t' →
         Revokes t t' l
     by_tests true b f q e = let z : ◌≡◌ {A = ℕ} 0 1 = cc in absurd (omega arith)
-    by_tests false true (At n) q e = let z : without_modes t (At n) ≡ t' = cc in subst (λ (x : Table). Revokes t x l) z (revokes-at t l n q)
-    by_tests false true Nothing q e = let z : t ≡ t' = cc in subst (λ (x : Table). Revokes t x l) z (revokes_none t l q)
+    by_tests false true (Some n) q e = let z : without_modes t (Some n) ≡ t' = cc in subst (λ (x : Table). Revokes t x l) z (revokes-at t l n q)
+    by_tests false true None q e = let z : t ≡ t' = cc in subst (λ (x : Table). Revokes t x l) z (revokes_none t l q)
     by_tests false false f q e = let z : ◌≡◌ {A = ℕ} 0 1 = cc in absurd (omega arith)
 
 -- ---- how many rules it has
@@ -218,23 +216,23 @@ revoke-counts : (t : Table) (l : List ℕ) → LabelsOnce t → SoundTable t →
 unfolding all
 revoke-counts t l h whole = by-found (label_in t l) refl
   where
-    at : (r : Rule) → sound_rule (length t.labels) r ≡ true → label_in t (label_numbered t r.subject) ≡ At r.subject
+    at : (r : Rule) → sound_rule (length t.labels) r ≡ true → label_in t (label_numbered t r.subject) ≡ Some r.subject
     at r s = h.label_once r.subject (rule-known (length t.labels) r s).0
 
     sound : all (sound_rule (length t.labels)) t.rules ≡ true
     sound = (sound-parts t (length t.labels) whole).0
 
-    same_at : (n : ℕ) → label_in t l ≡ At n → (r : Rule) → sound_rule (length t.labels) r ≡ true → has_subject n r ≡ same_bytes (label_numbered t r.subject) l
+    same_at : (n : ℕ) → label_in t l ≡ Some n → (r : Rule) → sound_rule (length t.labels) r ≡ true → has_subject n r ≡ same_bytes (label_numbered t r.subject) l
     same_at n e r s = by-test (same_bytes (label_numbered t r.subject) l) refl
       where
         by-test : (b : Bool) → same_bytes (label_numbered t r.subject) l ≡ b → has_subject n r ≡ b
         by-test true q = eq-eqb _ _ (number (sym (at r s) ∙ ap (label_in t) (same-equal _ _ q) ∙ e))
-        by-test false q = ne_eqb _ _ (λ z. no (sym q ∙ ap (λ (x : List ℕ). same_bytes x l) (one_label t.labels _ l n (at r s ∙ ap At z) e) ∙ same_refl l))
+        by-test false q = ne_eqb _ _ (λ z. no (sym q ∙ ap (λ (x : List ℕ). same_bytes x l) (one_label t.labels _ l n (at r s ∙ ap Some z) e) ∙ same_refl l))
 
     no-pass :
         (rs : List Rule) →
         all (sound_rule (length t.labels)) rs ≡ true →
-        label_in t l ≡ Nothing →
+        label_in t l ≡ None →
         0 ≡ length (those (λ (r : Rule). same_bytes (label_numbered t r.subject) l) rs)
     no-pass [] s e = refl
     no-pass (r ∷ rs) s e =
@@ -242,10 +240,10 @@ revoke-counts t l h whole = by-found (label_in t l) refl
         let other = not_so (same_bytes (label_numbered t r.subject) l) (λ q. nowhere (sym e ∙ ap (label_in t) (sym (same-equal _ _ q)) ∙ at r b.0)) in
         rw other (no-pass rs b.1 e)
 
-    by-found : (f : Found) → label_in t l ≡ f → subject_count t f ≡ length (rules_of t l)
-    by-found (At n) e =
+    by-found : (f : Option ℕ) → label_in t l ≡ f → subject_count t f ≡ length (rules_of t l)
+    by-found (Some n) e =
         many_those (has_subject n) (λ (r : Rule). same_bytes (label_numbered t r.subject) l) (sound_rule (length t.labels)) t.rules sound (same_at n e)
-    by-found Nothing e = no-pass t.rules sound e
+    by-found None e = no-pass t.rules sound e
 
 every : (rules : List Rule) → all (λ (r : Rule). true) rules ≡ true
 unfolding all
@@ -253,13 +251,13 @@ every [] = refl
 every (r ∷ rs) = every rs
 
 -- the count that is answered is the table's
-answered-count : (k count : ℕ) (j : Judged) → count_of k j ≡ Count count → count ≡ k
+answered-count : (k count : ℕ) (j : Judged) → count_of k j ≡ Ok count → count ≡ k
 answered-count k count is_skipped e = cc
 answered-count k count (is_refused n) e = let z : ◌≡◌ {A = ℕ} 0 1 = cc in absurd (omega arith)
 answered-count k count (is_accepted t) e = cc
 
 -- THE ANSWER OF A REVOKE, by numbers and by bytes
-pub answer-counts : (st : Store) (l : List ℕ) (count : ℕ) → revoke_answer st l ≡ Count count → CountsRules (table_of st) l count
+pub answer-counts : (st : Store) (l : List ℕ) (count : ℕ) → revoke_answer st l ≡ Ok count → CountsRules (table_of st) l count
 unfolding revoke_answer
 answer-counts st l count e =
     let q = answered-count _ count (on_state st (revoke_write l)) e in
@@ -272,15 +270,15 @@ answer-counts st l count e =
     }
 
 -- a state whose rules are counted is undamaged, and so its table is sound
-counted-sound : (st : Store) (l : List ℕ) (count : ℕ) → revoke_answer st l ≡ Count count → SoundTable (table_of st)
+counted-sound : (st : Store) (l : List ℕ) (count : ℕ) → revoke_answer st l ≡ Ok count → SoundTable (table_of st)
 unfolding revoke_answer on_state
 counted-sound st l count e = by-test (undamaged_of st) refl e
   where
-    by-test : (t : Bool) → undamaged_of st ≡ t → count_of (revoke_count l (table_of st)) (cond t (revoke_write l (table_of st)) (is_refused damaged)) ≡ Count count → SoundTable (table_of st)
+    by-test : (t : Bool) → undamaged_of st ≡ t → count_of (revoke_count l (table_of st)) (cond t (revoke_write l (table_of st)) (is_refused damaged)) ≡ Ok count → SoundTable (table_of st)
     by-test true u q = undamaged-sound st u
     by-test false u q = let z : ◌≡◌ {A = ℕ} 0 1 = cc in absurd (omega arith)
 
 pub answer-counts-once :
-    (st : Store) (l : List ℕ) (count : ℕ) → LabelsOnce (table_of st) → revoke_answer st l ≡ Count count → count ≡ length (rules_of (table_of st) l)
+    (st : Store) (l : List ℕ) (count : ℕ) → LabelsOnce (table_of st) → revoke_answer st l ≡ Ok count → count ≡ length (rules_of (table_of st) l)
 unfolding revoke_answer
 answer-counts-once st l count h e = answered-count _ count (on_state st (revoke_write l)) e ∙ revoke-counts (table_of st) l h (counted-sound st l count e)

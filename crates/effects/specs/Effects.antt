@@ -1,17 +1,15 @@
 -- 01, Single writes, and an accepted line of Rule text: what an accepted write does, from table t to table t', by the labels' bytes. Which labels enter
 -- stands in specs/Labels. Assumes nothing.
-use Rattle.std.specs.Prelude.{ℕ, suc, ◌<◌, Bool, true, false, ◌&&◌, ◌||◌, ◌≡◌, ◌≢◌, List, [], ◌∷◌, map, length, eqb}
+use Rattle.std.specs.Prelude.{ℕ, suc, ◌<◌, Bool, true, false, ◌&&◌, ◌||◌, ◌≡◌, ◌≢◌, List, [], ◌∷◌, map, length, eqb, Some, None, Ok}
 use Rattle.search.specs.Search.{those}
 use Rattle.search.specs.Bytes.{same_bytes}
-use Rattle.search.specs.declared.Found.TheVariants.{At, Nothing}
 use Rattle.alphabet.specs.Alphabet.{dash}
 use Rattle.numbers.specs.Categories.{categories}
 use Rattle.numbers.specs.declared.CategorySet.{CategorySet}
 use Rattle.store.specs.declared.Rule.{Rule}
 use Rattle.store.specs.Table.{Table, label_in, label_numbered, rule_numbered, mapping_in, mapping_numbered}
 use Rattle.store.specs.Pairs.{PairModes, has_modes, no_rule, rule_between, modes_between}
-use Rattle.lookups.specs.declared.Lookup.TheVariants.{Mapped, Unmapped}
-use Rattle.lookups.specs.Lookups.{label_lookup}
+use Rattle.lookups.specs.Lookups.{mapped, label_lookup}
 use Rattle.access.specs.Access.{effective, answer}
 use Rattle.new_object.specs.WhichLabel.{GoesByModes, SameNewObjects}
 use Rattle.grown.specs.Pairs.{has_rule}
@@ -37,8 +35,8 @@ pub record Revokes (t t' : Table) (l : List ℕ) : Type 0 where
   pub as_many : length t'.rules ≡ length t.rules
   pub subjects : (k : ℕ) → (rule_numbered t' k).subject ≡ (rule_numbered t k).subject
   pub objects : (k : ℕ) → (rule_numbered t' k).object ≡ (rule_numbered t k).object
-  pub own_rules : (k : ℕ) → label_in t l ≡ At (rule_numbered t k).subject → (rule_numbered t' k).modes ≡ 0
-  pub other_rules : (k : ℕ) → label_in t l ≢ At (rule_numbered t k).subject → (rule_numbered t' k).modes ≡ (rule_numbered t k).modes
+  pub own_rules : (k : ℕ) → label_in t l ≡ Some (rule_numbered t k).subject → (rule_numbered t' k).modes ≡ 0
+  pub other_rules : (k : ℕ) → label_in t l ≢ Some (rule_numbered t k).subject → (rule_numbered t' k).modes ≡ (rule_numbered t k).modes
   -- nothing else changes
   pub labels : t'.labels ≡ t.labels
   pub mappings : t'.mappings ≡ t.mappings
@@ -46,8 +44,8 @@ pub record Revokes (t t' : Table) (l : List ℕ) : Type 0 where
 
 -- how many rules have that subject: those of the label's number; an unknown label gives 0
 pub record CountsRules (t : Table) (l : List ℕ) (count : ℕ) : Type 0 where
-  pub known : (n : ℕ) → label_in t l ≡ At n → count ≡ length (those (λ (r : Rule). eqb r.subject n) t.rules)
-  pub unknown : label_in t l ≡ Nothing → count ≡ 0
+  pub known : (n : ℕ) → label_in t l ≡ Some n → count ≡ length (those (λ (r : Rule). eqb r.subject n) t.rules)
+  pub unknown : label_in t l ≡ None → count ≡ 0
 
 -- the rules whose subject is that label, by its bytes
 abbrev pub rules_of : Table → List ℕ → List Rule
@@ -78,18 +76,18 @@ pub record SetsFields (t t' : Table) (fs : List (List ℕ)) : Type 0 where
 
 -- mapping k is the label's: the first that names the label's number
 abbrev pub HasMapping : Table → List ℕ → ℕ → Type 0
-HasMapping t l k = (n : ℕ) × (label_in t l ≡ At n) × (mapping_in t n ≡ At k)
+HasMapping t l k = (n : ℕ) × (label_in t l ≡ Some n) × (mapping_in t n ≡ Some k)
 
 -- 01: the label is mapped to the level and the set, in its former mapping's place; a new mapping goes last
 pub record Maps (t t' : Table) (l : List ℕ) (level : ℕ) (set : CategorySet) : Type 0 where
   -- looked up by its label it gives the level, the set and how many categories are in the set; no other label's look-up changes
-  pub found : label_lookup t' l ≡ Mapped level set (length (categories set))
+  pub found : label_lookup t' l ≡ mapped level set (length (categories set))
   pub others : (x : List ℕ) → x ≢ l → label_lookup t' x ≡ label_lookup t x
   -- every mapping keeps its place and its label, and each but the label's stays whole; there is one more where the label had none
   pub places : (k : ℕ) → k < length t.mappings → (mapping_numbered t' k).label ≡ (mapping_numbered t k).label
   pub other_mappings : (k : ℕ) → k < length t.mappings → (HasMapping t l k → ⊥) → mapping_numbered t' k ≡ mapping_numbered t k
-  pub replaced : label_lookup t l ≢ Unmapped → length t'.mappings ≡ length t.mappings
-  pub last : label_lookup t l ≡ Unmapped → length t'.mappings ≡ suc (length t.mappings)
+  pub replaced : label_lookup t l ≢ Ok None → length t'.mappings ≡ length t.mappings
+  pub last : label_lookup t l ≡ Ok None → length t'.mappings ≡ suc (length t.mappings)
   -- its label enters
   pub labels : Enter t t' (l ∷ [])
   -- nothing else changes: no rule, nothing of the override list, no answer, and no label of a new object
@@ -106,7 +104,7 @@ pub record KeepsPlaces (t t' : Table) (s o : List ℕ) : Type 0 where
   pub subjects : (k : ℕ) → k < length t.rules → (rule_numbered t' k).subject ≡ (rule_numbered t k).subject
   pub objects : (k : ℕ) → k < length t.rules → (rule_numbered t' k).object ≡ (rule_numbered t k).object
   -- each but the pair's stays whole
-  pub other_rules : (k : ℕ) → k < length t.rules → rule_between t (label_in t s) (label_in t o) ≢ At k → rule_numbered t' k ≡ rule_numbered t k
+  pub other_rules : (k : ℕ) → k < length t.rules → rule_between t (label_in t s) (label_in t o) ≢ Some k → rule_numbered t' k ≡ rule_numbered t k
   -- a pair that has a rule gets no other; the rule of one that has none goes last, and is of its two labels
   pub as_many : has_rule (modes_between t s o) ≡ true → length t'.rules ≡ length t.rules
   pub one_more : has_rule (modes_between t s o) ≡ false → length t'.rules ≡ suc (length t.rules)

@@ -1,8 +1,7 @@
 -- 01, Labels 3: a label enters by an accepted rule, change, mapping or override-list write, in the order written, and never leaves. Assumes nothing.
-use Rattle.std.specs.Prelude.{ℕ, ◌<◌, Bool, not, ◌≡◌, List, [], length, get_or, take, drop}
+use Rattle.std.specs.Prelude.{ℕ, ◌<◌, Bool, not, ◌≡◌, List, [], length, get_or, take, drop, Some}
 use Rattle.search.specs.Search.{first, those, place_of}
 use Rattle.search.specs.Bytes.{same_bytes}
-use Rattle.search.specs.declared.Found.TheVariants.{At}
 use Rattle.store.specs.Table.{Table}
 use Rattle.access.specs.Access.{is_found}
 
@@ -17,7 +16,7 @@ first_place written x = place_of (first (same_bytes x) written) 0
 -- ls are the labels that were written and no others, none of them twice, in the order of their first appearance
 pub record FirstAppearances (written ls : List (List ℕ)) : Type 0 where
   pub same : (x : List ℕ) → among x ls ≡ among x written
-  pub once : (k : ℕ) → k < length ls → first (same_bytes (get_or ls k [])) ls ≡ At k
+  pub once : (k : ℕ) → k < length ls → first (same_bytes (get_or ls k [])) ls ≡ Some k
   pub order : (j k : ℕ) → j < k → k < length ls → first_place written (get_or ls j []) < first_place written (get_or ls k [])
 
 -- those of the labels that were written that are new

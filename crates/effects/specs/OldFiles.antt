@@ -1,12 +1,11 @@
 -- 02, Six: 'Old files must still load'. What a line said by 01, when b was a letter of a rule like the others; and that every line does to the tables now
 -- what it did then, but for b. Assumes nothing.
-use Rattle.std.specs.Prelude.{ℕ, ◌≡◌, Bool, true, cond, ◌&&◌, List, [], ◌∷◌, map, length, ltb}
+use Rattle.std.specs.Prelude.{ℕ, ◌≡◌, Bool, true, cond, ◌&&◌, List, [], ◌∷◌, map, length, ltb, Option, Some, None, Result}
 use Rattle.search.specs.Bytes.{ascii, same_bytes}
 use Rattle.refusals.specs.Refusals.{too_long, wrong_fields, bad_label_at, bad_access, same_labels}
 use Rattle.alphabet.specs.Alphabet.{dash, well_formed, line_limit, fields, bad_byte_in}
 use Rattle.modes.specs.Modes.{read_modes, line_letters, stored_modes, has_bring_up, bit_of, has, one_of}
-use Rattle.modes.specs.declared.Access.{Access}
-use Rattle.modes.specs.declared.Access.TheVariants.{Modes, Bad}
+use Rattle.refusals.specs.declared.Refusal.{Refusal}
 use Rattle.lines.specs.Lines.{Said, skipped, refused, rule, rule_by, rule_of, bring_up_in}
 use Rattle.store.specs.declared.Rule.{Rule}
 use Rattle.store.specs.Table.{Table, with_rules, fresh}
@@ -19,9 +18,9 @@ use Rattle.access.specs.Access.{answer}
 -- of modes/specs/Modes: they are the same now. b has here the bit that the reading of a line gives it; in lent memory it was 1, and such a state is refused
 -- with 0 and not spoken of here)
 
-abbrev pub rule_with_01 : List ℕ → List ℕ → Access → Said
-rule_with_01 s o Bad = refused bad_access
-rule_with_01 s o (Modes m) = cond (same_bytes s o) (refused same_labels) (rule s o m)
+abbrev pub rule_with_01 : List ℕ → List ℕ → Option ℕ → Said
+rule_with_01 s o None = refused bad_access
+rule_with_01 s o (Some m) = cond (same_bytes s o) (refused same_labels) (rule s o m)
 
 abbrev pub rule_fields_01 : ℕ → List (List ℕ) → Said
 rule_fields_01 place [] = skipped
@@ -47,7 +46,7 @@ abbrev pub tables_by : (List ℕ → Said) → Table → List (List ℕ) → Tab
 tables_by read t [] = t
 tables_by read t (l ∷ ls) = tables_by read (table_after t (judged t (read l))) ls
 
-abbrev pub outcomes_by : (List ℕ → Said) → Table → List (List ℕ) → List Outcome
+abbrev pub outcomes_by : (List ℕ → Said) → Table → List (List ℕ) → List (Result Outcome Refusal)
 outcomes_by read t [] = []
 outcomes_by read t (l ∷ ls) = outcome_of (bring_up_in l) (judged t (read l)) ∷ outcomes_by read (table_after t (judged t (read l))) ls
 

@@ -3,12 +3,11 @@
 // each of them, and a reader finds each by its name.
 #![tactic(auto)]
 
-ghost use Rattle.std.specs.Prelude.{◌≡◌, true, ◌↔◌, List, ℕ, length};
+ghost use Rattle.std.specs.Prelude.{◌≡◌, true, ◌↔◌, List, ℕ, length, Ok};
 ghost use Rattle.numbers.specs.declared.CategorySet.{CategorySet};
 ghost use Rattle.store.specs.Table.{Table};
 ghost use Rattle.store.specs.Layout.{Store, table_of};
 ghost use Rattle.store.specs.Judged.{is_accepted};
-ghost use Rattle.revoke.specs.declared.Revoked.TheVariants.{Count};
 ghost use Rattle.revoke.specs.Revoke.{revoke_write, revoke_answer};
 ghost use Rattle.alphabet.specs.Alphabet.{fields};
 ghost use Rattle.lines.specs.Lines.{rule, change};
@@ -31,8 +30,8 @@ pub fn accepted_revoke_clears_its_subject()
 // Its answer is how many rules have that subject: of every state by the label's number, and by the label's bytes where
 // every label is well formed and stored once.
 pub fn revoke_counts_its_rules()
-    ensures counts_by_number { (st : Store) (l : List ℕ) (count : ℕ) → revoke_answer st l ≡ Count count → CountsRules (table_of st) l count }
-    ensures counts_by_bytes { (st : Store) (l : List ℕ) (count : ℕ) → LabelsOnce (table_of st) → revoke_answer st l ≡ Count count →
+    ensures counts_by_number { (st : Store) (l : List ℕ) (count : ℕ) → revoke_answer st l ≡ Ok count → CountsRules (table_of st) l count }
+    ensures counts_by_bytes { (st : Store) (l : List ℕ) (count : ℕ) → LabelsOnce (table_of st) → revoke_answer st l ≡ Ok count →
         count ≡ length (rules_of (table_of st) l) }
 {}
 

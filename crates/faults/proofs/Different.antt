@@ -7,8 +7,7 @@ use mathlib.Core.List.{List, [], ◌∷◌, ◌++◌, foldl}
 use lib.ListN.{length, length-append}
 use Rattle.search.specs.Search.{first, those, later}
 use Rattle.search.specs.Bytes.{same_bytes}
-use Rattle.search.specs.declared.Found.{Found}
-use Rattle.search.specs.declared.Found.TheVariants.{At, Nothing}
+use Rattle.std.proofs.Common.{Option, Some, None}
 use Rattle.search.proofs.Laws.{no, same-equal, same_sym}
 use Rattle.store.specs.Table.{labels_entered, enter}
 use Rattle.access.specs.Access.{is_found}
@@ -21,10 +20,10 @@ unfolding first
 found_among x [] = refl
 found_among x (y ∷ ys) = by-test (same_bytes x y) (first (same_bytes x) ys) (found_among x ys)
   where
-    by-test : (b : Bool) (f : Found) → is_found f ≡ is_one_of x ys → is_found (cond b (At zero) (later f)) ≡ (b || is_one_of x ys)
+    by-test : (b : Bool) (f : Option ℕ) → is_found f ≡ is_one_of x ys → is_found (cond b (Some zero) (later f)) ≡ (b || is_one_of x ys)
     by-test true f e = refl
-    by-test false (At k) e = e
-    by-test false Nothing e = e
+    by-test false (Some k) e = e
+    by-test false None e = e
 
 among-last : (x : List ℕ) (ls : List (List ℕ)) (y : List ℕ) → is_one_of x (ls ++ (y ∷ [])) ≡ (is_one_of x ls || same_bytes x y)
 among-last x [] y = by-test (same_bytes x y)
@@ -130,8 +129,8 @@ entered_many (y ∷ xs) ls = entered_many xs (enter ls y) ∙ by-found (first (s
     new e false q = rw e (omega (arith, absent ls y xs q))
 
     by-found :
-        (f : Found) →
+        (f : Option ℕ) →
         is_found f ≡ is_one_of y ls →
         length (labels_entered f ls y) + length (new_ones (labels_entered f ls y) xs) ≡ length ls + length (new_ones ls (y ∷ xs))
-    by-found (At k) e = ap (λ (n : ℕ). length ls + n) (sym (known (sym e) (is_one_of y xs)))
-    by-found Nothing e = rw (entered_beside ls y xs, length-append ls (y ∷ [])) (omega (arith, new (sym e) (is_one_of y xs) refl))
+    by-found (Some k) e = ap (λ (n : ℕ). length ls + n) (sym (known (sym e) (is_one_of y xs)))
+    by-found None e = rw (entered_beside ls y xs, length-append ls (y ∷ [])) (omega (arith, new (sym e) (is_one_of y xs) refl))

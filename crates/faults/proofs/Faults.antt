@@ -10,26 +10,21 @@ use lib.ListN.{length, get_or}
 use borrow.Author.Tests.{lt-ltb, le-ltb, ltb-true, ltb-false, le-leb, lt-leb, leb-true, leb-false, eq-eqb, ne_eqb}
 use Rattle.search.specs.Search.{all, first, entries, place_of, later}
 use Rattle.search.specs.Bytes.{ascii, same_bytes}
-use Rattle.search.specs.declared.Found.{Found}
-use Rattle.search.specs.declared.Found.TheVariants.{At, Nothing}
+use Rattle.std.proofs.Common.{Option, Some, None, Result, Ok, Err}
 use Rattle.search.proofs.Laws.{no, and_both, entries-length, all-at, first-none}
-use Rattle.refusals.specs.Refusals.{damaged, too_long, wrong_fields, bad_access, same_labels, labels_full, rules_full, bad_request, bad_level_or_category, mappings_full, too_many_overrides, no_such_number, bad_label_at}
+use Rattle.refusals.specs.Refusals.{damaged, too_long, wrong_fields, bad_access, same_labels, labels_full, rules_full, bad_request, bad_level_or_category, mappings_full, too_many_overrides, no_such_number, bad_label_at, bad_label, bad_option, bad_option_category, no_such_mapping, not_in_an_option, other_doi, output_too_short}
 use Rattle.refusals.specs.declared.Refusal.{Refusal}
 use Rattle.alphabet.specs.Alphabet.{well_formed, bad_byte, bad_byte_of_two, fields, bad_byte_in}
-use Rattle.modes.specs.Modes.{allowed_byte, modes_of, read_modes, line_letters, change_letters, request_letters, write_letter, any, stored_modes}
-use Rattle.modes.specs.declared.Access.TheVariants.{Modes, Bad}
+use Rattle.modes.specs.Modes.{allowed_byte, modes_of, read_modes, line_letters, change_letters, request_letters, any, stored_modes}
+use Rattle.lookups.specs.declared.Cipso.{Cipso}
 use Rattle.numbers.specs.Categories.{is_level, is_mapping_level, is_category, known_set, no_categories, with_category}
 use Rattle.numbers.specs.declared.CategorySet.{CategorySet}
 use Rattle.numbers.proofs.Sets.{category_sets}
 use Rattle.numbers.specs.Numbers.{number_of}
-use Rattle.numbers.specs.declared.Number.{Number}
-use Rattle.numbers.specs.declared.Number.TheVariants as number
 use Rattle.set_bytes.specs.SetBytes.{bit_at, set_of_bitmap, only_categories}
 use Rattle.store.specs.declared.Mapping.{Mapping}
-use Rattle.store.specs.declared.Done.{Done}
-use Rattle.store.specs.declared.Done.TheVariants as d
 use Rattle.store.specs.Table.{Table, fresh, label_in, mapping_in, names, rule_numbered, no_place, with_onlycap, sound_rule, sound_mapping, sound_table}
-use Rattle.store.specs.Pairs.{PairModes, modes_found, modes_between, modes_or_none}
+use Rattle.store.specs.Pairs.{modes_found, modes_between, modes_or_none}
 use Rattle.store.specs.Layout.{Store, table_of, full_sizes, undamaged_of, label_at, rule_at, mapping_at}
 use Rattle.store.specs.Judged.{Judged, is_skipped, is_refused, is_accepted, done_of, on_state, fresh_write, fresh_answer}
 use Rattle.store.proofs.Laws.{undamaged-is}
@@ -40,46 +35,32 @@ use Rattle.writes.specs.Writes.{judged, changed, outcome_of, line_outcome, chang
 use Rattle.writes.specs.declared.Outcome.{Outcome}
 use Rattle.writes.specs.declared.Outcome.TheVariants as v
 use Rattle.revoke.specs.Revoke.{without_modes, revoke_write, revoke_count, count_of, revoke_answer}
-use Rattle.revoke.specs.declared.Revoked.{Revoked}
-use Rattle.revoke.specs.declared.Revoked.TheVariants as r
 use Rattle.onlycap.specs.Onlycap.{lone_dash, different, labels_with, with_list, onlycap_labels, onlycap_fields, onlycap_write, onlycap_answer}
 use Rattle.cipso.specs.Cipso as cipso
 use Rattle.cipso.proofs.Laws.{categories_from, categories_start}
-use Rattle.lookups.specs.Lookups.{lookup_by, looked_up, label_lookup, has_both, sought, level_lookup, numbered, by_label_of, by_level_of}
-use Rattle.lookups.specs.declared.Lookup.{Lookup}
-use Rattle.lookups.specs.declared.Lookup.TheVariants as lookup
-use Rattle.lookups.specs.declared.Label.{Label}
-use Rattle.lookups.specs.declared.Label.TheVariants as label
+use Rattle.lookups.specs.Lookups.{lookup_by, looked_up, label_lookup, has_both, sought, level_lookup, by_label_of, by_level_of}
 use Rattle.cipso_option.specs.Option.{our_doi, option_by, label_option, option_given, option_answer, doi_in, is_option, Peer, not_read, own_peer, mapped_peer, peer_at, peer_of, peer_given}
 use Rattle.cipso_option.specs.Option as peer
 use Rattle.cipso_option.proofs.Laws.{option_short, option_long, option_tests, option_sized, doi_tests}
 use Rattle.run.specs.declared.Record.{Record}
-use Rattle.run.specs.declared.Best.{Best}
-use Rattle.run.specs.declared.Best.TheVariants as best
 use Rattle.run.specs.Run as run
 use Rattle.program.specs.Program.{asked, answer_to}
 use Rattle.access.specs.Access.{is_found, effective, answer, answered, decide, by_request, question_of}
-use Rattle.new_object.specs.NewObject.{by_rule_with_t, object_label_by, object_label_for, object_label, object_label_of}
+use Rattle.new_object.specs.NewObject.{object_label_for, object_label, object_label_of}
 use Rattle.new_object.specs.declared.ObjectLabel.{ObjectLabel}
-use Rattle.new_object.specs.declared.ObjectLabel.TheVariants as object-label
-use Rattle.access.specs.SevenRules.{first_of, rules_for, seven_rules}
+use Rattle.access.specs.SevenRules.{first_of, seven_rules}
 use Rattle.access.specs.declared.Verdict.{Verdict}
 use Rattle.access.specs.declared.Verdict.TheVariants as verdict
 use Rattle.access.specs.declared.Answer.{Answer}
 use Rattle.access.specs.declared.Answer.TheVariants as a
 use Rattle.output.specs.Output as output
 use Rattle.output.specs.Output.{put_answer, text_answer}
-use Rattle.output.specs.declared.Output.TheVariants as l
 use Rattle.listing.specs.Listing.{rule_text, rule_given, list_answer, label_answer}
 use Rattle.load.specs.Loader.{Load, ready, piece_answer, end_answer}
-use Rattle.load.specs.declared.Fed.{Fed}
-use Rattle.load.specs.declared.Fed.TheVariants as f
-use Rattle.load.specs.declared.Ended.{Ended}
-use Rattle.load.specs.declared.Ended.TheVariants as e
 use Rattle.grown.specs.Pairs.{SoundTable, new_labels, has_rule}
 use Rattle.grown.proofs.Pairs.{undamaged-sound, labels-counted}
 use Rattle.faults.proofs.Different.{those-all, entered_many}
-use Rattle.faults.proofs.Records.{refuses, output-by, of_output, not_leb, text-first, record_faults_lem, line_faults_lem}
+use Rattle.faults.proofs.Records.{refuses, error_of, of_result, not_leb, text-first, record_faults_lem, line_faults_lem}
 use Rattle.faults.specs.Faults.{
   Fault,
   ◌when◌,
@@ -136,116 +117,18 @@ use Rattle.faults.specs.Faults.{
   FirstInOrder,
 }
 
--- ---- what each answer is refused by
+-- ---- what other answers are refused by
 
-abbrev done-by : Done → First Refusal
-done-by d.Done = none
-done-by (d.Refused n) = by n
-
-of_done : (x : Done) (faults : List (Fault Refusal)) → done-by x ≡ first_fault faults → Refuses x d.Refused faults
-of_done = refuses d.Refused done-by (λ n. refl) from
-  where
-    from : (x : Done) (n : Refusal) → done-by x ≡ by n → x ≡ d.Refused n
-    from d.Done n q = let z : ◌≡◌ {A = ℕ} 0 1 = cc in absurd (omega arith)
-    from (d.Refused m) n q = let z : m ≡ n = cc in ap d.Refused z
-
-abbrev fed_by : Fed → First ℕ
-fed_by (f.Done x) = none
-fed_by (f.Refused n) = by n
-
-of_fed : (x : Fed) (faults : List (Fault ℕ)) → fed_by x ≡ first_fault faults → Refuses x f.Refused faults
-of_fed = refuses f.Refused fed_by (λ n. refl) from
-  where
-    from : (x : Fed) (n : ℕ) → fed_by x ≡ by n → x ≡ f.Refused n
-    from (f.Done x) n q = let z : ◌≡◌ {A = ℕ} 0 1 = cc in absurd (omega arith)
-    from (f.Refused m) n q = let z : m ≡ n = cc in ap f.Refused z
-
-abbrev ended_by : Ended → First ℕ
-ended_by (e.Report x y) = none
-ended_by (e.Refused n) = by n
-
-of_ended : (x : Ended) (faults : List (Fault ℕ)) → ended_by x ≡ first_fault faults → Refuses x e.Refused faults
-of_ended = refuses e.Refused ended_by (λ n. refl) from
-  where
-    from : (x : Ended) (n : ℕ) → ended_by x ≡ by n → x ≡ e.Refused n
-    from (e.Report x y) n q = let z : ◌≡◌ {A = ℕ} 0 1 = cc in absurd (omega arith)
-    from (e.Refused m) n q = let z : m ≡ n = cc in ap e.Refused z
-
-abbrev outcome_by : Outcome → First Refusal
-outcome_by v.Skipped = none
-outcome_by (v.Accepted held) = none
-outcome_by (v.Refused n) = by n
-
-of_outcome : (x : Outcome) (faults : List (Fault Refusal)) → outcome_by x ≡ first_fault faults → Refuses x v.Refused faults
-of_outcome = refuses v.Refused outcome_by (λ n. refl) from
-  where
-    from : (x : Outcome) (n : Refusal) → outcome_by x ≡ by n → x ≡ v.Refused n
-    from v.Skipped n q = let z : ◌≡◌ {A = ℕ} 0 1 = cc in absurd (omega arith)
-    from (v.Accepted held) n q = let z : ◌≡◌ {A = ℕ} 0 1 = cc in absurd (omega arith)
-    from (v.Refused m) n q = let z : m ≡ n = cc in ap v.Refused z
-
-abbrev revoked-by : Revoked → First Refusal
-revoked-by (r.Count x) = none
-revoked-by (r.Refused n) = by n
-
-of_revoked : (x : Revoked) (faults : List (Fault Refusal)) → revoked-by x ≡ first_fault faults → Refuses x r.Refused faults
-of_revoked = refuses r.Refused revoked-by (λ n. refl) from
-  where
-    from : (x : Revoked) (n : Refusal) → revoked-by x ≡ by n → x ≡ r.Refused n
-    from (r.Count x) n q = let z : ◌≡◌ {A = ℕ} 0 1 = cc in absurd (omega arith)
-    from (r.Refused m) n q = let z : m ≡ n = cc in ap r.Refused z
-
-abbrev lookup_by_lem : Lookup → First Refusal
-lookup_by_lem (lookup.Mapped x y w) = none
-lookup_by_lem lookup.Unmapped = none
-lookup_by_lem (lookup.Refused n) = by n
-
-of_lookup : (x : Lookup) (faults : List (Fault Refusal)) → lookup_by_lem x ≡ first_fault faults → Refuses x lookup.Refused faults
-of_lookup = refuses lookup.Refused lookup_by_lem (λ n. refl) from
-  where
-    from : (x : Lookup) (n : Refusal) → lookup_by_lem x ≡ by n → x ≡ lookup.Refused n
-    from (lookup.Mapped x y w) n q = let z : ◌≡◌ {A = ℕ} 0 1 = cc in absurd (omega arith)
-    from lookup.Unmapped n q = let z : ◌≡◌ {A = ℕ} 0 1 = cc in absurd (omega arith)
-    from (lookup.Refused m) n q = let z : m ≡ n = cc in ap lookup.Refused z
-
-abbrev label-by : Label → First ℕ
-label-by (label.Number x) = none
-label-by label.Nothing = none
-label-by (label.Refused n) = by n
-
-of_label : (x : Label) (faults : List (Fault ℕ)) → label-by x ≡ first_fault faults → Refuses x label.Refused faults
-of_label = refuses label.Refused label-by (λ n. refl) from
-  where
-    from : (x : Label) (n : ℕ) → label-by x ≡ by n → x ≡ label.Refused n
-    from (label.Number x) n q = let z : ◌≡◌ {A = ℕ} 0 1 = cc in absurd (omega arith)
-    from label.Nothing n q = let z : ◌≡◌ {A = ℕ} 0 1 = cc in absurd (omega arith)
-    from (label.Refused m) n q = let z : m ≡ n = cc in ap label.Refused z
-
-abbrev peer-by : Peer → First ℕ
+abbrev peer-by : Peer → First Refusal
 peer-by (peer.label x) = none
 peer-by (not_read n) = by n
 
-of_peer : (x : Peer) (faults : List (Fault ℕ)) → peer-by x ≡ first_fault faults → Refuses x not_read faults
+of_peer : (x : Peer) (faults : List (Fault Refusal)) → peer-by x ≡ first_fault faults → Refuses x not_read faults
 of_peer = refuses not_read peer-by (λ n. refl) from
   where
-    from : (x : Peer) (n : ℕ) → peer-by x ≡ by n → x ≡ not_read n
+    from : (x : Peer) (n : Refusal) → peer-by x ≡ by n → x ≡ not_read n
     from (peer.label x) n q = let z : ◌≡◌ {A = ℕ} 0 1 = cc in absurd (omega arith)
     from (not_read m) n q = let z : m ≡ n = cc in ap not_read z
-
-abbrev object-by : ObjectLabel → First ℕ
-object-by object-label.CreatorLabel = none
-object-by object-label.Denied = none
-object-by (object-label.FolderLabel x) = none
-object-by (object-label.Refused n) = by n
-
-of_object : (x : ObjectLabel) (faults : List (Fault ℕ)) → object-by x ≡ first_fault faults → Refuses x object-label.Refused faults
-of_object = refuses object-label.Refused object-by (λ n. refl) from
-  where
-    from : (x : ObjectLabel) (n : ℕ) → object-by x ≡ by n → x ≡ object-label.Refused n
-    from object-label.CreatorLabel n q = let z : ◌≡◌ {A = ℕ} 0 1 = cc in absurd (omega arith)
-    from object-label.Denied n q = let z : ◌≡◌ {A = ℕ} 0 1 = cc in absurd (omega arith)
-    from (object-label.FolderLabel x) n q = let z : ◌≡◌ {A = ℕ} 0 1 = cc in absurd (omega arith)
-    from (object-label.Refused m) n q = let z : m ≡ n = cc in ap object-label.Refused z
 
 abbrev answer-by : Answer → First Refusal
 answer-by (a.Granted x) = none
@@ -277,17 +160,17 @@ judged_by is_skipped = none
 judged_by (is_refused n) = by n
 judged_by (is_accepted t) = none
 
-done-judged : (j : Judged) → done-by (done_of j) ≡ judged_by j
+done-judged : (j : Judged) → error_of (done_of j) ≡ judged_by j
 done-judged is_skipped = refl
 done-judged (is_refused n) = refl
 done-judged (is_accepted t) = refl
 
-outcome_judged : (held : Bool) (j : Judged) → outcome_by (outcome_of held j) ≡ judged_by j
+outcome_judged : (held : Bool) (j : Judged) → error_of (outcome_of held j) ≡ judged_by j
 outcome_judged held is_skipped = refl
 outcome_judged held (is_refused n) = refl
 outcome_judged held (is_accepted t) = refl
 
-count-judged : (k : ℕ) (j : Judged) → revoked-by (count_of k j) ≡ judged_by j
+count-judged : (k : ℕ) (j : Judged) → error_of (count_of k j) ≡ judged_by j
 count-judged k is_skipped = refl
 count-judged k (is_refused n) = refl
 count-judged k (is_accepted t) = refl
@@ -304,17 +187,17 @@ state-first refusal false x y more e h = e
 
 -- ---- a fresh table, a piece, the end call
 
-fresh-first : (st : Store) → Refuses (fresh_answer st) d.Refused (fresh_faults st)
+fresh-first : (st : Store) → Refuses (fresh_answer st) Err (fresh_faults st)
 unfolding fresh_answer fresh_write
-fresh-first st = of_done _ (fresh_faults st) (state-first (λ j. done-by (done_of j)) (full_sizes st) (is_accepted fresh) (is_refused damaged) none refl (λ u. refl))
+fresh-first st = of_result _ (fresh_faults st) (state-first (λ j. error_of (done_of j)) (full_sizes st) (is_accepted fresh) (is_refused damaged) none refl (λ u. refl))
 
-piece-first : (s : Load) (text : List ℕ) → Refuses (piece_answer s text) f.Refused (loader_faults s)
+piece-first : (s : Load) (text : List ℕ) → Refuses (piece_answer s text) Err (loader_faults s)
 unfolding piece_answer
-piece-first s text = of_fed _ (loader_faults s) (state-first fed_by (ready s) _ (f.Refused 0) none refl (λ u. refl))
+piece-first s text = of_result _ (loader_faults s) (state-first error_of (ready s) _ (Err damaged) none refl (λ u. refl))
 
-end-first : (s : Load) → Refuses (end_answer s) e.Refused (loader_faults s)
+end-first : (s : Load) → Refuses (end_answer s) Err (loader_faults s)
 unfolding end_answer
-end-first s = of_ended _ (loader_faults s) (state-first ended_by (ready s) _ (e.Refused 0) none refl (λ u. refl))
+end-first s = of_result _ (loader_faults s) (state-first error_of (ready s) _ (Err damaged) none refl (λ u. refl))
 
 -- ---- tests said otherwise
 
@@ -344,9 +227,9 @@ not_ltb a b = by-test (ltb a b) refl
 -- ---- a pair, in tables within their limits
 
 module _ (t : Table) (few_labels : length t.labels ≤ 64) (few_rules : length t.rules ≤ 256) where
-  no_rule-place : (g : Found) → no_place g (length t.rules) 256 ≡ (not (has_rule (modes_found t.rules g)) && eqb (length t.rules) 256)
-  no_rule-place (At k) = refl
-  no_rule-place Nothing = full 256 (length t.rules) few_rules
+  no_rule-place : (g : Option ℕ) → no_place g (length t.rules) 256 ≡ (not (has_rule (modes_found t.rules g)) && eqb (length t.rules) 256)
+  no_rule-place (Some k) = refl
+  no_rule-place None = full 256 (length t.rules) few_rules
 
   pair-first : (s o : List ℕ) (m : ℕ) → same_bytes s o ≡ false → judged_by (pair_judged t s o m) ≡ first_fault (pair_faults t s o)
   unfolding modes_between
@@ -382,7 +265,7 @@ module _ (t : Table) (few_labels : length t.labels ≤ 64) (few_rules : length t
 
       by_tests :
           (a b c : Bool) →
-          judged_by (judged t (cond (a && b) (rule_with s o (cond c (Modes (modes_of x)) Bad)) (refused (bad_label_at place))))
+          judged_by (judged t (cond (a && b) (rule_with s o (cond c (Some (modes_of x)) None)) (refused (bad_label_at place))))
           ≡ cond (not a || not b) (by (bad_label_at place)) (cond (not c) (by bad_access) (cond (same_bytes s o) (by same_labels) (first_fault (pair_faults t s o))))
       by_tests false b c = refl
       by_tests true false c = refl
@@ -428,7 +311,7 @@ module _ (t : Table) (few_labels : length t.labels ≤ 64) (few_rules : length t
 
       by_tests :
           (a b c d : Bool) →
-          judged_by (judged t (cond (a && b) (change_with s o (cond c (Modes (modes_of x)) Bad) (cond d (Modes (modes_of y)) Bad)) (refused (bad_label_at place))))
+          judged_by (judged t (cond (a && b) (change_with s o (cond c (Some (modes_of x)) None) (cond d (Some (modes_of y)) None)) (refused (bad_label_at place))))
           ≡ cond (not a || not b) (by (bad_label_at place)) (cond (not c || not d) (by bad_access) (cond (same_bytes s o) (by same_labels) (first_fault (pair_faults t s o))))
       by_tests false b c d = refl
       by_tests true false c d = refl
@@ -469,24 +352,24 @@ mappings-few st u = rw (entries-length (mapping_at st.entries st.words) (get_or 
 write-first :
     (st : Store) (write : Table → Judged) (more : List (Fault Refusal)) →
     (undamaged_of st ≡ true → judged_by (write (table_of st)) ≡ first_fault more) →
-    Refuses (done_of (on_state st write)) d.Refused (state_faults st more)
+    Refuses (done_of (on_state st write)) Err (state_faults st more)
 unfolding on_state
 write-first st write more h =
-    of_done _ (state_faults st more)
-    (state-first (λ j. done-by (done_of j)) (undamaged_of st) (write (table_of st)) (is_refused damaged) (first_fault more) refl
+    of_result _ (state_faults st more)
+    (state-first (λ j. error_of (done_of j)) (undamaged_of st) (write (table_of st)) (is_refused damaged) (first_fault more) refl
     (λ u. done-judged (write (table_of st)) ∙ h u))
 
 -- an outcome that is no skip
-is_skipped_lem : Outcome → Bool
-is_skipped_lem v.Skipped = true
-is_skipped_lem (v.Accepted held) = false
-is_skipped_lem (v.Refused n) = false
+is_skipped_lem : Result Outcome Refusal → Bool
+is_skipped_lem (Ok v.Skipped) = true
+is_skipped_lem (Ok (v.Accepted held)) = false
+is_skipped_lem (Err n) = false
 
-not_skipped-refused : {n : Refusal} → v.Refused n ≡ v.Skipped → ⊥
+not_skipped-refused : {n : Refusal} → Err n ≡ Ok v.Skipped → ⊥
 unfolding is_skipped_lem
 not_skipped-refused e = no (ap is_skipped_lem e)
 
-never_skipped : (t : Table) (held : Bool) (place : ℕ) (s o access : List ℕ) → outcome_of held (judged t (rule_by place s o access)) ≡ v.Skipped → ⊥
+never_skipped : (t : Table) (held : Bool) (place : ℕ) (s o access : List ℕ) → outcome_of held (judged t (rule_by place s o access)) ≡ Ok v.Skipped → ⊥
 unfolding is_skipped_lem rule_by read_modes
 never_skipped t held place s o access e = no (sym (by_tests (well_formed s && well_formed o) (all (allowed_byte line_letters true) access) (same_bytes s o)) ∙ ap is_skipped_lem e)
   where
@@ -495,7 +378,7 @@ never_skipped t held place s o access e = no (sym (by_tests (well_formed s && we
     by-room false true u = refl
     by-room false false u = refl
 
-    by_tests : (p q same : Bool) → is_skipped_lem (outcome_of held (judged t (cond p (rule_with s o (cond q (Modes (modes_of access)) Bad)) (refused (bad_label_at place))))) ≡ false
+    by_tests : (p q same : Bool) → is_skipped_lem (outcome_of held (judged t (cond p (rule_with s o (cond q (Some (modes_of access)) None)) (refused (bad_label_at place))))) ≡ false
     by_tests false q same = refl
     by_tests true false same = refl
     by_tests true true same = by-same (same_bytes s o)
@@ -504,21 +387,21 @@ never_skipped t held place s o access e = no (sym (by_tests (well_formed s && we
         by-same true = refl
         by-same false = by-room (ltb 64 (length (pair_labels t s o))) (no_place (pair_rule t s o) (length t.rules) 256) (with_pair t s o (stored_modes (modes_of access)))
 
-line_refused : (st : Store) (text : List ℕ) → undamaged_of st ≡ true → Refuses (line_outcome st text) v.Refused (line_faults (table_of st) text)
+line_refused : (st : Store) (text : List ℕ) → undamaged_of st ≡ true → Refuses (line_outcome st text) Err (line_faults (table_of st) text)
 unfolding line_outcome
 line_refused st text u =
-    of_outcome _ (line_faults (table_of st) text)
+    of_result _ (line_faults (table_of st) text)
     (outcome_judged (bring_up_in text) (judged (table_of st) (rule_of text)) ∙ line_first (table_of st) (labels-few st u) (rules-few st u) text)
 
 -- a line is skipped exactly where it is not too long and has no field
-line-skipped : (st : Store) (text : List ℕ) → (line_outcome st text ≡ v.Skipped) ↔ ((is_too_long text ≡ false) × (fields text ≡ []))
+line-skipped : (st : Store) (text : List ℕ) → (line_outcome st text ≡ Ok v.Skipped) ↔ ((is_too_long text ≡ false) × (fields text ≡ []))
 unfolding line_outcome rule_of
 line-skipped st text = (λ e. by_length (is_too_long text) refl e, λ h. rw (h.0, h.1))
   where
     t : Table
     t = table_of st
 
-    by-fields : (place : ℕ) (fs : List (List ℕ)) → outcome_of (bring_up_in text) (judged t (rule_fields place fs)) ≡ v.Skipped → fs ≡ []
+    by-fields : (place : ℕ) (fs : List (List ℕ)) → outcome_of (bring_up_in text) (judged t (rule_fields place fs)) ≡ Ok v.Skipped → fs ≡ []
     by-fields place [] e = refl
     by-fields place (s ∷ []) e = absurd (not_skipped-refused e)
     by-fields place (s ∷ o ∷ []) e = absurd (not_skipped-refused e)
@@ -528,12 +411,12 @@ line-skipped st text = (λ e. by_length (is_too_long text) refl e, λ h. rw (h.0
     by_length :
         (b : Bool) →
         is_too_long text ≡ b →
-        outcome_of (bring_up_in text) (judged t (cond b (refused too_long) (rule_fields (bad_byte_in text) (fields text)))) ≡ v.Skipped →
+        outcome_of (bring_up_in text) (judged t (cond b (refused too_long) (rule_fields (bad_byte_in text) (fields text)))) ≡ Ok v.Skipped →
         (is_too_long text ≡ false) × (fields text ≡ [])
     by_length true q e = absurd (not_skipped-refused e)
     by_length false q e = (q, by-fields (bad_byte_in text) (fields text) e)
 
-change-refused : (st : Store) (text : List ℕ) → Refuses (change_answer st text) d.Refused (change_faults st text)
+change-refused : (st : Store) (text : List ℕ) → Refuses (change_answer st text) Err (change_faults st text)
 unfolding change_answer
 change-refused st text =
     write-first st (change_write text) (write_faults text (change_field_faults (table_of st) (bad_byte_in text) (fields text)))
@@ -541,11 +424,11 @@ change-refused st text =
 
 -- ---- revoke
 
-revoke-refused : (st : Store) (text : List ℕ) → Refuses (revoke_answer st text) r.Refused (revoke_faults st text)
+revoke-refused : (st : Store) (text : List ℕ) → Refuses (revoke_answer st text) Err (revoke_faults st text)
 unfolding revoke_answer on_state revoke_write
 revoke-refused st text =
-    of_revoked _ (revoke_faults st text)
-    (state-first (λ j. revoked-by (count_of k j)) (undamaged_of st) (revoke_write text (table_of st)) (is_refused damaged) _ refl
+    of_result _ (revoke_faults st text)
+    (state-first (λ j. error_of (count_of k j)) (undamaged_of st) (revoke_write text (table_of st)) (is_refused damaged) _ refl
     (λ u. count-judged k (revoke_write text (table_of st)) ∙ by_tests (ltb 600 (length text)) (well_formed text)))
   where
     k : ℕ
@@ -603,7 +486,7 @@ module _ (t : Table) (few_labels : length t.labels ≤ 64) where
       by_length true = refl
       by_length false = override-first (bad_byte_in text) (fields text)
 
-onlycap-refused : (st : Store) (text : List ℕ) → Refuses (onlycap_answer st text) d.Refused (onlycap_faults st text)
+onlycap-refused : (st : Store) (text : List ℕ) → Refuses (onlycap_answer st text) Err (onlycap_faults st text)
 unfolding onlycap_answer
 onlycap-refused st text =
     write-first st (onlycap_write text) (write_faults text (onlycap_field_faults (table_of st) (bad_byte_in text) (fields text))) (λ u. onlycap-judged (table_of st) (labels-few st u) text)
@@ -616,9 +499,9 @@ either refusal true g h = g
 either refusal false g h = h
 
 module _ (t : Table) (few_labels : length t.labels ≤ 64) (few_mappings : length t.mappings ≤ 32) (sound : SoundTable t) where
-  no_label-place : (g : Found) → no_place g (length t.labels) 64 ≡ ltb (free_places t) (new_labels g)
-  no_label-place (At k) = sym (le-ltb (64 - length t.labels) 0 (omega arith))
-  no_label-place Nothing = by-test (leb 64 (length t.labels)) refl
+  no_label-place : (g : Option ℕ) → no_place g (length t.labels) 64 ≡ ltb (free_places t) (new_labels g)
+  no_label-place (Some k) = sym (le-ltb (64 - length t.labels) 0 (omega arith))
+  no_label-place None = by-test (leb 64 (length t.labels)) refl
     where
       by-test : (b : Bool) → leb 64 (length t.labels) ≡ b → b ≡ ltb (64 - length t.labels) 1
       by-test true q = sym (lt-ltb (64 - length t.labels) 1 (omega (arith, leb-true 64 (length t.labels) q)))
@@ -632,7 +515,7 @@ module _ (t : Table) (few_labels : length t.labels ≤ 64) (few_mappings : lengt
       let a = and_both (all (sound_rule n) t.rules && all (sound_mapping n) t.mappings) (all (λ (k : ℕ). ltb k n) t.onlycap) sound in
       (and_both (all (sound_rule n) t.rules) (all (sound_mapping n) t.mappings) a.0).1
 
-  new-unmapped : mapping_in t (length t.labels) ≡ Nothing
+  new-unmapped : mapping_in t (length t.labels) ≡ None
   unfolding sound_mapping names
   new-unmapped =
       first-none (names (length t.labels)) nowhere t.mappings
@@ -650,15 +533,15 @@ module _ (t : Table) (few_labels : length t.labels ≤ 64) (few_mappings : lengt
       no_place (cipso.mapping_for t x) (length t.mappings) 32 ≡ (not (has_mapping t (label_in t x)) && eqb (length t.mappings) 32)
   no_mapping-place x = by_label (label_in t x)
     where
-      by-mapping : (g : Found) → no_place g (length t.mappings) 32 ≡ (not (is_found g) && eqb (length t.mappings) 32)
-      by-mapping (At k) = refl
-      by-mapping Nothing = full 32 (length t.mappings) few_mappings
+      by-mapping : (g : Option ℕ) → no_place g (length t.mappings) 32 ≡ (not (is_found g) && eqb (length t.mappings) 32)
+      by-mapping (Some k) = refl
+      by-mapping None = full 32 (length t.mappings) few_mappings
 
       by_label :
-          (g : Found) →
+          (g : Option ℕ) →
           no_place (mapping_in t (place_of g (length t.labels))) (length t.mappings) 32 ≡ (not (has_mapping t g) && eqb (length t.mappings) 32)
-      by_label (At n) = by-mapping (mapping_in t n)
-      by_label Nothing = rw new-unmapped (full 32 (length t.mappings) few_mappings)
+      by_label (Some n) = by-mapping (mapping_in t n)
+      by_label None = rw new-unmapped (full 32 (length t.mappings) few_mappings)
 
   abbrev room_faults : List ℕ → List (Fault Refusal)
   room_faults x =
@@ -679,7 +562,7 @@ module _ (t : Table) (few_labels : length t.labels ≤ 64) (few_mappings : lengt
   -- fields make a set exactly when each is a category: one that is none makes the fault, which stays
   with_fault :
       (x : List ℕ) (level : ℕ) (fs : List (List ℕ)) →
-      judged_by (cipso.said_judged t (cipso.with_set x level (foldl cipso.with_field (cipso.with_number no_categories number.Bad) fs))) ≡ by bad_level_or_category
+      judged_by (cipso.said_judged t (cipso.with_set x level (foldl cipso.with_field (cipso.with_number no_categories None) fs))) ≡ by bad_level_or_category
   with_fault x level [] = refl
   with_fault x level (g ∷ fs) = with_fault x level fs
 
@@ -695,14 +578,14 @@ module _ (t : Table) (few_labels : length t.labels ≤ 64) (few_mappings : lengt
       by-test false c = refl
 
       by_number :
-          (k : Number) →
+          (k : Option ℕ) →
           ((n : ℕ) →
           judged_by (cipso.said_judged t (cipso.with_set x level (categories_from (with_category s n) fs)))
           ≡ cond (not (all category_field fs)) (by bad_level_or_category) (first_fault (room_faults x))) →
           judged_by (cipso.said_judged t (cipso.with_set x level (foldl cipso.with_field (cipso.with_number s k) fs)))
           ≡ cond (not (number_passes is_category k && all category_field fs)) (by bad_level_or_category) (first_fault (room_faults x))
-      by_number number.Bad more = with_fault x level fs
-      by_number (number.Value n) more =
+      by_number None more = with_fault x level fs
+      by_number (Some n) more =
           either (λ cs. judged_by (cipso.said_judged t (cipso.with_set x level (foldl cipso.with_field cs fs)))) (is_category n) (more n) (with_fault x level fs)
           ∙ by-test (is_category n) (all category_field fs)
 
@@ -721,11 +604,11 @@ module _ (t : Table) (few_labels : length t.labels ≤ 64) (few_mappings : lengt
       by-test n false = refl
 
       by_level :
-          (k : Number) →
+          (k : Option ℕ) →
           judged_by (cipso.said_judged t (cipso.with_level x k (cipso.categories_of fs)))
           ≡ cond (not (number_passes is_mapping_level k) || not (all category_field fs)) (by bad_level_or_category) (first_fault (room_faults x))
-      by_level number.Bad = refl
-      by_level (number.Value n) = by-test n (is_mapping_level n)
+      by_level None = refl
+      by_level (Some n) = by-test n (is_mapping_level n)
 
       by-formed :
           (b : Bool) →
@@ -750,7 +633,7 @@ module _ (t : Table) (few_labels : length t.labels ≤ 64) (few_mappings : lengt
       by_length true = refl
       by_length false = mapping-fields (bad_byte_in text) (fields text)
 
-mapping-refused : (st : Store) (text : List ℕ) → Refuses (cipso.map_answer st text) d.Refused (mapping_faults st text)
+mapping-refused : (st : Store) (text : List ℕ) → Refuses (cipso.map_answer st text) Err (mapping_faults st text)
 unfolding cipso.map_answer
 mapping-refused st text =
     write-first st (cipso.mapping_write text) (long_faults text (mapping_field_faults (table_of st) (bad_byte_in text) (fields text)))
@@ -758,93 +641,83 @@ mapping-refused st text =
 
 -- ---- the lookups
 
-by-label-refused : (st : Store) (x : List ℕ) → Refuses (by_label_of st x) lookup.Refused (by_label_faults st x)
+by-label-refused : (st : Store) (x : List ℕ) → Refuses (by_label_of st x) Err (by_label_faults st x)
 unfolding by_label_of label_lookup
-by-label-refused st x = of_lookup _ (by_label_faults st x) (state-first lookup_by_lem (undamaged_of st) _ (lookup.Refused damaged) _ refl (λ u. by-test (well_formed x)))
+by-label-refused st x = of_result _ (by_label_faults st x) (state-first error_of (undamaged_of st) _ (Err damaged) _ refl (λ u. by-test (well_formed x)))
   where
-    by-mapping : (at : Found) → lookup_by_lem (looked_up (table_of st).mappings at) ≡ none
-    by-mapping (At i) = refl
-    by-mapping Nothing = refl
+    by-mapping : (at : Option ℕ) → error_of (looked_up (table_of st).mappings at) ≡ none
+    by-mapping (Some i) = refl
+    by-mapping None = refl
 
-    by_place : (at : Found) → lookup_by_lem (lookup_by (table_of st) at) ≡ none
-    by_place Nothing = refl
-    by_place (At k) = by-mapping (mapping_in (table_of st) k)
+    by_place : (at : Option ℕ) → error_of (lookup_by (table_of st) at) ≡ none
+    by_place None = refl
+    by_place (Some k) = by-mapping (mapping_in (table_of st) k)
 
-    by-test : (b : Bool) → lookup_by_lem (cond b (lookup_by (table_of st) (label_in (table_of st) x)) (lookup.Refused (bad_label_at (bad_byte x)))) ≡ cond (not b) (by (bad_label_at (bad_byte x))) none
+    by-test : (b : Bool) → error_of (cond b (lookup_by (table_of st) (label_in (table_of st) x)) (Err (bad_label_at (bad_byte x)))) ≡ cond (not b) (by (bad_label_at (bad_byte x))) none
     by-test true = by_place (label_in (table_of st) x)
     by-test false = refl
 
 -- a level and a set that can be looked up
-by-sought : (x : Label) (level : ℕ) (set : CategorySet) → label-by x ≡ none → label-by (cond (sought level set) x (label.Refused 9)) ≡ first_fault (in_run_faults level set)
+by-sought : (at : Option ℕ) (level : ℕ) (set : CategorySet) → error_of (cond (sought level set) (Ok at) (Err bad_level_or_category)) ≡ first_fault (in_run_faults level set)
 unfolding sought
-by-sought x level set e = by_tests (is_level level) (known_set set)
+by-sought at level set = by_tests (is_level level) (known_set set)
   where
-    by_tests : (a b : Bool) → label-by (cond (a && b) x (label.Refused 9)) ≡ cond (not a || not b) (by 9) none
-    by_tests true true = e
+    by_tests : (a b : Bool) → error_of (cond (a && b) (Ok at) (Err bad_level_or_category)) ≡ cond (not a || not b) (by bad_level_or_category) none
+    by_tests true true = refl
     by_tests true false = refl
     by_tests false b = refl
 
-numbered-label : (at : Found) → label-by (numbered at) ≡ none
-numbered-label (At k) = refl
-numbered-label Nothing = refl
-
-by-level-refused : (st : Store) (level : ℕ) (set : CategorySet) → Refuses (by_level_of st level set) label.Refused (by_level_faults st level set)
+by-level-refused : (st : Store) (level : ℕ) (set : CategorySet) → Refuses (by_level_of st level set) Err (by_level_faults st level set)
 unfolding by_level_of level_lookup
 by-level-refused st level set =
-    of_label _ (by_level_faults st level set)
-    (state-first label-by (undamaged_of st) _ (label.Refused 0) _ refl
-    (λ u. by-sought _ level set (numbered-label (first (has_both (table_of st) level set) (entries (λ (k : ℕ). k) (length (table_of st).labels))))))
+    of_result _ (by_level_faults st level set)
+    (state-first error_of (undamaged_of st) _ (Err damaged) _ refl
+    (λ u. by-sought (first (has_both (table_of st) level set) (entries (λ (k : ℕ). k) (length (table_of st).labels))) level set))
 
-run-refused : (records : List Record) (level : ℕ) (set : CategorySet) → Refuses (run.run_of records level set) label.Refused (in_run_faults level set)
+run-refused : (records : List Record) (level : ℕ) (set : CategorySet) → Refuses (run.run_of records level set) Err (in_run_faults level set)
 unfolding run.run_of run.settled_of
-run-refused records level set =
-    of_label _ (in_run_faults level set)
-    (by-sought (run.said (run.lowest_of records level set)) level set (by-best (run.lowest_of records level set)))
-  where
-    by-best : (b : Best) → label-by (run.said b) ≡ none
-    by-best (best.Label k) = refl
-    by-best best.Nothing = refl
+run-refused records level set = of_result _ (in_run_faults level set) (by-sought (run.lowest_of records level set) level set)
 
 -- ---- the packet option, written
 
-write_option_refused : (st : Store) (x out : List ℕ) → Refuses (option_answer st x out) l.Refused (write_option_faults st x out)
+write_option_refused : (st : Store) (x out : List ℕ) → Refuses (option_answer st x out) Err (write_option_faults st x out)
 unfolding option_answer option_given label_option label_lookup
 write_option_refused st x out =
-    of_output _ (write_option_faults st x out)
-    (state-first (λ y. output-by (text_answer y out)) (undamaged_of st) _ (output.refused 0) _ refl (λ u. by-formed (well_formed x)))
+    of_result _ (write_option_faults st x out)
+    (state-first (λ y. error_of (text_answer y out)) (undamaged_of st) _ (output.refused damaged) _ refl (λ u. by-formed (well_formed x)))
   where
     t : Table
     t = table_of st
 
     -- of what was looked up: by what its option is refused, and by what where that is too long for the output
-    option-by : Lookup → First ℕ
-    option-by y = output-by (text_answer (option_by x y) out)
+    option-by : Result (Option Cipso) Refusal → First Refusal
+    option-by y = error_of (text_answer (option_by x y) out)
 
-    sized : Lookup → First ℕ
-    sized y = cond (ltb (length out) (length (option_for x y))) (by 12) none
+    sized : Result (Option Cipso) Refusal → First Refusal
+    sized y = cond (ltb (length out) (length (option_for x y))) (by output_too_short) none
 
     by-own :
-        (b : Bool) → output-by (text_answer (cond b (output.text (option_for x lookup.Unmapped)) (output.refused 19)) out) ≡ cond (not b) (by 19) (sized lookup.Unmapped)
-    by-own true = text-first (option_for x lookup.Unmapped) out
+        (b : Bool) → error_of (text_answer (cond b (output.text (option_for x (Ok None))) (output.refused not_in_an_option)) out) ≡ cond (not b) (by not_in_an_option) (sized (Ok None))
+    by-own true = text-first (option_for x (Ok None)) out
     by-own false = refl
 
-    unmapped : option-by lookup.Unmapped ≡ cond (ltb 23 (length x)) (by 19) (sized lookup.Unmapped)
+    unmapped : option-by (Ok None) ≡ cond (ltb 23 (length x)) (by not_in_an_option) (sized (Ok None))
     unmapped = by-own (leb (length x) 23) ∙ rw (not_leb (length x) 23)
 
     by-mapping :
-        (at : Found) → option-by (looked_up t.mappings at) ≡ cond (not (is_found at) && ltb 23 (length x)) (by 19) (sized (looked_up t.mappings at))
-    by-mapping (At i) = text-first (option_for x (looked_up t.mappings (At i))) out
-    by-mapping Nothing = unmapped
+        (at : Option ℕ) → option-by (looked_up t.mappings at) ≡ cond (not (is_found at) && ltb 23 (length x)) (by not_in_an_option) (sized (looked_up t.mappings at))
+    by-mapping (Some i) = text-first (option_for x (looked_up t.mappings (Some i))) out
+    by-mapping None = unmapped
 
-    by_place : (at : Found) → option-by (lookup_by t at) ≡ cond (not (has_mapping t at) && ltb 23 (length x)) (by 19) (sized (lookup_by t at))
-    by_place (At k) = by-mapping (mapping_in t k)
-    by_place Nothing = unmapped
+    by_place : (at : Option ℕ) → option-by (lookup_by t at) ≡ cond (not (has_mapping t at) && ltb 23 (length x)) (by not_in_an_option) (sized (lookup_by t at))
+    by_place (Some k) = by-mapping (mapping_in t k)
+    by_place None = unmapped
 
-    looked : Bool → Lookup
-    looked b = cond b (lookup_by t (label_in t x)) (lookup.Refused (bad_label_at (bad_byte x)))
+    looked : Bool → Result (Option Cipso) Refusal
+    looked b = cond b (lookup_by t (label_in t x)) (Err (bad_label_at (bad_byte x)))
 
     by-formed :
-        (b : Bool) → option-by (looked b) ≡ cond (not b) (by 3) (cond (not (has_mapping t (label_in t x)) && ltb 23 (length x)) (by 19) (sized (looked b)))
+        (b : Bool) → option-by (looked b) ≡ cond (not b) (by (bad_label_at (bad_byte x))) (cond (not (has_mapping t (label_in t x)) && ltb 23 (length x)) (by not_in_an_option) (sized (looked b)))
     by-formed true = by_place (label_in t x)
     by-formed false = refl
 
@@ -891,10 +764,10 @@ unfolding first
 found-any p [] = refl
 found-any p (x ∷ xs) = by-test (p x) (first p xs) (found-any p xs)
   where
-    by-test : (b : Bool) (at : Found) → is_found at ≡ any p xs → is_found (cond b (At 0) (later at)) ≡ (b || any p xs)
+    by-test : (b : Bool) (at : Option ℕ) → is_found at ≡ any p xs → is_found (cond b (Some 0) (later at)) ≡ (b || any p xs)
     by-test true at e = refl
-    by-test false (At k) e = e
-    by-test false Nothing e = e
+    by-test false (Some k) e = e
+    by-test false None e = e
 
 -- the set of a bitmap can be looked up at any level
 bitmap-sought : (level : ℕ) (bitmap : List ℕ) → is_level level ≡ true → sought level (set_of_bitmap bitmap) ≡ true
@@ -902,10 +775,10 @@ unfolding sought set_of_bitmap
 bitmap-sought level bitmap h = rw (h, category_sets.passing_known (bit_at bitmap))
 
 module _ (t : Table) (o : List ℕ) (h : is_level (option_level o) ≡ true) where
-  abbrev peer_faults : List (Fault ℕ)
+  abbrev peer_faults : List (Fault Refusal)
   peer_faults =
-      3 when (eqb (option_level o) 250 && not (well_formed (rebuilt o)))
-      ∷ 21 when (not (eqb (option_level o) 250) && not (some_label_has t (option_level o) (set_of_bitmap (option_bitmap o))))
+      bad_label when (eqb (option_level o) 250 && not (well_formed (rebuilt o)))
+      ∷ no_such_mapping when (not (eqb (option_level o) 250) && not (some_label_has t (option_level o) (set_of_bitmap (option_bitmap o))))
       ∷ []
 
   -- by its level
@@ -913,29 +786,29 @@ module _ (t : Table) (o : List ℕ) (h : is_level (option_level o) ≡ true) whe
   unfolding peer_at level_lookup
   peer-at = rw (bitmap-sought (option_level o) (option_bitmap o) h) (by_level (eqb (option_level o) 250))
     where
-      among : Found
+      among : Option ℕ
       among = first (has_both t (option_level o) (set_of_bitmap (option_bitmap o))) (entries (λ (k : ℕ). k) (length t.labels))
 
-      by-own : (b : Bool) → peer-by (cond b (peer.label (rebuilt o)) (not_read 3)) ≡ cond (not b) (by 3) none
+      by-own : (b : Bool) → peer-by (cond b (peer.label (rebuilt o)) (not_read bad_label)) ≡ cond (not b) (by bad_label) none
       by-own true = refl
       by-own false = refl
 
-      by-found : (at : Found) → peer-by (mapped_peer t (numbered at)) ≡ cond (not (is_found at)) (by 21) none
-      by-found (At k) = refl
-      by-found Nothing = refl
+      by-found : (at : Option ℕ) → peer-by (mapped_peer t (Ok at)) ≡ cond (not (is_found at)) (by no_such_mapping) none
+      by-found (Some k) = refl
+      by-found None = refl
 
       by_level :
           (b : Bool) →
-          peer-by (cond b (own_peer (rebuilt o)) (mapped_peer t (numbered among)))
-          ≡ cond (b && not (well_formed (rebuilt o))) (by 3) (cond (not b && not (some_label_has t (option_level o) (set_of_bitmap (option_bitmap o)))) (by 21) none)
+          peer-by (cond b (own_peer (rebuilt o)) (mapped_peer t (Ok among)))
+          ≡ cond (b && not (well_formed (rebuilt o))) (by bad_label) (cond (not b && not (some_label_has t (option_level o) (set_of_bitmap (option_bitmap o)))) (by no_such_mapping) none)
       by_level true = by-own (well_formed (rebuilt o))
       by_level false =
           by-found among
-          ∙ ap (λ (b : Bool). cond (not b) (by 21) none) (found-any (has_both t (option_level o) (set_of_bitmap (option_bitmap o))) (entries (λ (k : ℕ). k) (length t.labels)))
+          ∙ ap (λ (b : Bool). cond (not b) (by no_such_mapping) none) (found-any (has_both t (option_level o) (set_of_bitmap (option_bitmap o))) (entries (λ (k : ℕ). k) (length t.labels)))
 
   peer-first :
       peer-by (peer_of t o)
-      ≡ cond (other_layout o) (by 16) (cond (doi_is_not_3 o) (by 17) (cond (not (only_categories (option_bitmap o))) (by 18) (first_fault peer_faults)))
+      ≡ cond (other_layout o) (by bad_option) (cond (doi_is_not_3 o) (by other_doi) (cond (not (only_categories (option_bitmap o))) (by bad_option_category) (first_fault peer_faults)))
   unfolding peer_of
   peer-first = rw (layout_tested o) (by_layout (other_layout o) refl)
     where
@@ -944,7 +817,7 @@ module _ (t : Table) (o : List ℕ) (h : is_level (option_level o) ≡ true) whe
 
       by_tests :
           (b c : Bool) →
-          peer-by (cond (not b) (cond c given (not_read 18)) (not_read 17)) ≡ cond b (by 17) (cond (not c) (by 18) (first_fault peer_faults))
+          peer-by (cond (not b) (cond c given (not_read bad_option_category)) (not_read other_doi)) ≡ cond b (by other_doi) (cond (not c) (by bad_option_category) (first_fault peer_faults))
       by_tests true c = refl
       by_tests false true = peer-at
       by_tests false false = refl
@@ -952,8 +825,8 @@ module _ (t : Table) (o : List ℕ) (h : is_level (option_level o) ≡ true) whe
       by_layout :
           (a : Bool) →
           other_layout o ≡ a →
-          peer-by (cond (not a) (cond (same_bytes (doi_in o) our_doi) (cond (only_categories (option_bitmap o)) given (not_read 18)) (not_read 17)) (not_read 16))
-          ≡ cond a (by 16) (cond (doi_is_not_3 o) (by 17) (cond (not (only_categories (option_bitmap o))) (by 18) (first_fault peer_faults)))
+          peer-by (cond (not a) (cond (same_bytes (doi_in o) our_doi) (cond (only_categories (option_bitmap o)) given (not_read bad_option_category)) (not_read other_doi)) (not_read bad_option))
+          ≡ cond a (by bad_option) (cond (doi_is_not_3 o) (by other_doi) (cond (not (only_categories (option_bitmap o))) (by bad_option_category) (first_fault peer_faults)))
       by_layout true q = refl
       by_layout false q = rw (doi_tested o (option_sized o (layout_tested o ∙ ap not q)).0) (by_tests (doi_is_not_3 o) (only_categories (option_bitmap o)))
 
@@ -961,7 +834,7 @@ read_option_refused : (st : Store) (o : List ℕ) → is_level (option_level o) 
 unfolding peer_given
 read_option_refused st o h =
     of_peer _ (read_option_faults st o)
-    (state-first peer-by (undamaged_of st) (peer_of (table_of st) o) (not_read 0) _ refl (λ u. peer-first (table_of st) o h))
+    (state-first peer-by (undamaged_of st) (peer_of (table_of st) o) (not_read damaged) _ refl (λ u. peer-first (table_of st) o h))
 
 -- ---- a question
 
@@ -980,7 +853,7 @@ asked-first t s o request capable = by_tests (well_formed s) (well_formed o) (eq
 
     by_tests :
         (p q m n : Bool) →
-        answer-by (cond (p && q) (cond m (a.Refused bad_request) (by_request t s o capable (cond n (Modes (modes_of request)) Bad))) (a.Refused (bad_label_at (bad_byte_of_two s o))))
+        answer-by (cond (p && q) (cond m (a.Refused bad_request) (by_request t s o capable (cond n (Some (modes_of request)) None))) (a.Refused (bad_label_at (bad_byte_of_two s o))))
         ≡ cond (not p || not q) (by (bad_label_at (bad_byte_of_two s o))) (cond (m || not n) (by bad_request) none)
     by_tests false q m n = refl
     by_tests true false m n = refl
@@ -998,30 +871,21 @@ question-refused st s o request capable =
 
 new-object-refused :
     (st : Store) (creator folder : List ℕ) (folder_transmutes is_folder : Bool) →
-    Refuses (object_label_of st creator folder folder_transmutes is_folder) object-label.Refused (new_object_faults st creator folder)
-unfolding object_label_of object_label object_label_for
+    Refuses (object_label_of st creator folder folder_transmutes is_folder) Err (new_object_faults st creator folder)
+unfolding object_label_of object_label
 new-object-refused st creator folder folder_transmutes is_folder =
-    of_object _ (new_object_faults st creator folder)
-    (state-first object-by (undamaged_of st) _ (object-label.Refused 0) _ refl (λ u. by_tests (well_formed creator) (well_formed folder)))
+    of_result _ (new_object_faults st creator folder)
+    (state-first error_of (undamaged_of st) _ (Err damaged) _ refl (λ u. by_tests (well_formed creator) (well_formed folder)))
   where
-    pair : PairModes
-    pair = modes_between (table_of st) creator folder
-
-    by-test : (b : Bool) → object-by (cond b (object-label.FolderLabel is_folder) object-label.CreatorLabel) ≡ none
-    by-test true = refl
-    by-test false = refl
-
-    by_verdict : (v : Verdict) → object-by (object_label_by v pair folder_transmutes is_folder) ≡ none
-    by_verdict (verdict.Grants k) = by-test (folder_transmutes && by_rule_with_t k pair)
-    by_verdict (verdict.Denies x) = refl
-    by_verdict verdict.Undecided = refl
+    given : ObjectLabel
+    given = object_label_for creator folder (modes_between (table_of st) creator folder) folder_transmutes is_folder
 
     by_tests :
         (p q : Bool) →
-        object-by (cond (p && q) (object_label_by (first_of (rules_for creator folder pair write_letter)) pair folder_transmutes is_folder) (object-label.Refused 3)) ≡ cond (not p || not q) (by 3) none
+        error_of (cond (p && q) (Ok given) (Err (bad_label_at (bad_byte_of_two creator folder)))) ≡ cond (not p || not q) (by (bad_label_at (bad_byte_of_two creator folder))) none
     by_tests false q = refl
     by_tests true false = refl
-    by_tests true true = by_verdict (first_of (rules_for creator folder pair write_letter))
+    by_tests true true = refl
 
 -- ---- a question line of the program
 
@@ -1054,35 +918,35 @@ question-line-refused t line = of_answer _ (question_line_faults line) (by_lengt
 
 -- ---- a rule and a label by number
 
-listing-refused : (st : Store) (k : ℕ) (out : List ℕ) → Refuses (list_answer st k out) l.Refused (listing_faults st k out)
+listing-refused : (st : Store) (k : ℕ) (out : List ℕ) → Refuses (list_answer st k out) Err (listing_faults st k out)
 unfolding list_answer rule_given put_answer
 listing-refused st k out =
-    of_output _ (listing_faults st k out)
-    (state-first (λ x. output-by (text_answer x out)) (undamaged_of st) _ (output.refused 0) _ refl
+    of_result _ (listing_faults st k out)
+    (state-first (λ x. error_of (text_answer x out)) (undamaged_of st) _ (output.refused damaged) _ refl
     (λ u. by_number (ltb k (length (table_of st).rules)) ∙ rw (not_ltb k (length (table_of st).rules), not_leb (length given) (length out))))
   where
     given : List ℕ
     given = rule_text (table_of st) (rule_numbered (table_of st) k)
 
-    by_length : (b : Bool) → output-by (cond b (l.Length (length given)) (l.Refused 12)) ≡ cond (not b) (by 12) none
+    by_length : (b : Bool) → error_of (cond b (Ok (length given)) (Err output_too_short)) ≡ cond (not b) (by output_too_short) none
     by_length true = refl
     by_length false = refl
 
     by_number :
         (b : Bool) →
-        output-by (text_answer (cond b (output.text given) (output.refused 13)) out)
-        ≡ cond (not b) (by 13) (cond (not (leb (length given) (length out))) (by 12) none)
+        error_of (text_answer (cond b (output.text given) (output.refused no_such_number)) out)
+        ≡ cond (not b) (by no_such_number) (cond (not (leb (length given) (length out))) (by output_too_short) none)
     by_number false = refl
     by_number true = by_length (leb (length given) (length out))
 
-label-refused : (st : Store) (k : ℕ) → Refuses (label_answer st k) d.Refused (label_by_number_faults st k)
+label-refused : (st : Store) (k : ℕ) → Refuses (label_answer st k) Err (label_by_number_faults st k)
 unfolding label_answer
 label-refused st k =
-    of_done _ (label_by_number_faults st k)
-    (state-first done-by (undamaged_of st) _ (d.Refused damaged) _ refl
+    of_result _ (label_by_number_faults st k)
+    (state-first error_of (undamaged_of st) _ (Err damaged) _ refl
     (λ u. by-test (ltb k (length (table_of st).labels)) ∙ rw (not_ltb k (length (table_of st).labels))))
   where
-    by-test : (b : Bool) → done-by (cond b d.Done (d.Refused no_such_number)) ≡ cond (not b) (by no_such_number) none
+    by-test : (b : Bool) → error_of {A = Unit {0}} (cond b (Ok tt) (Err no_such_number)) ≡ cond (not b) (by no_such_number) none
     by-test true = refl
     by-test false = refl
 

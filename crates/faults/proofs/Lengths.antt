@@ -9,7 +9,7 @@ use lib.ListN.{length}
 use borrow.Author.Tests.{ltb-true, lt-ltb}
 use Rattle.search.specs.Search.{all}
 use Rattle.search.proofs.Laws.{no, and_both}
-use Rattle.refusals.specs.Refusals.{damaged, too_long, bad_label_at}
+use Rattle.refusals.specs.Refusals.{number_of, damaged, too_long, bad_label_at}
 use Rattle.refusals.specs.declared.Refusal.{Refusal}
 use Rattle.alphabet.specs.Alphabet.{well_formed, bad_byte, bad_byte_in, fields}
 use Rattle.store.specs.Layout.{Store, table_of, undamaged_of}
@@ -19,7 +19,7 @@ use Rattle.faults.proofs.Faults.{first_in_order}
 
 -- another number than 1
 abbrev another : Refusal → Bool
-another r = not (eqb r.number 1)
+another r = not (eqb (number_of r) 1)
 
 abbrev is_another : Fault Refusal → Bool
 is_another f = another f.refusal

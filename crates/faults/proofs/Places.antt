@@ -10,7 +10,7 @@ use lib.ListN.{length, get_or}
 use borrow.Author.Tests.{eqb-true, ltb-false, not-true, not-false}
 use Rattle.search.specs.Search.{all}
 use Rattle.search.proofs.Laws.{no, all-at}
-use Rattle.refusals.specs.Refusals.{plain, bad_label_at}
+use Rattle.refusals.specs.Refusals.{number_of, place_of, damaged, too_long, wrong_fields, bad_access, same_labels, labels_full, rules_full, bad_request, bad_level_or_category, mappings_full, too_many_overrides, no_such_number, bad_label_at}
 use Rattle.refusals.specs.declared.Refusal.{Refusal}
 use Rattle.alphabet.specs.Alphabet.{well_formed, FirstBad, bad_byte, bad_byte_of_two, fields, bad_byte_in, BadIn}
 use Rattle.alphabet.proofs.Laws.{label_form}
@@ -28,7 +28,7 @@ is_by (by r) = true
 
 module _ (P : ℕ → Type 0) where
   abbrev Right : Refusal → Type 0
-  Right why = (why.number ≡ 3 → P why.place) × (why.number ≢ 3 → why.place ≡ 0)
+  Right why = (number_of why ≡ 3 → P (place_of why)) × (number_of why ≢ 3 → place_of why ≡ 0)
 
   abbrev Rights : List (Fault Refusal) → Type 0
   Rights [] = Unit {0}
@@ -50,8 +50,8 @@ module _ (P : ℕ → Type 0) where
         another = λ why e n. (first-right faults g why ((f why).0 e)).1 n;
       }
 
-  other : (n : ℕ) → (n ≡ 3 → ⊥) → Right (plain n)
-  other n h = (λ e. absurd (h e), λ q. refl)
+  other : (r : Refusal) → (number_of r ≡ 3 → ⊥) → place_of r ≡ 0 → Right r
+  other r h z = (λ e. absurd (h e), λ q. z)
 
   bad : (p : ℕ) → P p → Right (bad_label_at p)
   bad p w = (λ e. w, λ q. absurd (q refl))
@@ -100,19 +100,19 @@ module _ (text : List ℕ) where
 
   line_rights : (st : Store) → Rights In (line_faults (table_of st) text)
   line_rights st = (
-    λ h. other In 1 (λ q. omega arith),
+    λ h. other In too_long (λ q. omega arith) refl,
     λ h. perhaps In (eqb (length (fields text)) 0) (line_field_faults (table_of st) (bad_byte_in text) (fields text))
         (λ n. (
-          λ k. other In 2 (λ q. omega arith),
+          λ k. other In wrong_fields (λ q. omega arith) refl,
           λ k. (
             λ m. bad In (bad_byte_in text) (bad_in_fields text (omega (arith, eqb-true (length (fields text)) 3 (not-false _ k))) m),
             λ m. (
-              λ i. other In 4 (λ q. omega arith),
+              λ i. other In bad_access (λ q. omega arith) refl,
               λ i. (
-                λ j. other In 5 (λ q. omega arith),
+                λ j. other In same_labels (λ q. omega arith) refl,
                 λ j. (
-                  λ u. other In 6 (λ q. omega arith),
-                  λ u. (λ v. other In 7 (λ q. omega arith), λ v. tt),
+                  λ u. other In labels_full (λ q. omega arith) refl,
+                  λ u. (λ v. other In rules_full (λ q. omega arith) refl, λ v. tt),
                 ),
               ),
             ),
@@ -122,20 +122,20 @@ module _ (text : List ℕ) where
 
   change_rights : (st : Store) → Rights In (change_faults st text)
   change_rights st = (
-    λ h. other In 0 (λ q. omega arith),
+    λ h. other In damaged (λ q. omega arith) refl,
     λ h. (
-      λ n. other In 1 (λ q. omega arith),
+      λ n. other In too_long (λ q. omega arith) refl,
       λ n. (
-        λ k. other In 2 (λ q. omega arith),
+        λ k. other In wrong_fields (λ q. omega arith) refl,
         λ k. (
           λ m. bad In (bad_byte_in text) (bad_in_fields text (omega (arith, eqb-true (length (fields text)) 4 (not-false _ k))) m),
           λ m. (
-            λ i. other In 4 (λ q. omega arith),
+            λ i. other In bad_access (λ q. omega arith) refl,
             λ i. (
-              λ j. other In 5 (λ q. omega arith),
+              λ j. other In same_labels (λ q. omega arith) refl,
               λ j. (
-                λ u. other In 6 (λ q. omega arith),
-                λ u. (λ v. other In 7 (λ q. omega arith), λ v. tt),
+                λ u. other In labels_full (λ q. omega arith) refl,
+                λ u. (λ v. other In rules_full (λ q. omega arith) refl, λ v. tt),
               ),
             ),
           ),
@@ -146,17 +146,17 @@ module _ (text : List ℕ) where
 
   onlycap_rights : (st : Store) → Rights In (onlycap_faults st text)
   onlycap_rights st = (
-    λ h. other In 0 (λ q. omega arith),
+    λ h. other In damaged (λ q. omega arith) refl,
     λ h. (
-      λ n. other In 1 (λ q. omega arith),
+      λ n. other In too_long (λ q. omega arith) refl,
       λ n. (
-        λ k. other In 2 (λ q. omega arith),
+        λ k. other In wrong_fields (λ q. omega arith) refl,
         λ k. perhaps In (clears (fields text)) (onlycap_label_faults (table_of st) (bad_byte_in text) (fields text))
             (λ c. (
               λ m. bad In (bad_byte_in text) (first_bad_byte.text text (not-true _ m)),
               λ m. (
-                λ i. other In 11 (λ q. omega arith),
-                λ i. (λ j. other In 6 (λ q. omega arith), λ j. tt),
+                λ i. other In too_many_overrides (λ q. omega arith) refl,
+                λ i. (λ j. other In labels_full (λ q. omega arith) refl, λ j. tt),
               ),
             )),
       ),
@@ -165,18 +165,18 @@ module _ (text : List ℕ) where
 
   mapping_rights : (st : Store) → Rights In (mapping_faults st text)
   mapping_rights st = (
-    λ h. other In 0 (λ q. omega arith),
+    λ h. other In damaged (λ q. omega arith) refl,
     λ h. (
-      λ n. other In 1 (λ q. omega arith),
+      λ n. other In too_long (λ q. omega arith) refl,
       λ n. (
-        λ k. other In 2 (λ q. omega arith),
+        λ k. other In wrong_fields (λ q. omega arith) refl,
         λ k. (
           λ m. bad In (bad_byte_in text) (first_bad_byte.text text (not_all (fields text) 0 (omega (arith, ltb-false (length (fields text)) 2 k)) (not-true _ m))),
           λ m. (
-            λ i. other In 9 (λ q. omega arith),
+            λ i. other In bad_level_or_category (λ q. omega arith) refl,
             λ i. (
-              λ j. other In 6 (λ q. omega arith),
-              λ j. (λ u. other In 10 (λ q. omega arith), λ u. tt),
+              λ j. other In labels_full (λ q. omega arith) refl,
+              λ j. (λ u. other In mappings_full (λ q. omega arith) refl, λ u. tt),
             ),
           ),
         ),
@@ -186,41 +186,41 @@ module _ (text : List ℕ) where
 
   revoke_rights : (st : Store) → Rights (FirstBad text) (revoke_faults st text)
   revoke_rights st = (
-    λ h. other (FirstBad text) 0 (λ q. omega arith),
+    λ h. other (FirstBad text) damaged (λ q. omega arith) refl,
     λ h. (
-      λ n. other (FirstBad text) 1 (λ q. omega arith),
+      λ n. other (FirstBad text) too_long (λ q. omega arith) refl,
       λ n. (λ k. bad (FirstBad text) (bad_byte text) (bad_byte-is text (not-true _ k)), λ k. tt),
     ),
   )
 
   by-label_rights : (st : Store) → Rights (FirstBad text) (by_label_faults st text)
   by-label_rights st = (
-    λ h. other (FirstBad text) 0 (λ q. omega arith),
+    λ h. other (FirstBad text) damaged (λ q. omega arith) refl,
     λ h. (λ k. bad (FirstBad text) (bad_byte text) (bad_byte-is text (not-true _ k)), λ k. tt),
   )
 
 question_rights : (st : Store) (s o request : List ℕ) → Rights (BadOfTwo s o) (question_faults st s o request)
 question_rights st s o request = (
-  λ h. other (BadOfTwo s o) 0 (λ q. omega arith),
+  λ h. other (BadOfTwo s o) damaged (λ q. omega arith) refl,
   λ h. (
     λ n. bad (BadOfTwo s o) (bad_byte_of_two s o) (bad_of_two s o n),
-    λ n. (λ k. other (BadOfTwo s o) 8 (λ q. omega arith), λ k. tt),
+    λ n. (λ k. other (BadOfTwo s o) bad_request (λ q. omega arith) refl, λ k. tt),
   ),
 )
 
 -- what is refused by plain numbers alone
-no_place : (xs : List (Fault Refusal)) → ((why : Refusal) → first_fault xs ≡ by why → why.place ≡ 0) → {A : Type 0} {answer : A} {refused : Refusal → A} → Refuses answer refused xs → (why : Refusal) → answer ≡ refused why → why.place ≡ 0
+no_place : (xs : List (Fault Refusal)) → ((why : Refusal) → first_fault xs ≡ by why → place_of why ≡ 0) → {A : Type 0} {answer : A} {refused : Refusal → A} → Refuses answer refused xs → (why : Refusal) → answer ≡ refused why → place_of why ≡ 0
 no_place xs h f why e = h why ((f why).0 e)
 
-one_plain : (t : Bool) (why : Refusal) → cond t (by (plain 0)) none ≡ by why → why.place ≡ 0
+one_plain : (t : Bool) (why : Refusal) → cond t (by damaged) none ≡ by why → place_of why ≡ 0
 unfolding is_by
-one_plain true why e = let z : plain 0 ≡ why = cc in sym (ap (λ (r : Refusal). r.place) z)
+one_plain true why e = let z : damaged ≡ why = cc in sym (ap place_of z)
 one_plain false why e = absurd (no (ap is_by e))
 
-two-plain : (t u : Bool) (why : Refusal) → cond t (by (plain 0)) (cond u (by (plain 13)) none) ≡ by why → why.place ≡ 0
+two-plain : (t u : Bool) (why : Refusal) → cond t (by damaged) (cond u (by no_such_number) none) ≡ by why → place_of why ≡ 0
 unfolding is_by
-two-plain true u why e = let z : plain 0 ≡ why = cc in sym (ap (λ (r : Refusal). r.place) z)
-two-plain false true why e = let z : plain 13 ≡ why = cc in sym (ap (λ (r : Refusal). r.place) z)
+two-plain true u why e = let z : damaged ≡ why = cc in sym (ap place_of z)
+two-plain false true why e = let z : no_such_number ≡ why = cc in sym (ap place_of z)
 two-plain false false why e = absurd (no (ap is_by e))
 
 pub place_of_the_first_bad_byte : PlaceOfTheFirstBadByte

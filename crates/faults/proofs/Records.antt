@@ -14,24 +14,23 @@ use borrow.Author.Tests.{lt-ltb, le-ltb, ltb-true, le-leb, leb-true, leb-false, 
 use Rattle.search.specs.Search.{all}
 use Rattle.search.specs.Bytes.{ascii, same_bytes}
 use Rattle.search.proofs.Laws.{no, and_both, eqb_is, or_is}
-use Rattle.refusals.specs.Refusals.{too_long, bad_label, same_labels, bad_record, bad_label_at}
+use Rattle.refusals.specs.Refusals.{too_long, bad_label, same_labels, bad_record, bad_label_at, bad_access, not_in_a_record, output_too_short}
 use Rattle.alphabet.specs.Alphabet.{space, dash, well_formed, fields, bad_byte_in}
 use Rattle.modes.specs.Modes.{bit_of, allowed_byte, modes_of, read_modes, modes_text, line_letters, stored_modes, Is, one_of}
-use Rattle.modes.specs.declared.Access.TheVariants.{Modes, Bad}
+use Rattle.std.proofs.Common.{Some, None, Result, Ok, Err}
+use Rattle.refusals.specs.declared.Refusal.{Refusal}
 use Rattle.modes.proofs.Laws.{letter_at, known-stored}
 use Rattle.lines.specs.Lines as said
 use Rattle.lines.specs.Lines.{rule_with, rule_by, rule_fields, rule_of}
 use Rattle.output.specs.Output as output
 use Rattle.output.specs.Output.{put_answer, text_answer}
-use Rattle.output.specs.declared.Output.{Output}
-use Rattle.output.specs.declared.Output.TheVariants as l
 use Rattle.rule_text.specs.RuleText.{text_of}
 use Rattle.fixed_load.specs.Records.{subject_place, object_place, access_bytes, spaces, filled, place_label, is_place, five_letters, in_own_places, is_record, said_by, record_says, of_rule, as_line, line_from, without_newline, in_places, record_of, fits_a_record, if_it_fits, record_from}
 use Rattle.fixed_load.proofs.Laws.{filled-length, own-modes}
 use Rattle.fixed_load.proofs.Back.{own-byte}
 use Rattle.faults.specs.Faults.{Fault, ◌when◌, First, none, by, first_fault, Refuses, bad_labels, bad_access_field, all_spaces, byte_after_space, ends_in_space, bad_label_place, bad_access_bytes, record_faults, over_record_label, to_record_field_faults, line_to_record_faults}
 
--- ---- what an output is refused by
+-- ---- what a result is refused by
 
 -- an answer that is refused by what the faults come to
 pub refuses :
@@ -43,16 +42,16 @@ pub refuses :
     Refuses x refused faults
 refuses refused refusal to from x faults e n = (λ q. sym e ∙ ap refusal q ∙ to n, λ q. from x n (e ∙ q))
 
-abbrev pub output-by : Output → First ℕ
-output-by (l.Length x) = none
-output-by (l.Refused n) = by n
+abbrev pub error_of : {A : Type 0} → Result A Refusal → First Refusal
+error_of (Ok x) = none
+error_of (Err n) = by n
 
-pub of_output : (x : Output) (faults : List (Fault ℕ)) → output-by x ≡ first_fault faults → Refuses x l.Refused faults
-of_output = refuses l.Refused output-by (λ n. refl) from
+pub of_result : {A : Type 0} (x : Result A Refusal) (faults : List (Fault Refusal)) → error_of x ≡ first_fault faults → Refuses x Err faults
+of_result {A} = refuses Err error_of (λ n. refl) from
   where
-    from : (x : Output) (n : ℕ) → output-by x ≡ by n → x ≡ l.Refused n
-    from (l.Length x) n q = let z : ◌≡◌ {A = ℕ} 0 1 = cc in absurd (omega arith)
-    from (l.Refused m) n q = let z : m ≡ n = cc in ap l.Refused z
+    from : (x : Result A Refusal) (n : Refusal) → error_of x ≡ by n → x ≡ Err n
+    from (Ok x) n q = let z : ◌≡◌ {A = ℕ} 0 1 = cc in absurd (omega arith)
+    from (Err m) n q = let z : m ≡ n = cc in ap Err z
 
 -- ---- tests said otherwise
 
@@ -70,11 +69,11 @@ same_test false true f g = g refl
 same_test false false f g = refl
 
 -- a text that is given to an output
-pub text-first : (t out : List ℕ) → output-by (put_answer t out) ≡ cond (ltb (length out) (length t)) (by 12) none
+pub text-first : (t out : List ℕ) → error_of (put_answer t out) ≡ cond (ltb (length out) (length t)) (by output_too_short) none
 unfolding put_answer
 text-first t out = by-test (leb (length t) (length out)) ∙ rw (not_leb (length t) (length out))
   where
-    by-test : (b : Bool) → output-by (cond b (l.Length (length t)) (l.Refused 12)) ≡ cond (not b) (by 12) none
+    by-test : (b : Bool) → error_of (cond b (Ok (length t)) (Err output_too_short)) ≡ cond (not b) (by output_too_short) none
     by-test true = refl
     by-test false = refl
 
@@ -229,16 +228,16 @@ access_tested (a ∷ b ∷ c ∷ d ∷ e ∷ []) n =
 
 -- ---- a record to a line
 
-abbrev answered-by : List ℕ → output.Text → First ℕ
-answered-by out x = output-by (text_answer x out)
+abbrev answered-by : List ℕ → output.Text → First Refusal
+answered-by out x = error_of (text_answer x out)
 
 -- of its labels and access bytes
-abbrev part_faults : List ℕ → List ℕ → List ℕ → List ℕ → List (Fault ℕ)
+abbrev part_faults : List ℕ → List ℕ → List ℕ → List ℕ → List (Fault Refusal)
 part_faults s o access out =
-    3 when bad_labels s o
-    ∷ 4 when bad_access_bytes access
-    ∷ 5 when same_bytes s o
-    ∷ 12 when ltb (length out) (length (text_of s o (modes_text (modes_of access))))
+    bad_label when bad_labels s o
+    ∷ bad_access when bad_access_bytes access
+    ∷ same_labels when same_bytes s o
+    ∷ output_too_short when ltb (length out) (length (text_of s o (modes_text (modes_of access))))
     ∷ []
 
 part-first :
@@ -254,15 +253,15 @@ part-first s o access out five = rw (access_tested access five) (by_tests (well_
 
     by-same :
         (b : Bool) →
-        answered-by out (as_line (cond b (said.refused same_labels) (said.rule s o (modes_of access)))) ≡ cond b (by 5) (cond (ltb (length out) (length given)) (by 12) none)
+        answered-by out (as_line (cond b (said.refused same_labels) (said.rule s o (modes_of access)))) ≡ cond b (by same_labels) (cond (ltb (length out) (length given)) (by output_too_short) none)
     by-same true = refl
     by-same false = text-first given out
 
     by_tests :
         (a b c : Bool) →
         bad_access_bytes access ≡ c →
-        answered-by out (as_line (cond (a && b) (rule_with s o (cond (not c) (Modes (modes_of access)) Bad)) (said.refused bad_label)))
-        ≡ cond (not a || not b) (by 3) (cond c (by 4) (cond (same_bytes s o) (by 5) (cond (ltb (length out) (length given)) (by 12) none)))
+        answered-by out (as_line (cond (a && b) (rule_with s o (cond (not c) (Some (modes_of access)) None)) (said.refused bad_label)))
+        ≡ cond (not a || not b) (by bad_label) (cond c (by bad_access) (cond (same_bytes s o) (by same_labels) (cond (ltb (length out) (length given)) (by output_too_short) none)))
     by_tests false b c e = refl
     by_tests true false c e = refl
     by_tests true true true e = refl
@@ -282,7 +281,7 @@ record_first r out = by_size (eqb (length r) 53) refl
         (p q : Bool) →
         length (access_bytes r) ≡ 5 →
         answered-by out (as_line (cond (not p && not q) (said_by s o (access_bytes r)) (said.refused bad_record)))
-        ≡ cond (p || q) (by 14) (first_fault (part_faults s o (access_bytes r) out))
+        ≡ cond (p || q) (by bad_record) (first_fault (part_faults s o (access_bytes r) out))
     by-places true q five = refl
     by-places false true five = refl
     by-places false false five = part-first s o (access_bytes r) out five
@@ -291,7 +290,7 @@ record_first r out = by_size (eqb (length r) 53) refl
         (b : Bool) →
         eqb (length r) 53 ≡ b →
         answered-by out (as_line (cond (b && (is_place (subject_place r) && is_place (object_place r))) (said_by s o (access_bytes r)) (said.refused bad_record)))
-        ≡ cond (not b || (bad_label_place (subject_place r) || bad_label_place (object_place r))) (by 14) (first_fault (part_faults s o (access_bytes r) out))
+        ≡ cond (not b || (bad_label_place (subject_place r) || bad_label_place (object_place r))) (by bad_record) (first_fault (part_faults s o (access_bytes r) out))
     by_size false e = refl
     by_size true e =
         let long : length r ≡ 53 = eqb-true (length r) 53 e in
@@ -300,8 +299,8 @@ record_first r out = by_size (eqb (length r) 53) refl
         rw (place_tested (subject_place r) first, place_tested (object_place r) second)
         (by-places (bad_label_place (subject_place r)) (bad_label_place (object_place r)) (omega (arith, length-drop 48 r)))
 
-pub record_faults_lem : (r out : List ℕ) → Refuses (text_answer (line_from r) out) l.Refused (record_faults r out)
-record_faults_lem r out = of_output _ (record_faults r out) (record_first r out)
+pub record_faults_lem : (r out : List ℕ) → Refuses (text_answer (line_from r) out) Err (record_faults r out)
+record_faults_lem r out = of_result _ (record_faults r out) (record_first r out)
 
 -- ---- a line to a record
 
@@ -310,10 +309,10 @@ unfolding record_of
 record_long s o m h i = omega (arith, length-append (filled s) (filled o ++ in_places five_letters m), length-append (filled o) (in_places five_letters m), filled-length s h, filled-length o i)
 
 module _ (out : List ℕ) where
-  abbrev sized : First ℕ
-  sized = cond (ltb (length out) 53) (by 12) none
+  abbrev sized : First Refusal
+  sized = cond (ltb (length out) 53) (by output_too_short) none
 
-  fits_first : (s o : List ℕ) (m : ℕ) → answered-by out (if_it_fits s o m) ≡ cond (over_record_label s || over_record_label o) (by 15) sized
+  fits_first : (s o : List ℕ) (m : ℕ) → answered-by out (if_it_fits s o m) ≡ cond (over_record_label s || over_record_label o) (by not_in_a_record) sized
   unfolding fits_a_record
   fits_first s o m = by_tests (leb (length s) 23) refl (leb (length o) 23) refl ∙ rw (not_leb (length s) 23, not_leb (length o) 23)
     where
@@ -322,7 +321,7 @@ module _ (out : List ℕ) where
           leb (length s) 23 ≡ p →
           (q : Bool) →
           leb (length o) 23 ≡ q →
-          answered-by out (cond (p && q) (output.text (record_of s o m)) (output.refused 15)) ≡ cond (not p || not q) (by 15) sized
+          answered-by out (cond (p && q) (output.text (record_of s o m)) (output.refused not_in_a_record)) ≡ cond (not p || not q) (by not_in_a_record) sized
       by_tests false e q f = refl
       by_tests true e false f = refl
       by_tests true e true f = text-first (record_of s o m) out ∙ rw (record_long s o m (leb-true (length s) 23 e) (leb-true (length o) 23 f))
@@ -330,29 +329,29 @@ module _ (out : List ℕ) where
   rule-first :
       (place : ℕ) (s o access : List ℕ) →
       answered-by out (of_rule if_it_fits (rule_by place s o access))
-      ≡ cond (bad_labels s o) (by 3)
-      (cond (bad_access_field line_letters true access) (by 4)
-      (cond (same_bytes s o) (by 5) (cond (over_record_label s || over_record_label o) (by 15) sized)))
+      ≡ cond (bad_labels s o) (by (bad_label_at place))
+      (cond (bad_access_field line_letters true access) (by bad_access)
+      (cond (same_bytes s o) (by same_labels) (cond (over_record_label s || over_record_label o) (by not_in_a_record) sized)))
   unfolding rule_by read_modes
   rule-first place s o access = by_tests (well_formed s) (well_formed o) (all (allowed_byte line_letters true) access)
     where
-      rest : First ℕ
-      rest = cond (over_record_label s || over_record_label o) (by 15) sized
+      rest : First Refusal
+      rest = cond (over_record_label s || over_record_label o) (by not_in_a_record) sized
 
-      by-same : (b : Bool) → answered-by out (of_rule if_it_fits (cond b (said.refused same_labels) (said.rule s o (stored_modes (modes_of access))))) ≡ cond b (by 5) rest
+      by-same : (b : Bool) → answered-by out (of_rule if_it_fits (cond b (said.refused same_labels) (said.rule s o (stored_modes (modes_of access))))) ≡ cond b (by same_labels) rest
       by-same true = refl
       by-same false = fits_first s o (stored_modes (modes_of access))
 
       by_tests :
           (a b c : Bool) →
-          answered-by out (of_rule if_it_fits (cond (a && b) (rule_with s o (cond c (Modes (modes_of access)) Bad)) (said.refused (bad_label_at place))))
-          ≡ cond (not a || not b) (by 3) (cond (not c) (by 4) (cond (same_bytes s o) (by 5) rest))
+          answered-by out (of_rule if_it_fits (cond (a && b) (rule_with s o (cond c (Some (modes_of access)) None)) (said.refused (bad_label_at place))))
+          ≡ cond (not a || not b) (by (bad_label_at place)) (cond (not c) (by bad_access) (cond (same_bytes s o) (by same_labels) rest))
       by_tests false b c = refl
       by_tests true false c = refl
       by_tests true true false = refl
       by_tests true true true = by-same (same_bytes s o)
 
-  fields-first : (place : ℕ) (fs : List (List ℕ)) → answered-by out (of_rule if_it_fits (rule_fields place fs)) ≡ first_fault (to_record_field_faults fs out)
+  fields-first : (place : ℕ) (fs : List (List ℕ)) → answered-by out (of_rule if_it_fits (rule_fields place fs)) ≡ first_fault (to_record_field_faults place fs out)
   fields-first place [] = refl
   fields-first place (s ∷ []) = refl
   fields-first place (s ∷ o ∷ []) = refl
@@ -366,9 +365,9 @@ module _ (out : List ℕ) where
       by_length :
           (b : Bool) →
           answered-by out (of_rule if_it_fits (cond b (said.refused too_long) (rule_fields (bad_byte_in (without_newline line)) (fields (without_newline line)))))
-          ≡ cond b (by 1) (first_fault (to_record_field_faults (fields (without_newline line)) out))
+          ≡ cond b (by too_long) (first_fault (to_record_field_faults (bad_byte_in (without_newline line)) (fields (without_newline line)) out))
       by_length true = refl
       by_length false = fields-first (bad_byte_in (without_newline line)) (fields (without_newline line))
 
-pub line_faults_lem : (line out : List ℕ) → Refuses (text_answer (record_from line) out) l.Refused (line_to_record_faults line out)
-line_faults_lem line out = of_output _ (line_to_record_faults line out) (line_first out line)
+pub line_faults_lem : (line out : List ℕ) → Refuses (text_answer (record_from line) out) Err (line_to_record_faults line out)
+line_faults_lem line out = of_result _ (line_to_record_faults line out) (line_first out line)

@@ -1,50 +1,38 @@
 -- Demand 1: bad input is refused by a number from the list. 01, The refusal numbers: of each call the faults that it can have, in 01's order, each as
 -- the test that 01's table says in words, by the fields of the text and the tables as they are; so of 02's calls in 02's order and words. A call
--- is refused by the first that holds, and by none exactly when none holds. Where an answer has a place beside its number (02, Three), a fault is
--- both. Assumes nothing.
-use Rattle.std.specs.Prelude.{ℕ, ◌+◌, ◌-◌, ◌≡◌, Bool, true, false, cond, not, ◌&&◌, ◌||◌, List, [], ◌∷◌, ◌↔◌, length, drop, get_or, eqb, ltb, leb}
+-- is refused by the first that holds, and by none exactly when none holds. A refusal is its number, and its place where it has one (02, Three). Assumes
+-- nothing.
+use Rattle.std.specs.Prelude.{ℕ, ◌+◌, ◌-◌, ◌≡◌, Bool, true, false, cond, not, ◌&&◌, ◌||◌, List, [], ◌∷◌, ◌↔◌, length, drop, get_or, eqb, ltb, leb, Option, Some, None, Result, Ok, Err}
 use Rattle.refusals.specs.Refusals as refusal
 use Rattle.refusals.specs.declared.Refusal.{Refusal}
 use Rattle.search.specs.Search.{all, those, entries}
 use Rattle.search.specs.Bytes.{ascii, same_bytes}
-use Rattle.search.specs.declared.Found.{Found}
-use Rattle.search.specs.declared.Found.TheVariants.{At, Nothing}
 use Rattle.alphabet.specs.Alphabet.{well_formed, bad_byte, bad_byte_of_two, fields, bad_byte_in, line_limit, dash, space}
 use Rattle.modes.specs.Modes.{allowed_byte, line_letters, change_letters, request_letters, modes_of, modes_text, any, one_of}
 use Rattle.numbers.specs.Numbers.{number_of}
 use Rattle.numbers.specs.Categories.{is_level, own_level, is_mapping_level, is_category, known_set}
 use Rattle.numbers.specs.declared.CategorySet.{CategorySet}
-use Rattle.numbers.specs.declared.Number.{Number}
-use Rattle.numbers.specs.declared.Number.TheVariants as number
+use Rattle.lookups.specs.declared.Cipso.{Cipso}
 use Rattle.set_bytes.specs.SetBytes.{set_of_bitmap, only_categories, own_bytes, set_of_own}
-use Rattle.store.specs.declared.Done.TheVariants as d
 use Rattle.store.specs.Table.{Table, label_in, mapping_in, rule_numbered, label_limit, rule_limit, mapping_limit, onlycap_limit}
 use Rattle.store.specs.Pairs.{modes_between}
 use Rattle.store.specs.Layout.{Store, table_of, full_sizes, undamaged_of}
 use Rattle.store.specs.Judged.{fresh_answer}
 use Rattle.load.specs.Loader.{Load, ready, piece_answer, end_answer}
-use Rattle.load.specs.declared.Fed.TheVariants as f
-use Rattle.load.specs.declared.Ended.TheVariants as e
 use Rattle.writes.specs.Writes.{line_outcome, change_answer}
 use Rattle.writes.specs.declared.Outcome.TheVariants as v
 use Rattle.revoke.specs.Revoke.{revoke_answer}
-use Rattle.revoke.specs.declared.Revoked.TheVariants as r
 use Rattle.onlycap.specs.Onlycap.{onlycap_answer}
 use Rattle.cipso.specs.Cipso.{mapping_longest, map_answer}
 use Rattle.lookups.specs.Lookups.{label_lookup, has_both, by_label_of, by_level_of}
-use Rattle.lookups.specs.declared.Lookup.{Lookup}
-use Rattle.lookups.specs.declared.Lookup.TheVariants as lookup
-use Rattle.lookups.specs.declared.Label.TheVariants as label
 use Rattle.cipso_option.specs.Option.{trimmed, option_of, own_longest, option_answer, not_read, peer_given}
 use Rattle.run.specs.declared.Record.{Record}
 use Rattle.run.specs.Run.{run_of}
 use Rattle.access.specs.Access.{is_found, answer, question_of}
 use Rattle.access.specs.declared.Answer.TheVariants as a
 use Rattle.new_object.specs.NewObject.{object_label_of}
-use Rattle.new_object.specs.declared.ObjectLabel.TheVariants as object-label
 use Rattle.listing.specs.Listing.{rule_text, list_answer, label_answer}
 use Rattle.output.specs.Output.{text_answer}
-use Rattle.output.specs.declared.Output.TheVariants as l
 use Rattle.rule_text.specs.RuleText.{text_of}
 use Rattle.fixed_load.specs.Records.{record_label, record_size, subject_place, object_place, access_bytes, place_label, line_from, without_newline, record_from}
 use Rattle.program.specs.Program.{answer_to}
@@ -53,7 +41,7 @@ use Rattle.grown.specs.Pairs.{new_labels, has_rule}
 -- ---- the first fault
 
 infix 70 ◌when◌
--- a refusal, or its number where the call's answer has no place, and the test for which it is given
+-- a refusal, and the test for which it is given
 pub record Fault (R : Type 0) : Type 0 where
   pub refusal : R
   pub holds : Bool
@@ -193,9 +181,9 @@ onlycap_faults st text =
 -- ---- mapping: 1 2 3 9 6 10
 
 -- a field is a number that passes a test
-abbrev pub number_passes : (ℕ → Bool) → Number → Bool
-number_passes test (number.Value n) = test n
-number_passes test number.Bad = false
+abbrev pub number_passes : (ℕ → Bool) → Option ℕ → Bool
+number_passes test (Some n) = test n
+number_passes test None = false
 
 -- a level of a mapping, as 01 and 02, Five, have it: not 250; and a category, as 02, Four, has it
 abbrev pub level_field : List ℕ → Bool
@@ -205,9 +193,9 @@ abbrev pub category_field : List ℕ → Bool
 category_field x = number_passes is_category (number_of x)
 
 -- whether a label, by its number, has a mapping; a label that is not in the table has none
-abbrev pub has_mapping : Table → Found → Bool
-has_mapping t (At n) = is_found (mapping_in t n)
-has_mapping t Nothing = false
+abbrev pub has_mapping : Table → Option ℕ → Bool
+has_mapping t (Some n) = is_found (mapping_in t n)
+has_mapping t None = false
 
 -- of its fields, label, level, then no or more categories, and the place
 abbrev pub mapping_field_faults : Table → ℕ → List (List ℕ) → List (Fault Refusal)
@@ -233,29 +221,29 @@ abbrev pub by_label_faults : Store → List ℕ → List (Fault Refusal)
 by_label_faults st x = refusal.damaged when not (undamaged_of st) ∷ refusal.bad_label_at (bad_byte x) when not (well_formed x) ∷ []
 
 -- in a run: the level is over 255, or the set has a bit that is no category. A run is no part of the state, and never gets 0
-abbrev pub in_run_faults : ℕ → CategorySet → List (Fault ℕ)
-in_run_faults level set = (refusal.bad_level_or_category).number when (not (is_level level) || not (known_set set)) ∷ []
+abbrev pub in_run_faults : ℕ → CategorySet → List (Fault Refusal)
+in_run_faults level set = refusal.bad_level_or_category when (not (is_level level) || not (known_set set)) ∷ []
 
 -- in the table
-abbrev pub by_level_faults : Store → ℕ → CategorySet → List (Fault ℕ)
-by_level_faults st level set = (refusal.damaged).number when not (undamaged_of st) ∷ in_run_faults level set
+abbrev pub by_level_faults : Store → ℕ → CategorySet → List (Fault Refusal)
+by_level_faults st level set = refusal.damaged when not (undamaged_of st) ∷ in_run_faults level set
 
 -- ---- packet option (02, Five): written 3 19 12; read 16 17 18, then 3 at level 250 and 21 at any other
 
 -- the option of a label: that of its mapping; its own bits at level 250 where it has none (one over 23 bytes has got 19 before). A label that is not well formed
 -- has no option
-abbrev pub option_for : List ℕ → Lookup → List ℕ
-option_for x (lookup.Mapped level set count) = option_of level set
-option_for x lookup.Unmapped = option_of own_level (set_of_own x)
-option_for x (lookup.Refused why) = []
+abbrev pub option_for : List ℕ → Result (Option Cipso) Refusal → List ℕ
+option_for x (Ok (Some m)) = option_of m.level m.set
+option_for x (Ok None) = option_of own_level (set_of_own x)
+option_for x (Err why) = []
 
 -- the label is not well formed; it is unmapped and has over 23 bytes; its option is longer than the lent output
-abbrev pub write_option_faults : Store → List ℕ → List ℕ → List (Fault ℕ)
+abbrev pub write_option_faults : Store → List ℕ → List ℕ → List (Fault Refusal)
 write_option_faults st x out =
-    (refusal.damaged).number when not (undamaged_of st)
-    ∷ (refusal.bad_label).number when not (well_formed x)
-    ∷ (refusal.not_in_an_option).number when (not (has_mapping (table_of st) (label_in (table_of st) x)) && ltb own_longest (length x))
-    ∷ (refusal.output_too_short).number when ltb (length out) (length (option_for x (label_lookup (table_of st) x)))
+    refusal.damaged when not (undamaged_of st)
+    ∷ refusal.bad_label_at (bad_byte x) when not (well_formed x)
+    ∷ refusal.not_in_an_option when (not (has_mapping (table_of st) (label_in (table_of st) x)) && ltb own_longest (length x))
+    ∷ refusal.output_too_short when ltb (length out) (length (option_for x (label_lookup (table_of st) x)))
     ∷ []
 
 -- byte k, from 0, is not b
@@ -293,14 +281,14 @@ abbrev pub some_label_has : Table → ℕ → CategorySet → Bool
 some_label_has t level set = any (has_both t level set) (entries (λ (n : ℕ). n) (length t.labels))
 
 -- another layout; another DOI; a bit of category 0 or above 184; at level 250 what is rebuilt is no label; at any other level no mapping matches
-abbrev pub read_option_faults : Store → List ℕ → List (Fault ℕ)
+abbrev pub read_option_faults : Store → List ℕ → List (Fault Refusal)
 read_option_faults st option =
-    (refusal.damaged).number when not (undamaged_of st)
-    ∷ (refusal.bad_option).number when other_layout option
-    ∷ (refusal.other_doi).number when doi_is_not_3 option
-    ∷ (refusal.bad_option_category).number when not (only_categories (option_bitmap option))
-    ∷ (refusal.bad_label).number when (eqb (option_level option) own_level && not (well_formed (rebuilt option)))
-    ∷ (refusal.no_such_mapping).number when (not (eqb (option_level option) own_level) && not (some_label_has (table_of st) (option_level option) (set_of_bitmap (option_bitmap option))))
+    refusal.damaged when not (undamaged_of st)
+    ∷ refusal.bad_option when other_layout option
+    ∷ refusal.other_doi when doi_is_not_3 option
+    ∷ refusal.bad_option_category when not (only_categories (option_bitmap option))
+    ∷ refusal.bad_label when (eqb (option_level option) own_level && not (well_formed (rebuilt option)))
+    ∷ refusal.no_such_mapping when (not (eqb (option_level option) own_level) && not (some_label_has (table_of st) (option_level option) (set_of_bitmap (option_bitmap option))))
     ∷ []
 
 -- ---- question: 3 8
@@ -328,21 +316,21 @@ question_line_faults line =
 
 -- ---- label of a new object (02, Seven): 3
 
--- the creator's label or the folder's is not well formed. (02 asks for no place here)
-abbrev pub new_object_faults : Store → List ℕ → List ℕ → List (Fault ℕ)
+-- the creator's label or the folder's is not well formed, with the first bad byte of the two. (A host is told no place)
+abbrev pub new_object_faults : Store → List ℕ → List ℕ → List (Fault Refusal)
 new_object_faults st creator folder =
-    (refusal.damaged).number when not (undamaged_of st)
-    ∷ (refusal.bad_label).number when bad_labels creator folder
+    refusal.damaged when not (undamaged_of st)
+    ∷ refusal.bad_label_at (bad_byte_of_two creator folder) when bad_labels creator folder
     ∷ []
 
 -- ---- listing: 13 12; label by number: 13
 
 -- no rule of that number; its text is longer than the lent output
-abbrev pub listing_faults : Store → ℕ → List ℕ → List (Fault ℕ)
+abbrev pub listing_faults : Store → ℕ → List ℕ → List (Fault Refusal)
 listing_faults st k out =
-    (refusal.damaged).number when not (undamaged_of st)
-    ∷ (refusal.no_such_number).number when leb (length (table_of st).rules) k
-    ∷ (refusal.output_too_short).number when ltb (length out) (length (rule_text (table_of st) (rule_numbered (table_of st) k)))
+    refusal.damaged when not (undamaged_of st)
+    ∷ refusal.no_such_number when leb (length (table_of st).rules) k
+    ∷ refusal.output_too_short when ltb (length out) (length (rule_text (table_of st) (rule_numbered (table_of st) k)))
     ∷ []
 
 -- no label of that number
@@ -391,33 +379,35 @@ abbrev pub record_object : List ℕ → List ℕ
 record_object r = place_label (object_place r)
 
 -- of the record: a length other than 53 or a bad label place; then its labels, its access bytes, and the line, which is written in the listing's form
-abbrev pub record_faults : List ℕ → List ℕ → List (Fault ℕ)
+abbrev pub record_faults : List ℕ → List ℕ → List (Fault Refusal)
 record_faults r out =
-    (refusal.bad_record).number when (not (eqb (length r) record_size) || (bad_label_place (subject_place r) || bad_label_place (object_place r)))
-    ∷ (refusal.bad_label).number when bad_labels (record_subject r) (record_object r)
-    ∷ (refusal.bad_access).number when bad_access_bytes (access_bytes r)
-    ∷ (refusal.same_labels).number when same_bytes (record_subject r) (record_object r)
-    ∷ (refusal.output_too_short).number when ltb (length out) (length (text_of (record_subject r) (record_object r) (modes_text (modes_of (access_bytes r)))))
+    refusal.bad_record when (not (eqb (length r) record_size) || (bad_label_place (subject_place r) || bad_label_place (object_place r)))
+    ∷ refusal.bad_label when bad_labels (record_subject r) (record_object r)
+    ∷ refusal.bad_access when bad_access_bytes (access_bytes r)
+    ∷ refusal.same_labels when same_bytes (record_subject r) (record_object r)
+    ∷ refusal.output_too_short when ltb (length out) (length (text_of (record_subject r) (record_object r) (modes_text (modes_of (access_bytes r)))))
     ∷ []
 
 -- a label over 23 bytes
 abbrev pub over_record_label : List ℕ → Bool
 over_record_label x = ltb record_label (length x)
 
--- of the fields of a line, subject, object, access, in which a b is dropped (02, Six)
-abbrev pub to_record_field_faults : List (List ℕ) → List ℕ → List (Fault ℕ)
-to_record_field_faults fs out =
-    (refusal.wrong_fields).number when not (eqb (length fs) 3)
-    ∷ (refusal.bad_label).number when bad_labels (field fs 0) (field fs 1)
-    ∷ (refusal.bad_access).number when bad_access_field line_letters true (field fs 2)
-    ∷ (refusal.same_labels).number when same_bytes (field fs 0) (field fs 1)
-    ∷ (refusal.not_in_a_record).number when (over_record_label (field fs 0) || over_record_label (field fs 1))
-    ∷ (refusal.output_too_short).number when ltb (length out) record_size
+-- of the fields of a line, subject, object, access, in which a b is dropped (02, Six), and the place of the first bad byte
+abbrev pub to_record_field_faults : ℕ → List (List ℕ) → List ℕ → List (Fault Refusal)
+to_record_field_faults place fs out =
+    refusal.wrong_fields when not (eqb (length fs) 3)
+    ∷ refusal.bad_label_at place when bad_labels (field fs 0) (field fs 1)
+    ∷ refusal.bad_access when bad_access_field line_letters true (field fs 2)
+    ∷ refusal.same_labels when same_bytes (field fs 0) (field fs 1)
+    ∷ refusal.not_in_a_record when (over_record_label (field fs 0) || over_record_label (field fs 1))
+    ∷ refusal.output_too_short when ltb (length out) record_size
     ∷ []
 
 -- of the line, which is read with or without one closing newline
-abbrev pub line_to_record_faults : List ℕ → List ℕ → List (Fault ℕ)
-line_to_record_faults line out = (refusal.too_long).number when is_too_long (without_newline line) ∷ to_record_field_faults (fields (without_newline line)) out
+abbrev pub line_to_record_faults : List ℕ → List ℕ → List (Fault Refusal)
+line_to_record_faults line out =
+    refusal.too_long when is_too_long (without_newline line)
+    ∷ to_record_field_faults (bad_byte_in (without_newline line)) (fields (without_newline line)) out
 
 -- ---- a fresh table, a piece, the end call: 0 alone
 
@@ -426,26 +416,26 @@ abbrev pub fresh_faults : Store → List (Fault Refusal)
 fresh_faults st = refusal.damaged when not (full_sizes st) ∷ []
 
 -- the tables or the loader are damaged
-abbrev pub loader_faults : Load → List (Fault ℕ)
-loader_faults s = (refusal.damaged).number when not (ready s) ∷ []
+abbrev pub loader_faults : Load → List (Fault Refusal)
+loader_faults s = refusal.damaged when not (ready s) ∷ []
 
 -- ---- of every call. A line of rule text is judged in a state that was tested, and its number and place stand in the report
 
 pub record FirstInOrder : Type 0 where
-  pub fresh_table : (st : Store) → Refuses (fresh_answer st) d.Refused (fresh_faults st)
-  pub piece : (s : Load) (text : List ℕ) → Refuses (piece_answer s text) f.Refused (loader_faults s)
-  pub end_call : (s : Load) → Refuses (end_answer s) e.Refused (loader_faults s)
-  pub line : (st : Store) (text : List ℕ) → undamaged_of st ≡ true → Refuses (line_outcome st text) v.Refused (line_faults (table_of st) text)
+  pub fresh_table : (st : Store) → Refuses (fresh_answer st) Err (fresh_faults st)
+  pub piece : (s : Load) (text : List ℕ) → Refuses (piece_answer s text) Err (loader_faults s)
+  pub end_call : (s : Load) → Refuses (end_answer s) Err (loader_faults s)
+  pub line : (st : Store) (text : List ℕ) → undamaged_of st ≡ true → Refuses (line_outcome st text) Err (line_faults (table_of st) text)
   -- (a line is skipped exactly where it is not too long and has no field)
-  pub skipped_line : (st : Store) (text : List ℕ) → (line_outcome st text ≡ v.Skipped) ↔ ((is_too_long text ≡ false) × (fields text ≡ []))
-  pub change : (st : Store) (text : List ℕ) → Refuses (change_answer st text) d.Refused (change_faults st text)
-  pub revoke : (st : Store) (text : List ℕ) → Refuses (revoke_answer st text) r.Refused (revoke_faults st text)
-  pub onlycap : (st : Store) (text : List ℕ) → Refuses (onlycap_answer st text) d.Refused (onlycap_faults st text)
-  pub mapping : (st : Store) (text : List ℕ) → Refuses (map_answer st text) d.Refused (mapping_faults st text)
-  pub mapping_by_label : (st : Store) (x : List ℕ) → Refuses (by_label_of st x) lookup.Refused (by_label_faults st x)
-  pub by_level_and_set : (st : Store) (level : ℕ) (set : CategorySet) → Refuses (by_level_of st level set) label.Refused (by_level_faults st level set)
-  pub in_a_run : (run : List Record) (level : ℕ) (set : CategorySet) → Refuses (run_of run level set) label.Refused (in_run_faults level set)
-  pub write_option : (st : Store) (x out : List ℕ) → Refuses (option_answer st x out) l.Refused (write_option_faults st x out)
+  pub skipped_line : (st : Store) (text : List ℕ) → (line_outcome st text ≡ Ok v.Skipped) ↔ ((is_too_long text ≡ false) × (fields text ≡ []))
+  pub change : (st : Store) (text : List ℕ) → Refuses (change_answer st text) Err (change_faults st text)
+  pub revoke : (st : Store) (text : List ℕ) → Refuses (revoke_answer st text) Err (revoke_faults st text)
+  pub onlycap : (st : Store) (text : List ℕ) → Refuses (onlycap_answer st text) Err (onlycap_faults st text)
+  pub mapping : (st : Store) (text : List ℕ) → Refuses (map_answer st text) Err (mapping_faults st text)
+  pub mapping_by_label : (st : Store) (x : List ℕ) → Refuses (by_label_of st x) Err (by_label_faults st x)
+  pub by_level_and_set : (st : Store) (level : ℕ) (set : CategorySet) → Refuses (by_level_of st level set) Err (by_level_faults st level set)
+  pub in_a_run : (run : List Record) (level : ℕ) (set : CategorySet) → Refuses (run_of run level set) Err (in_run_faults level set)
+  pub write_option : (st : Store) (x out : List ℕ) → Refuses (option_answer st x out) Err (write_option_faults st x out)
   -- (where byte 9 is a byte: at most 255)
   pub read_option : (st : Store) (option : List ℕ) → is_level (option_level option) ≡ true → Refuses (peer_given st option) not_read (read_option_faults st option)
   pub question :
@@ -453,9 +443,9 @@ pub record FirstInOrder : Type 0 where
       Refuses (question_of st s o request capable) a.Refused (question_faults st s o request)
   pub new_object :
       (st : Store) (creator folder : List ℕ) (folder_transmutes is_folder : Bool) →
-      Refuses (object_label_of st creator folder folder_transmutes is_folder) object-label.Refused (new_object_faults st creator folder)
+      Refuses (object_label_of st creator folder folder_transmutes is_folder) Err (new_object_faults st creator folder)
   pub question_line : (t : Table) (line : List ℕ) → Refuses (answer_to (answer t) line) a.Refused (question_line_faults line)
-  pub listing : (st : Store) (k : ℕ) (out : List ℕ) → Refuses (list_answer st k out) l.Refused (listing_faults st k out)
-  pub label_by_number : (st : Store) (k : ℕ) → Refuses (label_answer st k) d.Refused (label_by_number_faults st k)
-  pub record_to_line : (r out : List ℕ) → Refuses (text_answer (line_from r) out) l.Refused (record_faults r out)
-  pub line_to_record : (line out : List ℕ) → Refuses (text_answer (record_from line) out) l.Refused (line_to_record_faults line out)
+  pub listing : (st : Store) (k : ℕ) (out : List ℕ) → Refuses (list_answer st k out) Err (listing_faults st k out)
+  pub label_by_number : (st : Store) (k : ℕ) → Refuses (label_answer st k) Err (label_by_number_faults st k)
+  pub record_to_line : (r out : List ℕ) → Refuses (text_answer (line_from r) out) Err (record_faults r out)
+  pub line_to_record : (line out : List ℕ) → Refuses (text_answer (record_from line) out) Err (line_to_record_faults line out)

@@ -12,18 +12,17 @@ use lib.Seq.{take_at, drop_at, drop-drop, get_or_at, take-add}
 use Rattle.search.specs.Search.{all, entries}
 use Rattle.search.specs.Bytes.{same_bytes}
 use Rattle.search.proofs.Laws.{no, and_both, same_refl, same-equal, or_is, eqb_is}
-use Rattle.refusals.specs.Refusals.{bad_label, same_labels, bad_record}
+use Rattle.refusals.specs.Refusals.{bad_label, same_labels, bad_record, not_in_a_record}
 use Rattle.alphabet.specs.Alphabet.{space, newline, dash, is_newline, is_blank, label_byte, well_formed, fields}
 use Rattle.alphabet.proofs.Laws.{formed-is}
 use Rattle.text_lines.specs.TextLines.{lines_from}
 use Rattle.modes.specs.Modes.{letters, bring_up, bit_among, bit_of, allowed_byte, modes_of, read_modes, has, modes_text, known_modes, stored_modes, Is}
 use Rattle.modes.specs.declared.Letter.{Letter}
-use Rattle.modes.specs.declared.Access.TheVariants.{Modes, Bad}
+use Rattle.std.proofs.Common.{Some, None, Ok}
 use Rattle.modes.proofs.Laws.{below, known_is, known-stored, text-long}
 use Rattle.lines.specs.Lines as said
 use Rattle.lines.specs.Lines.{Said, rule, rule_by, rule_with, rule_of}
 use Rattle.lines.proofs.Laws.{Taken, Sound, rule-sound}
-use Rattle.output.specs.declared.Output.TheVariants as output
 use Rattle.output.specs.Output.{Text, text, refused, text_answer, text_out}
 use Rattle.output.proofs.Laws.{length-answered}
 use Rattle.rule_text.specs.RuleText.{line_of, text_of}
@@ -200,7 +199,7 @@ made_of s o a t = by-test (well_formed s) refl (well_formed o) refl (in_own_plac
         well_formed o ≡ y →
         (z : Bool) →
         in_own_places five_letters a ≡ z →
-        as_line (cond (x && y) (rule_with s o (cond z (Modes (modes_of a)) Bad)) (said.refused bad_label)) ≡ text t →
+        as_line (cond (x && y) (rule_with s o (cond z (Some (modes_of a)) None)) (said.refused bad_label)) ≡ text t →
         Made s o a t
     by-test true p true q true i e = by-same (same_bytes s o) refl e
       where
@@ -366,7 +365,7 @@ fitted (said.refused n) t h e = let z : ◌≡◌ {A = ℕ} 0 1 = cc in absurd (
 fitted (said.change s o a d) t h e = let z : ◌≡◌ {A = ℕ} 0 1 = cc in absurd (omega arith)
 fitted (said.rule s o m) t h e = by-test (fits_a_record s o) refl e
   where
-    by-test : (b : Bool) → fits_a_record s o ≡ b → cond b (text (record_of s o m)) (refused 15) ≡ text t → Fitted (rule s o m) t
+    by-test : (b : Bool) → fits_a_record s o ≡ b → cond b (text (record_of s o m)) (refused not_in_a_record) ≡ text t → Fitted (rule s o m) t
     by-test true q e = let z : record_of s o m ≡ t = cc in rw (← z) record { long = record_long s o m h.0 h.1 q; says = says_again s o m h.0 h.1 q }
     by-test false q e = let z : ◌≡◌ {A = ℕ} 0 1 = cc in absurd (omega arith)
 
@@ -393,7 +392,7 @@ record_form : (l t : List ℕ) → record_from l ≡ text t → InForm record_of
 unfolding record_from
 record_form l t e = in_form if_it_fits record_of (rule_of (without_newline l)) t (λ s o m q. by-test s o m (fits_a_record s o) q) e
   where
-    by-test : (s o : List ℕ) (m : ℕ) (b : Bool) → cond b (text (record_of s o m)) (refused 15) ≡ text t → text t ≡ text (record_of s o m)
+    by-test : (s o : List ℕ) (m : ℕ) (b : Bool) → cond b (text (record_of s o m)) (refused not_in_a_record) ≡ text t → text t ≡ text (record_of s o m)
     by-test s o m true q = sym q
     by-test s o m false q = let z : ◌≡◌ {A = ℕ} 0 1 = cc in absurd (omega arith)
 
@@ -405,13 +404,13 @@ line_and_back l t e =
 
 -- ---- the same by calls
 
-back_by_calls : (r out back : List ℕ) (n : ℕ) → text_answer (line_from r) out ≡ output.Length n → record_size ≤ length back → BackByCalls r out back n
+back_by_calls : (r out back : List ℕ) (n : ℕ) → text_answer (line_from r) out ≡ Ok n → record_size ≤ length back → BackByCalls r out back n
 back_by_calls r out back n e h =
     let w = length-answered.written (line_from r) out n e in
     let front : take n (text_out (line_from r) out) ≡ w.bytes = ap (take n) w.front ∙ take_at w.bytes (drop n out) n w.long in
     let made : record_from (take n (text_out (line_from r) out)) ≡ text (lowered r) = ap record_from front ∙ record_and_back r w.bytes w.is in
     let long : length (lowered r) ≡ record_size = (line_fitted w.bytes (lowered r) (record_and_back r w.bytes w.is)).long in
-    let answered : text_answer (text (lowered r)) back ≡ output.Length record_size = length-answered.enough (lowered r) back (omega arith) ∙ ap output.Length long in
+    let answered : text_answer (text (lowered r)) back ≡ Ok record_size = length-answered.enough (lowered r) back (omega arith) ∙ ap Ok long in
     let v = length-answered.written (text (lowered r)) back record_size answered in
     let same : v.bytes ≡ lowered r = cc in
     (ap (λ (x : Text). text_answer x back) made ∙ answered, ap (λ (x : Text). text_out x back) made ∙ v.front ∙ ap (λ (x : List ℕ). x ++ drop record_size back) same)

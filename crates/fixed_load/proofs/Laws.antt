@@ -14,21 +14,16 @@ use lib.ListN.{length, take, drop, get_or, length-append, length-drop, take-appe
 use lib.Seq.{length-take-le, get_or-append-add, get_or-drop, drop-cons, take-length, take-take, take_at, drop-append-le, drop-append-add, paste, paste-zero, paste-suc, length-paste}
 use Rattle.search.specs.Search.{all, entries}
 use Rattle.search.specs.Bytes.{same_bytes, written}
-use Rattle.search.specs.declared.Found.TheVariants.{At, Nothing}
+use Rattle.std.proofs.Common.{Some, None, Option}
 use Rattle.search.proofs.Laws.{no, and_both, same_refl, same-equal, all-at, written_one, not_so}
-use Rattle.refusals.specs.Refusals.{bad_label, bad_access, same_labels}
-use Rattle.alphabet.specs.Alphabet.{space, dash, fault_of}
+use Rattle.refusals.specs.Refusals.{bad_label, bad_access, same_labels, bad_record, not_in_a_record}
+use Rattle.alphabet.specs.Alphabet.{space, dash, well_formed}
 use Rattle.modes.specs.Modes.{bit_of, allowed_byte, modes_of, read_modes, has, modes_text, known_modes}
 use Rattle.modes.specs.declared.Letter.{Letter}
-use Rattle.modes.specs.declared.Access.{Access}
-use Rattle.modes.specs.declared.Access.TheVariants.{Modes, Bad}
 use Rattle.modes.proofs.Laws.{no_letter, below, joined, known_is, known_or, known-stored, byte-known}
 use Rattle.fixed_load.specs.Records.{record_label, label_place, spaces, filled, place_label, is_place, five_letters, in_own_places, record_access, without_newline, in_places, record_size, record_of, fits_a_record, if_it_fits, subject_place, object_place, access_bytes, is_record, said_by, record_says, of_rule, as_line, line_from, record_from}
-use Rattle.alphabet.proofs.Laws.{fault-formed, fault_unformed}
 use Rattle.lines.specs.Lines as said
 use Rattle.lines.specs.Lines.{Said, rule_of}
-use Rattle.lines.specs.Within.{rule_said}
-use Rattle.lines.specs.declared.RuleLine.{RuleLine}
 use Rattle.output.specs.Output.{Text, text, refused, text_answer, text_out}
 use Rattle.fixed_load.specs.Within.{placed}
 
@@ -126,7 +121,7 @@ module _ (p : List ℕ) where
 
   module _ (long : length p ≡ label_place) where
     -- what holds of a place that isn't one can't be
-    no_place : (Place p → ⊥) → Nothing ≡ placed p
+    no_place : (Place p → ⊥) → None ≡ placed p
     no_place f = rw (not_so (is_place p) (λ e. f (place_is p e)))
 
     module _ (n i : ℕ) (so_far : Scanned p n i) where
@@ -137,7 +132,7 @@ module _ (p : List ℕ) where
       counts f h = ap length (counted f h) ∙ length-take-le n p (omega arith)
 
       -- another byte after a space
-      pub later-byte : i < label_place → (get_or p i 0 ≡ space → ⊥) → (n ≡ i → ⊥) → Nothing ≡ placed p
+      pub later-byte : i < label_place → (get_or p i 0 ≡ space → ⊥) → (n ≡ i → ⊥) → None ≡ placed p
       later-byte h f g =
           no_place (λ q.
           let c = counts (λ x. omega (arith, so_far.few, g)) (omega (arith, so_far.few)) in
@@ -145,15 +140,15 @@ module _ (p : List ℕ) where
 
       module _ (all_read : label_place ≤ i) where
         -- all spaces
-        pub only-spaces : n ≡ 0 → Nothing ≡ placed p
+        pub only-spaces : n ≡ 0 → None ≡ placed p
         only-spaces e = no_place (λ q. let c = counts (λ x. omega arith) (omega arith) in absurd (omega (arith, q.some)))
 
         -- no space at the end
-        pub too_many : n ≤ label_place → record_label < n → Nothing ≡ placed p
+        pub too_many : n ≤ label_place → record_label < n → None ≡ placed p
         too_many m h = no_place (λ q. let c = counts (λ x. omega arith) m in absurd (omega (arith, q.short)))
 
         -- a label
-        pub label-found : (n ≡ 0 → ⊥) → n ≤ record_label → At n ≡ placed p
+        pub label-found : (n ≡ 0 → ⊥) → n ≤ record_label → Some n ≡ placed p
         unfolding is_place filled
         label-found f h =
             let c = counts (λ x. omega arith) (omega arith) in
@@ -208,49 +203,49 @@ pub one_byte : (l : List ℕ) (i : ℕ) → i < length l → take (i + 1 - i) (d
 one_byte l i h = let e : i + 1 - i ≡ 1 = omega arith in rw (e, drop-cons l i 0 h)
 
 -- one byte, read where only one letter is allowed
-one-read : (bit b : ℕ) → read_modes bit true (b ∷ []) ≡ cond (allowed_byte bit true b) (Modes (bit_of b)) Bad
+one-read : (bit b : ℕ) → read_modes bit true (b ∷ []) ≡ cond (allowed_byte bit true b) (Some (bit_of b)) None
 unfolding read_modes all modes_of
 one-read bit b = rw (and-true (allowed_byte bit true b), or_zero_l (bit_of b))
 
-unfoldable pub own_from : ℕ → List Letter → List ℕ → Access
-own_from m ls bs = cond (in_own_places ls bs) (Modes (foldl joined m bs)) Bad
+unfoldable pub own_from : ℕ → List Letter → List ℕ → Option ℕ
+own_from m ls bs = cond (in_own_places ls bs) (Some (foldl joined m bs)) None
 
 pub own-all : (access : List ℕ) → record_access access ≡ own_from 0 (drop 0 five_letters) (drop 0 access)
 unfolding own_from modes_of
 own-all access = refl
 
 module _ (access : List ℕ) (long : length access ≡ 5) where
-  pub own-end : (m : ℕ) (i : ℕ) → 5 ≤ i → own_from m (drop i five_letters) (drop i access) ≡ Modes m
+  pub own-end : (m : ℕ) (i : ℕ) → 5 ≤ i → own_from m (drop i five_letters) (drop i access) ≡ Some m
   unfolding own_from in_own_places
   own-end m i h = rw (drop_of_length-le access {i = i} (omega arith))
 
   module _ (m i : ℕ) (h : i < 5) where
-    own-test : own_from m (drop i five_letters) (drop i access) ≡ cond (allowed_byte (place_bit i) true (get_or access i 0)) (own_from (joined m (get_or access i 0)) (drop (i + 1) five_letters) (drop (i + 1) access)) Bad
+    own-test : own_from m (drop i five_letters) (drop i access) ≡ cond (allowed_byte (place_bit i) true (get_or access i 0)) (own_from (joined m (get_or access i 0)) (drop (i + 1) five_letters) (drop (i + 1) access)) None
     unfolding own_from in_own_places
     own-test =
         rw (add-one i, drop-cons access i 0 (omega arith), drop-cons five_letters i no_letter h, five_bit i h)
-        (by-test (allowed_byte (place_bit i) true (get_or access i 0)) (in_own_places (drop (suc i) five_letters) (drop (suc i) access)) (Modes (foldl joined (joined m (get_or access i 0)) (drop (suc i) access))))
+        (by-test (allowed_byte (place_bit i) true (get_or access i 0)) (in_own_places (drop (suc i) five_letters) (drop (suc i) access)) (Some (foldl joined (joined m (get_or access i 0)) (drop (suc i) access))))
       where
-        by-test : (s t : Bool) (x : Access) → cond (s && t) x Bad ≡ cond s (cond t x Bad) Bad
+        by-test : (s t : Bool) (x : Option ℕ) → cond (s && t) x None ≡ cond s (cond t x None) None
         by-test true t x = refl
         by-test false t x = refl
 
     module _ (bit : ℕ) (its : bit ≡ place_bit i) where
-      pub own-stop : read_modes bit true (get_or access i 0 ∷ []) ≡ Bad → own_from m (drop i five_letters) (drop i access) ≡ Bad
+      pub own-stop : read_modes bit true (get_or access i 0 ∷ []) ≡ None → own_from m (drop i five_letters) (drop i access) ≡ None
       own-stop e =
           own-test ∙ by-test (allowed_byte (place_bit i) true (get_or access i 0)) (rw its at (sym (one-read bit (get_or access i 0)) ∙ e))
         where
-          by-test : (s : Bool) → cond s (Modes (bit_of (get_or access i 0))) Bad ≡ Bad → cond s (own_from (joined m (get_or access i 0)) (drop (i + 1) five_letters) (drop (i + 1) access)) Bad ≡ Bad
+          by-test : (s : Bool) → cond s (Some (bit_of (get_or access i 0))) None ≡ None → cond s (own_from (joined m (get_or access i 0)) (drop (i + 1) five_letters) (drop (i + 1) access)) None ≡ None
           by-test true q = let z : ◌≡◌ {A = ℕ} 0 1 = cc in absurd (omega arith)
           by-test false q = refl
 
-      pub own-more : (x : ℕ) → read_modes bit true (get_or access i 0 ∷ []) ≡ Modes x → own_from m (drop i five_letters) (drop i access) ≡ own_from (bit_or m x) (drop (i + 1) five_letters) (drop (i + 1) access)
+      pub own-more : (x : ℕ) → read_modes bit true (get_or access i 0 ∷ []) ≡ Some x → own_from m (drop i five_letters) (drop i access) ≡ own_from (bit_or m x) (drop (i + 1) five_letters) (drop (i + 1) access)
       own-more x e =
           own-test ∙ by-test (allowed_byte (place_bit i) true (get_or access i 0)) (rw its at (sym (one-read bit (get_or access i 0)) ∙ e))
         where
           by-test :
-              (s : Bool) → cond s (Modes (bit_of (get_or access i 0))) Bad ≡ Modes x →
-              cond s (own_from (joined m (get_or access i 0)) (drop (i + 1) five_letters) (drop (i + 1) access)) Bad ≡ own_from (bit_or m x) (drop (i + 1) five_letters) (drop (i + 1) access)
+              (s : Bool) → cond s (Some (bit_of (get_or access i 0))) None ≡ Some x →
+              cond s (own_from (joined m (get_or access i 0)) (drop (i + 1) five_letters) (drop (i + 1) access)) None ≡ own_from (bit_or m x) (drop (i + 1) five_letters) (drop (i + 1) access)
           by-test true q = let z : bit_of (get_or access i 0) ≡ x = cc in rw (← z)
           by-test false q = let z : ◌≡◌ {A = ℕ} 0 1 = cc in absurd (omega arith)
 
@@ -306,11 +301,11 @@ module _ (out₀ : List ℕ) (at m : ℕ) where
 -- ---- a rule put into a record
 
 module _ (s o : List ℕ) (m : ℕ) where
-  pub long-subject : record_label < length s → if_it_fits s o m ≡ refused 15
+  pub long-subject : record_label < length s → if_it_fits s o m ≡ refused not_in_a_record
   unfolding fits_a_record
   long-subject h = rw (lt-leb (length s) record_label h)
 
-  pub long-object : length s ≤ record_label → record_label < length o → if_it_fits s o m ≡ refused 15
+  pub long-object : length s ≤ record_label → record_label < length o → if_it_fits s o m ≡ refused not_in_a_record
   unfolding fits_a_record
   long-object h i = rw (le-leb (length s) record_label h, lt-leb (length o) record_label i)
 
@@ -378,10 +373,6 @@ module _ (line text : List ℕ) (taken-off : text ≡ without_newline line) wher
   unfolding record_from
   from-line x e = ap (λ (l : List ℕ). of_rule if_it_fits (rule_of l)) (sym taken-off) ∙ ap (of_rule if_it_fits) e
 
-  -- of the answer r of the reader of lines
-  pub from-answer : (r x : RuleLine) → rule_said text r ≡ rule_of text → r ≡ x → record_from line ≡ of_rule if_it_fits (rule_said text x)
-  from-answer r x e q = from-line (rule_said text x) (sym e ∙ ap (rule_said text) q)
-
 -- a text of an answer, and of the output afterwards
 pub as_answered : (x y : Text) (out : List ℕ) → x ≡ y → (text_answer y out ≡ text_answer x out) × (text_out y out ≡ text_out x out)
 as_answered x y out e = (ap (λ (t : Text). text_answer t out) (sym e), ap (λ (t : Text). text_out t out) (sym e))
@@ -404,58 +395,58 @@ pub own-modes : (a : List ℕ) → in_own_places five_letters a ≡ true → kno
 unfolding modes_of known_modes all
 own-modes a own = own-known five_letters a 0 refl own refl
 
-own-access : (a : List ℕ) (m : ℕ) → record_access a ≡ Modes m → known_modes m ≡ true
+own-access : (a : List ℕ) (m : ℕ) → record_access a ≡ Some m → known_modes m ≡ true
 own-access a m e = by-test (in_own_places five_letters a) refl e
   where
-    by-test : (t : Bool) → in_own_places five_letters a ≡ t → cond t (Modes (modes_of a)) Bad ≡ Modes m → known_modes m ≡ true
+    by-test : (t : Bool) → in_own_places five_letters a ≡ t → cond t (Some (modes_of a)) None ≡ Some m → known_modes m ≡ true
     by-test true own q = let z : modes_of a ≡ m = cc in subst (λ (x : ℕ). known_modes x ≡ true) z (own-modes a own)
     by-test false own q = let z : ◌≡◌ {A = ℕ} 0 1 = cc in absurd (omega arith)
 
 -- ---- what two labels and the access bytes say
 
 module _ (s o access : List ℕ) where
-  pub bad_subject : (k : ℕ) → fault_of s ≡ At k → said_by s o access ≡ said.refused bad_label
-  bad_subject k e = rw (fault_unformed s k e)
+  pub bad_subject : well_formed s ≡ false → said_by s o access ≡ said.refused bad_label
+  bad_subject e = rw e
 
-  module _ (f : fault_of s ≡ Nothing) where
-    pub bad-object : (k : ℕ) → fault_of o ≡ At k → said_by s o access ≡ said.refused bad_label
-    bad-object k e = rw (fault-formed s f, fault_unformed o k e)
+  module _ (f : well_formed s ≡ true) where
+    pub bad-object : well_formed o ≡ false → said_by s o access ≡ said.refused bad_label
+    bad-object e = rw (f, e)
 
-    module _ (g : fault_of o ≡ Nothing) where
-      pub bad-access : record_access access ≡ Bad → said_by s o access ≡ said.refused bad_access
-      bad-access e = rw (fault-formed s f, fault-formed o g, e)
+    module _ (g : well_formed o ≡ true) where
+      pub bad-access : record_access access ≡ None → said_by s o access ≡ said.refused bad_access
+      bad-access e = rw (f, g, e)
 
-      pub by-labels : (m : ℕ) → record_access access ≡ Modes m → (t : Bool) → same_bytes s o ≡ t → said_by s o access ≡ cond t (said.refused same_labels) (said.rule s o m)
-      by-labels m e t q = rw (fault-formed s f, fault-formed o g, e, q, known-stored m (own-access access m e))
+      pub by-labels : (m : ℕ) → record_access access ≡ Some m → (t : Bool) → same_bytes s o ≡ t → said_by s o access ≡ cond t (said.refused same_labels) (said.rule s o m)
+      by-labels m e t q = rw (f, g, e, q, known-stored m (own-access access m e))
 
 -- ---- what a record says
 
 module _ (r : List ℕ) where
-  pub wrong_size : (length r ≡ record_size → ⊥) → line_from r ≡ refused 14
+  pub wrong_size : (length r ≡ record_size → ⊥) → line_from r ≡ refused bad_record
   unfolding line_from record_says is_record
   wrong_size f = rw (ne_eqb (length r) record_size f)
 
-  unplaced : (p : List ℕ) → placed p ≡ Nothing → is_place p ≡ false
+  unplaced : (p : List ℕ) → placed p ≡ None → is_place p ≡ false
   unplaced p = by-test (is_place p)
     where
-      by-test : (t : Bool) → cond t (At (length (place_label p))) Nothing ≡ Nothing → t ≡ false
+      by-test : (t : Bool) → cond t (Some (length (place_label p))) None ≡ None → t ≡ false
       by-test true q = let z : ◌≡◌ {A = ℕ} 0 1 = cc in absurd (omega arith)
       by-test false q = refl
 
-  is-placed : (p : List ℕ) (n : ℕ) → placed p ≡ At n → (is_place p ≡ true) × (length (place_label p) ≡ n)
+  is-placed : (p : List ℕ) (n : ℕ) → placed p ≡ Some n → (is_place p ≡ true) × (length (place_label p) ≡ n)
   is-placed p n = by-test (is_place p)
     where
-      by-test : (t : Bool) → cond t (At (length (place_label p))) Nothing ≡ At n → (t ≡ true) × (length (place_label p) ≡ n)
+      by-test : (t : Bool) → cond t (Some (length (place_label p))) None ≡ Some n → (t ≡ true) × (length (place_label p) ≡ n)
       by-test true q = (refl, (cc))
       by-test false q = let z : ◌≡◌ {A = ℕ} 0 1 = cc in absurd (omega arith)
 
   module _ (size : length r ≡ record_size) where
-    pub no_subject : placed (subject_place r) ≡ Nothing → line_from r ≡ refused 14
+    pub no_subject : placed (subject_place r) ≡ None → line_from r ≡ refused bad_record
     unfolding line_from record_says is_record
     no_subject e = rw (eq-eqb (length r) record_size size, unplaced (subject_place r) e)
 
-    module _ (n : ℕ) (at_n : placed (subject_place r) ≡ At n) where
-      pub no_object : placed (object_place r) ≡ Nothing → line_from r ≡ refused 14
+    module _ (n : ℕ) (at_n : placed (subject_place r) ≡ Some n) where
+      pub no_object : placed (object_place r) ≡ None → line_from r ≡ refused bad_record
       unfolding line_from record_says is_record
       no_object e = rw (eq-eqb (length r) record_size size, (is-placed (subject_place r) n at_n).0, unplaced (object_place r) e)
 
@@ -465,7 +456,7 @@ module _ (r : List ℕ) where
           let q = (place_is (subject_place r) h.0).short in
           omega (arith, h.1)
 
-      module _ (k : ℕ) (at-k : placed (object_place r) ≡ At k) where
+      module _ (k : ℕ) (at-k : placed (object_place r) ≡ Some k) where
         pub object-short : k ≤ record_label
         object-short =
             let h = is-placed (object_place r) k at-k in

@@ -1,16 +1,13 @@
 -- 02, One: old fixed records. A rule as a record of 53 bytes, the source's fixed load form, turned into a rule line and back. Assumes nothing.
-use Rattle.std.specs.Prelude.{ℕ, zero, suc, ◌+◌, ◌-◌, ◌≤◌, ◌≡◌, Bool, true, false, cond, ◌&&◌, List, [], ◌∷◌, ◌++◌, map, length, take, drop, get_or, eqb, leb}
-use Rattle.refusals.specs.Refusals.{wrong_fields, bad_label, bad_record, not_in_a_record}
+use Rattle.std.specs.Prelude.{ℕ, zero, suc, ◌+◌, ◌-◌, ◌≤◌, ◌≡◌, Bool, true, false, cond, ◌&&◌, List, [], ◌∷◌, ◌++◌, map, length, take, drop, get_or, eqb, leb, Option, Some, None, Ok}
+use Rattle.refusals.specs.Refusals.{too_long, wrong_fields, bad_label, bad_access, bad_record, not_in_a_record}
 use Rattle.search.specs.Bytes.{ascii, same_bytes}
 use Rattle.alphabet.specs.Alphabet.{space, newline, dash, is_newline, well_formed}
 use Rattle.text_lines.specs.TextLines.{lines}
 use Rattle.modes.specs.Modes.{letters, allowed_byte, modes_of, has, modes_text}
 use Rattle.modes.specs.declared.Letter.{Letter}
-use Rattle.modes.specs.declared.Access.{Access}
-use Rattle.modes.specs.declared.Access.TheVariants.{Modes, Bad}
 use Rattle.lines.specs.Lines as said
 use Rattle.lines.specs.Lines.{Said, rule_with, rule_of}
-use Rattle.output.specs.declared.Output.TheVariants as output
 use Rattle.output.specs.Output.{Text, text, refused, text_answer, text_out}
 use Rattle.rule_text.specs.RuleText.{text_of}
 
@@ -67,8 +64,8 @@ in_own_places ls [] = true
 in_own_places [] (b ∷ bs) = false
 in_own_places (l ∷ ls) (b ∷ bs) = allowed_byte l.bit true b && in_own_places ls bs
 
-abbrev pub record_access : List ℕ → Access
-record_access access = cond (in_own_places five_letters access) (Modes (modes_of access)) Bad
+abbrev pub record_access : List ℕ → Option ℕ
+record_access access = cond (in_own_places five_letters access) (Some (modes_of access)) None
 
 -- ---- what a record says: it is no record (14); then, in the order of a line, a label is not well formed (3), an access byte is not allowed (4), subject equals
 -- object (5); or a rule
@@ -86,13 +83,13 @@ record_says r = cond (is_record r) (said_by (place_label (subject_place r)) (pla
 
 -- ---- a record to a line, in the listing's form
 
--- a text made of a rule that is said, or the refusal's number (02, Three, asks for no place here). A line without a field, which is skipped where rule text is
+-- a text made of a rule that is said, or the refusal. A line without a field, which is skipped where rule text is
 -- loaded, has the wrong number of fields here; neither a record nor a line of rule text says a change
 abbrev pub of_rule : (List ℕ → List ℕ → ℕ → Text) → Said → Text
-of_rule made said.skipped = refused wrong_fields.number
-of_rule made (said.refused r) = refused r.number
+of_rule made said.skipped = refused wrong_fields
+of_rule made (said.refused r) = refused r
 of_rule made (said.rule s o m) = made s o m
-of_rule made (said.change s o a d) = refused wrong_fields.number
+of_rule made (said.change s o a d) = refused wrong_fields
 
 -- a rule in the listing's form
 abbrev pub listing_line : List ℕ → List ℕ → ℕ → List ℕ
@@ -126,7 +123,7 @@ unfoldable pub fits_a_record : List ℕ → List ℕ → Bool
 fits_a_record s o = leb (length s) record_label && leb (length o) record_label
 
 abbrev pub if_it_fits : List ℕ → List ℕ → ℕ → Text
-if_it_fits s o m = cond (fits_a_record s o) (text (record_of s o m)) (refused not_in_a_record.number)
+if_it_fits s o m = cond (fits_a_record s o) (text (record_of s o m)) (refused not_in_a_record)
 
 unfoldable pub record_from : List ℕ → Text
 unfolding without_newline record_of fits_a_record
@@ -167,7 +164,7 @@ pub record InForm (form : List ℕ → List ℕ → ℕ → List ℕ) (says : Sa
 -- room for a record
 abbrev pub BackByCalls : List ℕ → List ℕ → List ℕ → ℕ → Type 0
 BackByCalls r out back n =
-    (text_answer (record_from (take n (text_out (line_from r) out))) back ≡ output.Length record_size)
+    (text_answer (record_from (take n (text_out (line_from r) out))) back ≡ Ok record_size)
     × (text_out (record_from (take n (text_out (line_from r) out))) back ≡ lowered r ++ drop record_size back)
 
 pub record OldRecords : Type 0 where
@@ -181,7 +178,7 @@ pub record OldRecords : Type 0 where
   pub record_form : (l t : List ℕ) → record_from l ≡ text t → InForm record_of (rule_of (without_newline l)) (text t)
   -- an accepted record turned there and back is the same but for its access letters, now in lower case: as texts, and as a host calls it
   pub record_and_back : (r t : List ℕ) → line_from r ≡ text t → record_from t ≡ text (lowered r)
-  pub by_calls : (r out back : List ℕ) (n : ℕ) → text_answer (line_from r) out ≡ output.Length n → record_size ≤ length back → BackByCalls r out back n
+  pub by_calls : (r out back : List ℕ) (n : ℕ) → text_answer (line_from r) out ≡ Ok n → record_size ≤ length back → BackByCalls r out back n
   -- an accepted line turned there and back is the listing's form of that line
   pub line_and_back : (l t : List ℕ) → record_from l ≡ text t → InForm listing_line (rule_of (without_newline l)) (line_from t)
   -- the text of an accepted record is one line, which says when it is loaded what the record says
@@ -194,8 +191,8 @@ pub record OldRecords : Type 0 where
   pub no_newline : (l : List ℕ) (b : ℕ) → is_newline b ≡ false → without_newline (l ++ (b ∷ [])) ≡ l ++ (b ∷ [])
   pub no_byte : without_newline [] ≡ []
   -- another is a byte of its field; the closing one does not count among the 600 bytes
-  pub another : (record_from (ascii "A B r\n\n") ≡ refused 4) × (record_from (ascii "A B r \n\n") ≡ refused 2)
-  pub counted : (record_from (spaces 600 ++ (newline ∷ [])) ≡ refused 2) × (record_from (spaces 601) ≡ refused 1)
+  pub another : (record_from (ascii "A B r\n\n") ≡ refused bad_access) × (record_from (ascii "A B r \n\n") ≡ refused wrong_fields)
+  pub counted : (record_from (spaces 600 ++ (newline ∷ [])) ≡ refused wrong_fields) × (record_from (spaces 601) ≡ refused too_long)
   -- one each way, byte by byte
   pub example : line_from (ascii "Probe-North             Store                   Rw-aT") ≡ text (ascii "Probe-North Store rwat\n")
   pub example_back : record_from (ascii " Store  ^ xR-") ≡ text (ascii "Store                   ^                       r-x--")

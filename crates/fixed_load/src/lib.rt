@@ -10,10 +10,7 @@ ghost use Rattle.output.specs.Output.{text_answer, text_out};
 ghost use Rattle.fixed_load.specs.Records.{label_place, record_access, five_letters, said_by, as_line, line_from, without_newline, in_places, if_it_fits, record_from, OldRecords};
 ghost use Rattle.fixed_load.specs.Within.{placed};
 
-use lines::RuleLine;
-use modes::Access;
-use output::Output;
-use search::Found;
+use refusals::Refusal;
 
 // The most bytes of a label in a record, the bytes of a label's place, where the access bytes begin, and the bytes of the record.
 const RECORD_LABEL: usize = 23;
@@ -29,47 +26,40 @@ const ACCESS_BYTES: usize = 5;
 
 // How many bytes the label at the left of a place has; nothing where the place is all spaces, has another byte after a space or doesn't end in a
 // space.
-fn label_length(place: &[u8]) -> Found
+fn label_length(place: &[u8]) -> Option<usize>
     requires { length place.now ≡ label_place }
     ensures { result ≡ placed place.now }
 {
     let mut count = 0;
-    let mut i = 0;
-    while i < LABEL_PLACE {
+    for i in 0..LABEL_PLACE {
         if place[i] != alphabet::SPACE {
             if count != i {
-                return Found::Nothing;
+                return None;
             }
             count = i + 1;
         }
-        i += 1;
     }
     if count == 0 {
-        return Found::Nothing;
+        return None;
     }
     if RECORD_LABEL < count {
-        return Found::Nothing;
+        return None;
     }
-    Found::At(count)
+    Some(count)
 }
 
-// The modes of the access bytes, each the letter of its place, in either case, or a dash.
-fn read_access(access: &[u8]) -> Access
+// The modes of the access bytes, each the letter of its place, in either case, or a dash; nothing where one is neither.
+fn read_access(access: &[u8]) -> Option<u8>
     requires { length access.now ≡ 5 }
     ensures { result ≡ record_access access.now }
 {
     let mut modes = 0;
     let mut bit = modes::READ;
-    let mut i = 0;
-    while i < ACCESS_BYTES {
-        let Access::Modes(letter) = modes::read_modes(&access[i..i + 1], bit, true) else {
-            return Access::Bad;
-        };
-        modes = modes | letter;
-        bit = bit >> 1;
-        i += 1;
+    for i in 0..ACCESS_BYTES {
+        modes |= modes::read_modes(&access[i..i + 1], bit, true)?;
+        bit >>= 1;
     }
-    Access::Modes(modes)
+    Some(modes)
 }
 
 // Writes modes as access bytes from index `at`, each the letter of its place or a dash. Who calls it has made sure that there is room for nine, since
@@ -79,31 +69,29 @@ fn write_access(out: &mut [u8], at: usize, modes: u8)
     ensures { out.new ≡ written out.old at (in_places five_letters modes) }
 {
     let mut bit = modes::READ;
-    let mut i = 0;
-    while i < ACCESS_BYTES {
+    for i in 0..ACCESS_BYTES {
         modes::write_modes(out, at + i, modes & bit);
-        bit = bit >> 1;
-        i += 1;
+        bit >>= 1;
     }
 }
 
 // A rule by its two labels and its access bytes as a line, in the listing's form, at the front of `out`; or refused with 3, 4, 5 or 12.
-fn put_line(out: &mut [u8], subject: &[u8], object: &[u8], access: &[u8]) -> Output
+fn put_line(out: &mut [u8], subject: &[u8], object: &[u8], access: &[u8]) -> Result<usize, Refusal>
     requires { (length subject.now ≤ label_longest) × (length object.now ≤ label_longest) × (length access.now ≡ 5) }
     ensures value { result ≡ text_answer (as_line (said_by subject.now object.now access.now)) out.old }
     ensures out_after { out.new ≡ text_out (as_line (said_by subject.now object.now access.now)) out.old }
 {
-    let Found::Nothing = alphabet::label_fault(subject) else {
-        return Output::Refused(refusals::BAD_LABEL.number);
-    };
-    let Found::Nothing = alphabet::label_fault(object) else {
-        return Output::Refused(refusals::BAD_LABEL.number);
-    };
-    let Access::Modes(m) = read_access(access) else {
-        return Output::Refused(refusals::BAD_ACCESS.number);
+    if !alphabet::well_formed(subject) {
+        return Err(Refusal::BadLabel { place: 0 });
+    }
+    if !alphabet::well_formed(object) {
+        return Err(Refusal::BadLabel { place: 0 });
+    }
+    let Some(m) = read_access(access) else {
+        return Err(Refusal::BadAccess);
     };
     if search::same_bytes(subject, object) {
-        return Output::Refused(refusals::SAME_LABELS.number);
+        return Err(Refusal::SameLabels);
     }
     let mut text = [0u8; 5];
     let n = modes::write_modes(&mut text, 0, m);
@@ -111,18 +99,18 @@ fn put_line(out: &mut [u8], subject: &[u8], object: &[u8], access: &[u8]) -> Out
 }
 
 // A record as a rule line, in the listing's form, at the front of `out`. Both label places are judged before either label.
-pub fn record_to_line(bytes: &[u8], out: &mut [u8]) -> Output
+pub fn record_to_line(bytes: &[u8], out: &mut [u8]) -> Result<usize, Refusal>
     ensures value { result ≡ text_answer (line_from bytes.now) out.old }
     ensures out_after { out.new ≡ text_out (line_from bytes.now) out.old }
 {
     if bytes.len() != RECORD_SIZE {
-        return Output::Refused(refusals::BAD_RECORD.number);
+        return Err(Refusal::BadRecord);
     }
-    let Found::At(s) = label_length(&bytes[0..LABEL_PLACE]) else {
-        return Output::Refused(refusals::BAD_RECORD.number);
+    let Some(s) = label_length(&bytes[0..LABEL_PLACE]) else {
+        return Err(Refusal::BadRecord);
     };
-    let Found::At(o) = label_length(&bytes[LABEL_PLACE..ACCESS_FROM]) else {
-        return Output::Refused(refusals::BAD_RECORD.number);
+    let Some(o) = label_length(&bytes[LABEL_PLACE..ACCESS_FROM]) else {
+        return Err(Refusal::BadRecord);
     };
     put_line(
         out,
@@ -147,16 +135,16 @@ fn without_newline<'a>(line: &'a [u8]) -> &'a [u8]
 }
 
 // A rule as a record at the front of `out`, or refused where a label is over 23 bytes.
-fn put_record(out: &mut [u8], subject: &[u8], object: &[u8], modes: u8) -> Output
+fn put_record(out: &mut [u8], subject: &[u8], object: &[u8], modes: u8) -> Result<usize, Refusal>
     requires { known_modes modes ≡ true }
     ensures value { result ≡ text_answer (if_it_fits subject.now object.now modes) out.old }
     ensures out_after { out.new ≡ text_out (if_it_fits subject.now object.now modes) out.old }
 {
     if RECORD_LABEL < subject.len() {
-        return Output::Refused(refusals::NOT_IN_A_RECORD.number);
+        return Err(Refusal::NotInARecord);
     }
     if RECORD_LABEL < object.len() {
-        return Output::Refused(refusals::NOT_IN_A_RECORD.number);
+        return Err(Refusal::NotInARecord);
     }
     // 53 bytes, and as many more as `write_access` wants.
     let mut text = [alphabet::SPACE; 57];
@@ -167,23 +155,19 @@ fn put_record(out: &mut [u8], subject: &[u8], object: &[u8], modes: u8) -> Outpu
 }
 
 // A rule line, with or without its closing newline, as a record at the front of `out`.
-pub fn line_to_record(line: &[u8], out: &mut [u8]) -> Output
+pub fn line_to_record(line: &[u8], out: &mut [u8]) -> Result<usize, Refusal>
     ensures value { result ≡ text_answer (record_from line.now) out.old }
     ensures out_after { out.new ≡ text_out (record_from line.now) out.old }
 {
     let text = without_newline(line);
-    let said = lines::rule_line(text);
-    match said {
-        RuleLine::Skipped => Output::Refused(refusals::WRONG_FIELDS.number),
-        RuleLine::Refused(refusal) => Output::Refused(refusal.number),
-        RuleLine::Rule(pair, m, _) => {
-            let a = pair.subject.start;
-            let b = pair.subject.end;
-            let c = pair.object.start;
-            let d = pair.object.end;
-            put_record(out, &text[a..b], &text[c..d], m)
-        }
-    }
+    let Some(rule) = lines::rule_line(text)? else {
+        return Err(Refusal::WrongFields);
+    };
+    let a = rule.labels.subject.start;
+    let b = rule.labels.subject.end;
+    let c = rule.labels.object.start;
+    let d = rule.labels.object.end;
+    put_record(out, &text[a..b], &text[c..d], rule.modes)
 }
 
 // The claim that records and lines go there and back as 02 says.

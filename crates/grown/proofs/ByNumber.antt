@@ -7,6 +7,7 @@ use native.Mathlib.Omega.{arith}
 use borrow.Author.Tests.{lt-ltb, le-ltb}
 use lib.ListN.{length, drop, get_or, length-append, drop_of_length-le}
 use lib.Seq.{drop-cons, take-append_seam}
+use Rattle.refusals.specs.Refusals.{no_such_number}
 use Rattle.search.specs.Bytes.{written}
 use Rattle.search.proofs.Laws.{entries-length}
 use Rattle.modes.proofs.Laws.{text-long}
@@ -15,7 +16,7 @@ use Rattle.store.proofs.Laws.{undamaged-is}
 use Rattle.output.proofs.Laws.{fits-answer, fits_out}
 use Rattle.rule_text.specs.RuleText.{longest_rule, text_of}
 use Rattle.listing.specs.Listing.{texts_of, listing, rule_given, list_answer, list_out}
-use Rattle.output.specs.declared.Output.TheVariants as l
+use Rattle.std.proofs.Common.{Ok, Err}
 use Rattle.listing.proofs.Laws.{label-short, rule-listed}
 use Rattle.grown.specs.Relisted.{LoadsBack, front, text_numbered, listed_by_calls, ListedByNumber}
 use Rattle.grown.proofs.Growing.{grown-sane}
@@ -32,7 +33,7 @@ module _ (st : Store) (undamaged : undamaged_of st ≡ true) where
       (omega (arith, label-short st.labels (get_or st.entries k 0), label-short st.labels (get_or st.entries (256 + k) 0), text-long (get_or st.entries (512 + k) 0))))
 
   module _ (k : ℕ) (out : List ℕ) (h : k < length (table_of st).rules) (fits : length (text_numbered st k) ≤ length out) where
-    answered : list_answer st k out ≡ l.Length (length (text_numbered st k))
+    answered : list_answer st k out ≡ Ok (length (text_numbered st k))
     unfolding list_answer rule_given
     answered = rw (undamaged, lt-ltb k (length (table_of st).rules) h) (fits-answer (text_numbered st k) out fits)
 
@@ -61,7 +62,7 @@ module _ (st : Store) (undamaged : undamaged_of st ≡ true) where
     whole = from (length (table_of st).rules) 0 (omega arith)
 
   -- from the number after the last on there is no rule
-  pub past : (k : ℕ) (out : List ℕ) → length (table_of st).rules ≤ k → list_answer st k out ≡ l.Refused 13
+  pub past : (k : ℕ) (out : List ℕ) → length (table_of st).rules ≤ k → list_answer st k out ≡ Err no_such_number
   unfolding list_answer rule_given
   past k out h = rw (undamaged, le-ltb k (length (table_of st).rules) h)
 

@@ -11,8 +11,7 @@ use lib.ListN.{length, get_or, length-map}
 use Rattle.search.specs.Search.{first, all, put, place_of}
 use Rattle.search.specs.Within.{count_after}
 use Rattle.search.specs.Bytes.{same_bytes}
-use Rattle.search.specs.declared.Found.{Found}
-use Rattle.search.specs.declared.Found.TheVariants.{At, Nothing}
+use Rattle.std.proofs.Common.{Option, Some, None}
 use Rattle.search.proofs.Laws.{all-at, all-put, first-is, first-place, put-at, put_other, length-put, Same, Distinct, distinct_put, Front, front_same, front-more, front_length, all_map, all_made, distinct_map}
 use Rattle.refusals.specs.Refusals.{too_long, bad_label_at}
 use Rattle.alphabet.specs.Alphabet.{well_formed, fields, bad_byte}
@@ -63,7 +62,7 @@ module _ (n : ℕ) where
   unfolding is_pair
   revoked-pair r q = rw (same_subject r, same_object r, same_subject q, same_object q)
 
-  cleared-sane : (t : Table) → Sane t → Sane (without_modes t (At n))
+  cleared-sane : (t : Table) → Sane t → Sane (without_modes t (Some n))
   cleared-sane t h =
       let a = sound-parts t (length t.labels) h.sound in
       record {
@@ -72,7 +71,7 @@ module _ (n : ℕ) where
         two_labels_is = all_map two_labels two_labels (revoked_rule n) revoked-apart t.rules h.two_labels_is;
         pair_once = distinct_map same_pair (record { subject = 0; object = 0; modes = 0 }) (revoked_rule n) revoked-pair t.rules h.pair_once;
         sound =
-            sound-whole (without_modes t (At n)) (length t.labels)
+            sound-whole (without_modes t (Some n)) (length t.labels)
             (all_map (sound_rule (length t.labels)) (sound_rule (length t.labels)) (revoked_rule n) (revoked-sound (length t.labels) n) t.rules a.0)
             a.1
             a.2;
@@ -89,10 +88,10 @@ revoke-sane : (t : Table) (label : List ℕ) → Sane t → Sane (table_after t 
 unfolding revoke_write
 revoke-sane t label h = by_tests (ltb 600 (length label)) (well_formed label) (label_in t label)
   where
-    by_tests : (a b : Bool) (f : Found) → Sane (table_after t (cond a (is_refused too_long) (cond b (is_accepted (without_modes t f)) (is_refused (bad_label_at (bad_byte label))))))
+    by_tests : (a b : Bool) (f : Option ℕ) → Sane (table_after t (cond a (is_refused too_long) (cond b (is_accepted (without_modes t f)) (is_refused (bad_label_at (bad_byte label))))))
     by_tests true b f = h
-    by_tests false true (At n) = cleared-sane n t h
-    by_tests false true Nothing = h
+    by_tests false true (Some n) = cleared-sane n t h
+    by_tests false true None = h
     by_tests false false f = h
 
 -- ---- the onlycap list: labels enter, and the list is replaced
@@ -117,9 +116,9 @@ module _ (ls fs : List (List ℕ)) where
 number-below : (ls : List (List ℕ)) (l : List ℕ) → 5 ≤ length ls → number_in ls l < length ls
 number-below ls l h = by_case (first (same_bytes l) ls) (first-is (same_bytes l) [] ls)
   where
-    by_case : (f : Found) → ((i : ℕ) → f ≡ At i → (i < length ls) × (same_bytes l (get_or ls i []) ≡ true)) → place_of f 0 < length ls
-    by_case (At i) q = (q i refl).0
-    by_case Nothing q = omega arith
+    by_case : (f : Option ℕ) → ((i : ℕ) → f ≡ Some i → (i < length ls) × (same_bytes l (get_or ls i []) ≡ true)) → place_of f 0 < length ls
+    by_case (Some i) q = (q i refl).0
+    by_case None q = omega arith
 
 abbrev none : Mapping
 none = record { label = 0; level = 0; set = no_categories }
@@ -226,16 +225,16 @@ module _ (t : Table) (l : List ℕ) (level : ℕ) (s : CategorySet) (h : Sane t)
   new-sound = rw (lt-ltb _ _ (first-is (same_bytes l) [] (enter t.labels l) numbered (enter-number t.labels l)).0, known)
 
   put-words :
-      (f : Found) →
+      (f : Option ℕ) →
       place_of f (length t.mappings) < count_after f (length t.mappings) →
       (k : ℕ) →
       k < length (put f t.mappings new_mapping) →
       InWords (get_or (put f t.mappings new_mapping) k none).set
   put-words f place k i = by_place (eqb k (place_of f (length t.mappings))) refl
     where
-      short : (g : Found) → k < count_after g (length t.mappings) → (k ≡ place_of g (length t.mappings) → ⊥) → k < length t.mappings
-      short (At j) a apart = a
-      short Nothing a apart = by_order (ltb k (length t.mappings)) refl
+      short : (g : Option ℕ) → k < count_after g (length t.mappings) → (k ≡ place_of g (length t.mappings) → ⊥) → k < length t.mappings
+      short (Some j) a apart = a
+      short None a apart = by_order (ltb k (length t.mappings)) refl
         where
           by_order : (b : Bool) → ltb k (length t.mappings) ≡ b → k < length t.mappings
           by_order true e = ltb-true _ _ e

@@ -8,12 +8,11 @@ use lib.Dec.{ltb}
 use borrow.Author.Tests.{ltb-true, ltb-false}
 use lib.ListN.{length, take, length-append}
 use lib.Seq.{take-append_seam}
-use Rattle.search.specs.declared.Found.{Found}
-use Rattle.search.specs.declared.Found.TheVariants.{At, Nothing}
+use Rattle.std.proofs.Common.{Option, Some, None, Result}
 use Rattle.search.proofs.Laws.{all-at}
 use Rattle.alphabet.specs.Alphabet.{newline, well_formed, fields}
 use Rattle.modes.specs.Modes.{modes_text, read_modes, line_letters, known_modes}
-use Rattle.modes.specs.declared.Access.TheVariants.{Modes}
+use Rattle.refusals.specs.declared.Refusal.{Refusal}
 use Rattle.modes.proofs.Laws.{text-read}
 use Rattle.store.specs.Table.{Table, with_labels, label_in, label_numbered, rule_numbered}
 use Rattle.store.specs.Layout.{Store, table_of, undamaged_of}
@@ -24,35 +23,34 @@ use Rattle.access.proofs.Laws.{same_numbers}
 use Rattle.rule_text.specs.RuleText.{line_of, text_of, longest_rule}
 use Rattle.rule_text.proofs.Laws.{line-fields, label_word, modes_word}
 use Rattle.listing.specs.Listing.{rule_text, list_answer, list_out}
-use Rattle.output.specs.declared.Output.{Output}
 use Rattle.grown.specs.Sane.{Sane}
 use Rattle.grown.specs.Relisted.{front}
 use Rattle.grown.specs.Numbered.{OnlyNumbers, EqualNumbers, ListedAs, Unlisted, FindsListed}
 use Rattle.grown.proofs.Sane.{stored_known}
 use Rattle.grown.proofs.ByNumber.{short, put, past}
 
-apart : (k : ℕ) → At k ≡ Nothing → ⊥
+apart : (k : ℕ) → Some k ≡ None → ⊥
 apart k e = let z : ◌≡◌ {A = ℕ} 0 1 = cc in omega arith
 
 pub only-numbers : (t : Table) → OnlyNumbers t
 unfolding modes_between
 only-numbers t = record { other_labels = same; no_subject = λ g. refl; no_object = none; by_it = λ s o. refl }
   where
-    same : (ls : List (List ℕ)) (f g : Found) → rule_between (with_labels t ls) f g ≡ rule_between t f g
-    same ls (At i) (At j) = refl
-    same ls (At i) Nothing = refl
-    same ls Nothing g = refl
+    same : (ls : List (List ℕ)) (f g : Option ℕ) → rule_between (with_labels t ls) f g ≡ rule_between t f g
+    same ls (Some i) (Some j) = refl
+    same ls (Some i) None = refl
+    same ls None g = refl
 
-    none : (f : Found) → rule_between t f Nothing ≡ Nothing
-    none (At i) = refl
-    none Nothing = refl
+    none : (f : Option ℕ) → rule_between t f None ≡ None
+    none (Some i) = refl
+    none None = refl
 
 pub equal-numbers : (t : Table) (s o : List ℕ) → EqualNumbers t s o
 equal-numbers t s o =
     record {
-      both_known = λ i j p q. sym (same_numbers t.labels s o (At i) (At j) (sym p) (sym q));
-      subject_known = λ i p q. sym (same_numbers t.labels s o (At i) Nothing (sym p) (sym q));
-      object_known = λ j p q. sym (same_numbers t.labels s o Nothing (At j) (sym p) (sym q));
+      both_known = λ i j p q. sym (same_numbers t.labels s o (Some i) (Some j) (sym p) (sym q));
+      subject_known = λ i p q. sym (same_numbers t.labels s o (Some i) None (sym p) (sym q));
+      object_known = λ j p q. sym (same_numbers t.labels s o None (Some j) (sym p) (sym q));
     }
 
 -- two texts with one newline behind each
@@ -98,7 +96,7 @@ module _ (st : Store) (undamaged : undamaged_of st ≡ true) (h : Sane (table_of
     listed = record { line = line_numbered k; access = modes_text (modes k); text = written; three = its-fields }
 
     -- and found by its labels
-    found-itself : pair_rule t (subject k) (object k) ≡ At k
+    found-itself : pair_rule t (subject k) (object k) ≡ Some k
     found-itself = rw (h.labels_once.label_once (rule_numbered t k).subject known.0, h.labels_once.label_once (rule_numbered t k).object known.1) (h.pair_once k below)
 
     says-itself : modes_between t (subject k) (object k) ≡ has_modes (modes k)
@@ -123,48 +121,48 @@ module _ (st : Store) (undamaged : undamaged_of st ≡ true) (h : Sane (table_of
           record { below = i; same_subject = cc; same_object = cc; same_access = cc }
       by_number false e =
           let r = past st undamaged k out (ltb-false k (length t.rules) e) in
-          let z : [] ≡ w.line ++ (newline ∷ []) = ap (λ (a : Output). front a (list_out st k out)) (sym r) ∙ w.text in
+          let z : [] ≡ w.line ++ (newline ∷ []) = ap (λ (a : Result ℕ Refusal). front a (list_out st k out)) (sym r) ∙ w.text in
           absurd (omega (arith, ap length z, length-append w.line (newline ∷ [])))
 
   module _ (s o : List ℕ) where
-    listed_found : (k : ℕ) → ListedAs st out k s o → pair_rule t s o ≡ At k
+    listed_found : (k : ℕ) → ListedAs st out k s o → pair_rule t s o ≡ Some k
     listed_found k w =
         let r = read k s o w in
         rw (r.same_subject, r.same_object) (found-itself k r.below)
 
-    found-listed : (k : ℕ) → pair_rule t s o ≡ At k → ListedAs st out k s o
+    found-listed : (k : ℕ) → pair_rule t s o ≡ Some k → ListedAs st out k s o
     found-listed k = by-labels (label_in t s) refl (label_in t o) refl
       where
-        by-labels : (f : Found) → label_in t s ≡ f → (g : Found) → label_in t o ≡ g → rule_between t f g ≡ At k → ListedAs st out k s o
-        by-labels (At i) es (At j) eo e =
+        by-labels : (f : Option ℕ) → label_in t s ≡ f → (g : Option ℕ) → label_in t o ≡ g → rule_between t f g ≡ Some k → ListedAs st out k s o
+        by-labels (Some i) es (Some j) eo e =
             let p = ((first-counts t).pair i j k).0 e in
             let a : subject k ≡ s = ap (label_numbered t) p.1 ∙ (((first-counts t).label s i).0 es).1 in
             let b : object k ≡ o = ap (label_numbered t) p.2 ∙ (((first-counts t).label o j).0 eo).1 in
             subst (λ (x : List ℕ). ListedAs st out k x o) a (subst (ListedAs st out k (subject k)) b (listed k p.0))
-        by-labels (At i) es Nothing eo e = absurd (apart k (sym e))
-        by-labels Nothing es g eo e = absurd (apart k (sym e))
+        by-labels (Some i) es None eo e = absurd (apart k (sym e))
+        by-labels None es g eo e = absurd (apart k (sym e))
 
-    not_found : Unlisted st out s o → pair_rule t s o ≡ Nothing
+    not_found : Unlisted st out s o → pair_rule t s o ≡ None
     not_found none = by_case (pair_rule t s o) refl
       where
-        by_case : (f : Found) → pair_rule t s o ≡ f → f ≡ Nothing
-        by_case (At k) e = absurd (none k (found-listed k e))
-        by_case Nothing e = refl
+        by_case : (f : Option ℕ) → pair_rule t s o ≡ f → f ≡ None
+        by_case (Some k) e = absurd (none k (found-listed k e))
+        by_case None e = refl
 
-    says : (k : ℕ) (w : ListedAs st out k s o) → (read_modes line_letters true w.access ≡ Modes (modes k)) × (modes_between t s o ≡ has_modes (modes k))
+    says : (k : ℕ) (w : ListedAs st out k s o) → (read_modes line_letters true w.access ≡ Some (modes k)) × (modes_between t s o ≡ has_modes (modes k))
     says k w =
         let r = read k s o w in
         (rw r.same_access (text-read (modes k) (known k r.below).2), rw (r.same_subject, r.same_object) (says-itself k r.below))
 
-    none_read : modes_between t s o ≡ no_rule → pair_rule t s o ≡ Nothing
+    none_read : modes_between t s o ≡ no_rule → pair_rule t s o ≡ None
     unfolding modes_between
     none_read = by_case (pair_rule t s o)
       where
-        by_case : (f : Found) → modes_found t.rules f ≡ no_rule → f ≡ Nothing
-        by_case (At k) e = let z : ◌≡◌ {A = ℕ} 0 1 = cc in absurd (omega arith)
-        by_case Nothing e = refl
+        by_case : (f : Option ℕ) → modes_found t.rules f ≡ no_rule → f ≡ None
+        by_case (Some k) e = let z : ◌≡◌ {A = ℕ} 0 1 = cc in absurd (omega arith)
+        by_case None e = refl
 
-    none-there : pair_rule t s o ≡ Nothing → modes_between t s o ≡ no_rule
+    none-there : pair_rule t s o ≡ None → modes_between t s o ≡ no_rule
     unfolding modes_between
     none-there e = ap (modes_found t.rules) e
 
@@ -173,16 +171,16 @@ module _ (st : Store) (undamaged : undamaged_of st ≡ true) (h : Sane (table_of
       record {
         found = λ k. (found-listed s o k, listed_found s o k);
         none = (unlisted s o, not_found s o);
-        unknown_subject = λ e x. unlisted s x (ap (λ (f : Found). rule_between t f (label_in t x)) e);
+        unknown_subject = λ e x. unlisted s x (ap (λ (f : Option ℕ). rule_between t f (label_in t x)) e);
         unknown_object = λ e x. unlisted x o (ap (rule_between t (label_in t x)) e ∙ (only-numbers t).no_object (label_in t x));
-        modes = λ k w m. let q = says s o k w in (λ e. q.1 ∙ ap has_modes (same_access (sym q.0 ∙ e)), λ e. q.0 ∙ ap Modes (same-pair (sym q.1 ∙ e)));
+        modes = λ k w m. let q = says s o k w in (λ e. q.1 ∙ ap has_modes (same_access (sym q.0 ∙ e)), λ e. q.0 ∙ ap Some (same-pair (sym q.1 ∙ e)));
         no_modes = (λ e. unlisted s o (none_read s o e), λ n. none-there s o (not_found s o n));
       }
     where
-      unlisted : (s o : List ℕ) → pair_rule t s o ≡ Nothing → Unlisted st out s o
+      unlisted : (s o : List ℕ) → pair_rule t s o ≡ None → Unlisted st out s o
       unlisted s o e k w = apart k (sym (listed_found s o k w) ∙ e)
 
-      same_access : {a b : ℕ} → Modes a ≡ Modes b → a ≡ b
+      same_access : {a b : ℕ} → Some a ≡ Some b → a ≡ b
       same_access e = cc
 
       same-pair : {a b : ℕ} → has_modes a ≡ has_modes b → a ≡ b

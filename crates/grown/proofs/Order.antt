@@ -7,8 +7,7 @@ use native.Mathlib.Nat.{le_of_suc-le-suc}
 use native.Mathlib.Omega.{arith}
 use lib.ListN.{get_or}
 use Rattle.search.specs.Search.{first, later}
-use Rattle.search.specs.declared.Found.{Found}
-use Rattle.search.specs.declared.Found.TheVariants.{At, Nothing}
+use Rattle.std.proofs.Common.{Option, Some, None}
 use Rattle.search.proofs.Laws.{no, first-is, first-at, first-before}
 use Rattle.store.specs.Table.{Table, label_in}
 use Rattle.access.specs.SevenRules.{Clause, clause, first_of, seven_rules, denial_number}
@@ -26,21 +25,21 @@ use Rattle.grown.specs.Order.{Asks, FirstSays, ByFirst}
 abbrev none : Clause
 none = clause false Undecided
 
-abbrev applying : List Clause → Found
+abbrev applying : List Clause → Option ℕ
 applying ls = first (λ (l : Clause). l.applies) ls
 
-none-applies : (ls : List Clause) → applying ls ≡ Nothing → first_of ls ≡ Undecided
+none-applies : (ls : List Clause) → applying ls ≡ None → first_of ls ≡ Undecided
 unfolding first
 none-applies [] e = refl
 none-applies (l ∷ ls) e = by-test l.applies (applying ls) (none-applies ls) e
   where
-    by-test : (b : Bool) (f : Found) → (f ≡ Nothing → first_of ls ≡ Undecided) → cond b (At zero) (later f) ≡ Nothing → cond b l.says (first_of ls) ≡ Undecided
+    by-test : (b : Bool) (f : Option ℕ) → (f ≡ None → first_of ls ≡ Undecided) → cond b (Some zero) (later f) ≡ None → cond b l.says (first_of ls) ≡ Undecided
     by-test true f ih e = let z : ◌≡◌ {A = ℕ} 0 1 = cc in absurd (omega arith)
-    by-test false (At j) ih e = let z : ◌≡◌ {A = ℕ} 0 1 = cc in absurd (omega arith)
-    by-test false Nothing ih e = ih refl
+    by-test false (Some j) ih e = let z : ◌≡◌ {A = ℕ} 0 1 = cc in absurd (omega arith)
+    by-test false None ih e = ih refl
 
 -- what the first that applies says, by its number
-pub says_first : (ls : List Clause) (k : ℕ) (v : Verdict) → applying ls ≡ At k → first_of ls ≡ v → FirstSays ls (suc k) v
+pub says_first : (ls : List Clause) (k : ℕ) (v : Verdict) → applying ls ≡ Some k → first_of ls ≡ v → FirstSays ls (suc k) v
 says_first ls k v e q =
     let h = first-is (λ (l : Clause). l.applies) none ls k e in
     record {
@@ -94,11 +93,11 @@ module _ (t : Table) (s o : List ℕ) (wanted : ℕ) where
       FirstSays (seven_rules t s o wanted) n v
   first-numbered n v d number e = by_case (applying (seven_rules t s o wanted)) refl
     where
-      by_case : (f : Found) → applying (seven_rules t s o wanted) ≡ f → FirstSays (seven_rules t s o wanted) n v
-      by_case (At k) q =
+      by_case : (f : Option ℕ) → applying (seven_rules t s o wanted) ≡ f → FirstSays (seven_rules t s o wanted) n v
+      by_case (Some k) q =
           let r = says_first (seven_rules t s o wanted) k v q e in
           subst (λ (i : ℕ). FirstSays (seven_rules t s o wanted) i v) (sym (number k r.among r.says)) r
-      by_case Nothing q = absurd (no (ap decides (sym (none-applies (seven_rules t s o wanted) q) ∙ e) ∙ d))
+      by_case None q = absurd (no (ap decides (sym (none-applies (seven_rules t s o wanted) q) ∙ e) ∙ d))
 
 pub by_first :
     (t : Table) (s o request : List ℕ) (capable : Bool) (wanted : ℕ) →

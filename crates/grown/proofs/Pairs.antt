@@ -11,14 +11,11 @@ use lib.ListN.{length, get_or}
 use Rattle.search.specs.Within.{count_after}
 use Rattle.search.specs.Search.{first, put, place_of}
 use Rattle.search.specs.Bytes.{same_bytes}
-use Rattle.search.specs.declared.Found.{Found}
-use Rattle.search.specs.declared.Found.TheVariants.{At, Nothing}
+use Rattle.std.proofs.Common.{Option, Some, None}
 use Rattle.search.proofs.Laws.{no, and_both, same_refl, same-equal, first-place, first-put, entries-length, first-put-other, found-put-other, put-at, not_so, Front, front-first, front_beyond}
 use Rattle.refusals.specs.Refusals.{too_long, same_labels, labels_full, rules_full, bad_label_at}
 use Rattle.alphabet.specs.Alphabet.{well_formed, fields, bad_byte_in}
 use Rattle.modes.specs.Modes.{read_modes, line_letters, change_letters, request_letters, stored_modes}
-use Rattle.modes.specs.declared.Access.{Access}
-use Rattle.modes.specs.declared.Access.TheVariants.{Modes, Bad}
 use Rattle.store.specs.declared.Rule.{Rule}
 use Rattle.store.specs.Table.{Table, label_in, is_pair, pair_in, sound_table, no_place}
 use Rattle.store.specs.Layout.{Store, label_at, table_of, undamaged_of}
@@ -54,9 +51,9 @@ module _
         ap (λ (b : Bool). answered b (first_of (seven_rules t' s o wanted))) (override capable)
         ∙ ap (λ (q : PairModes). answered (effective t (label_in t s) capable) (first_of (rules_for s o q wanted))) modes
 
-    request_same : (capable : Bool) (a : Access) → by_request t' s o capable a ≡ by_request t s o capable a
-    request_same capable (Modes wanted) = decide-same wanted capable
-    request_same capable Bad = refl
+    request_same : (capable : Bool) (a : Option ℕ) → by_request t' s o capable a ≡ by_request t s o capable a
+    request_same capable (Some wanted) = decide-same wanted capable
+    request_same capable None = refl
 
     pub answer-same : (request : List ℕ) (capable : Bool) → answer t' s o request capable ≡ answer t s o request capable
     unfolding answer
@@ -64,17 +61,17 @@ module _
 
 -- ---- labels that enter: each other has the number that it had, and a new one a number beyond
 
-data Kept (n : ℕ) : Found → Found → Type 0 where
-  same : {f : Found} → Kept n f f
-  new : (i : ℕ) → n ≤ i → Kept n Nothing (At i)
+data Kept (n : ℕ) : Option ℕ → Option ℕ → Type 0 where
+  same : {f : Option ℕ} → Kept n f f
+  new : (i : ℕ) → n ≤ i → Kept n None (Some i)
 
 number-kept : {ls ms : List (List ℕ)} → Front ls ms → (x : List ℕ) → Kept (length ls) (first (same_bytes x) ls) (first (same_bytes x) ms)
 number-kept {ls} {ms} a x = by_case (first (same_bytes x) ls) (first (same_bytes x) ms) (λ i. front-first (same_bytes x) i a) (λ i. front_beyond (same_bytes x) i a)
   where
-    by_case : (f g : Found) → ((i : ℕ) → f ≡ At i → g ≡ At i) → ((i : ℕ) → f ≡ Nothing → g ≡ At i → length ls ≤ i) → Kept (length ls) f g
-    by_case (At i) g h k = subst (λ (z : Found). Kept (length ls) (At i) z) (sym (h i refl)) same
-    by_case Nothing (At i) h k = new i (k i refl refl)
-    by_case Nothing Nothing h k = same
+    by_case : (f g : Option ℕ) → ((i : ℕ) → f ≡ Some i → g ≡ Some i) → ((i : ℕ) → f ≡ None → g ≡ Some i → length ls ≤ i) → Kept (length ls) f g
+    by_case (Some i) g h k = subst (λ (z : Option ℕ). Kept (length ls) (Some i) z) (sym (h i refl)) same
+    by_case None (Some i) h k = new i (k i refl refl)
+    by_case None None h k = same
 
 -- of a sound table t, and one that has its labels in front
 module _ (t t' : Table) (sound : sound_table (length t.labels) t ≡ true) where
@@ -82,28 +79,28 @@ module _ (t t' : Table) (sound : sound_table (length t.labels) t ≡ true) where
   beyond i h = sound_more (length t.labels) i h t sound
 
   between_kept :
-      {f f' g g' : Found} →
+      {f f' g g' : Option ℕ} →
       Kept (length t.labels) f f' →
       Kept (length t.labels) g g' →
-      ((i j : ℕ) → f' ≡ At i → g' ≡ At j → modes_found t'.rules (pair_in t' i j) ≡ modes_found t.rules (pair_in t i j)) →
+      ((i j : ℕ) → f' ≡ Some i → g' ≡ Some j → modes_found t'.rules (pair_in t' i j) ≡ modes_found t.rules (pair_in t i j)) →
       modes_found t'.rules (rule_between t' f' g') ≡ modes_found t.rules (rule_between t f g)
-  between_kept {f = At i} {g = At j} same same h = h i j refl refl
-  between_kept {f = At i} {g = Nothing} same same h = refl
-  between_kept {f = Nothing} same b h = refl
-  between_kept {f = At i} same (new j k) h = h i j refl refl ∙ ap (modes_found t.rules) (not_object t j (beyond j k) i)
-  between_kept {g = At j} (new i k) same h = h i j refl refl ∙ ap (modes_found t.rules) (not_subject t i (beyond i k) j)
-  between_kept {g = Nothing} (new i k) same h = refl
+  between_kept {f = Some i} {g = Some j} same same h = h i j refl refl
+  between_kept {f = Some i} {g = None} same same h = refl
+  between_kept {f = None} same b h = refl
+  between_kept {f = Some i} same (new j k) h = h i j refl refl ∙ ap (modes_found t.rules) (not_object t j (beyond j k) i)
+  between_kept {g = Some j} (new i k) same h = h i j refl refl ∙ ap (modes_found t.rules) (not_subject t i (beyond i k) j)
+  between_kept {g = None} (new i k) same h = refl
   between_kept (new i k) (new j l) h = h i j refl refl ∙ ap (modes_found t.rules) (not_subject t i (beyond i k) j)
 
   pub modes-kept :
       Front t.labels t'.labels →
       (x y : List ℕ) →
-      ((i j : ℕ) → label_in t' x ≡ At i → label_in t' y ≡ At j → modes_found t'.rules (pair_in t' i j) ≡ modes_found t.rules (pair_in t i j)) →
+      ((i j : ℕ) → label_in t' x ≡ Some i → label_in t' y ≡ Some j → modes_found t'.rules (pair_in t' i j) ≡ modes_found t.rules (pair_in t i j)) →
       modes_between t' x y ≡ modes_between t x y
   unfolding modes_between
   modes-kept a x y h = between_kept (number-kept a x) (number-kept a y) h
 
-  listed_kept : {f f' : Found} → Kept (length t.labels) f f' → (capable : Bool) → t'.onlycap ≡ t.onlycap → effective t' f' capable ≡ effective t f capable
+  listed_kept : {f f' : Option ℕ} → Kept (length t.labels) f f' → (capable : Bool) → t'.onlycap ≡ t.onlycap → effective t' f' capable ≡ effective t f capable
   unfolding effective
   listed_kept same capable e = rw e
   listed_kept (new i k) capable e = rw (e, not_listed t i (beyond i k))
@@ -143,11 +140,11 @@ module _ (rules : List Rule) (a b m : ℕ) where
       ∙ by_case (first (is_pair i j) rules) (found-put-other (is_pair i j) (is_pair a b) (record { subject = 0; object = 0; modes = 0 }) rules (record { subject = a; object = b; modes = m }) (pair-other i j a b apart))
     where
       by_case :
-          (f : Found) →
-          ((k : ℕ) → f ≡ At k → get_or set-rules k (record { subject = 0; object = 0; modes = 0 }) ≡ get_or rules k (record { subject = 0; object = 0; modes = 0 })) →
+          (f : Option ℕ) →
+          ((k : ℕ) → f ≡ Some k → get_or set-rules k (record { subject = 0; object = 0; modes = 0 }) ≡ get_or rules k (record { subject = 0; object = 0; modes = 0 })) →
           modes_found set-rules f ≡ modes_found rules f
-      by_case (At k) h = ap (λ (r : Rule). has_modes r.modes) (h k refl)
-      by_case Nothing h = refl
+      by_case (Some k) h = ap (λ (r : Rule). has_modes r.modes) (h k refl)
+      by_case None h = refl
 
 module _ (t : Table) (s o : List ℕ) (m : ℕ) (taken : Taken s o) (sound : sound_table (length t.labels) t ≡ true) where
   pair_set : modes_between (paired t s o m) s o ≡ has_modes m
@@ -161,8 +158,8 @@ module _ (t : Table) (s o : List ℕ) (m : ℕ) (taken : Taken s o) (sound : sou
       modes-other t.rules (subject_at t s o) (object_at t s o) m i j
       (λ a b.
       apart
-      (one_label (pair_labels t s o) x s i e (subject_number t s o taken ∙ ap At (sym a)))
-      (one_label (pair_labels t s o) y o j q (object_number t s o taken ∙ ap At (sym b)))))
+      (one_label (pair_labels t s o) x s i e (subject_number t s o taken ∙ ap Some (sym a)))
+      (one_label (pair_labels t s o) y o j q (object_number t s o taken ∙ ap Some (sym b)))))
 
   override-same : (x : List ℕ) (capable : Bool) → effective (paired t s o m) (label_in (paired t s o m) x) capable ≡ effective t (label_in t x) capable
   override-same = override-kept t (paired t s o m) sound (pair-front t s o taken) refl
@@ -194,12 +191,12 @@ unfolding modes_between
 pair_read t s o sound = by_case (label_in t s) (label_in t o)
   where
     by_case :
-        (f g : Found) →
+        (f g : Option ℕ) →
         modes_found t.rules (pair_in t (place_of f (length t.labels)) (place_of g (count_after f (length t.labels)))) ≡ modes_found t.rules (rule_between t f g)
-    by_case (At i) (At j) = refl
-    by_case (At i) Nothing = ap (modes_found t.rules) (not_object t (length t.labels) sound i)
-    by_case Nothing (At j) = ap (modes_found t.rules) (not_subject t (length t.labels) sound j)
-    by_case Nothing Nothing = ap (modes_found t.rules) (not_subject t (length t.labels) sound (length t.labels + 1))
+    by_case (Some i) (Some j) = refl
+    by_case (Some i) None = ap (modes_found t.rules) (not_object t (length t.labels) sound i)
+    by_case None (Some j) = ap (modes_found t.rules) (not_subject t (length t.labels) sound j)
+    by_case None None = ap (modes_found t.rules) (not_subject t (length t.labels) sound (length t.labels + 1))
 
 not_ltb : (a b : ℕ) → not (ltb a b) ≡ leb b a
 not_ltb a b = by-test (ltb a b) refl
@@ -215,15 +212,15 @@ not_leb a b = by-test (leb a b) refl
     by-test true e = sym (le-ltb _ _ (leb-true a b e))
     by-test false e = sym (lt-ltb _ _ (leb-false a b e))
 
-pub labels-counted : (f g : Found) (n : ℕ) → count_after g (count_after f n) ≡ n + (new_labels f + new_labels g)
-labels-counted (At i) (At j) n = omega arith
-labels-counted (At i) Nothing n = omega arith
-labels-counted Nothing (At j) n = omega arith
-labels-counted Nothing Nothing n = omega arith
+pub labels-counted : (f g : Option ℕ) (n : ℕ) → count_after g (count_after f n) ≡ n + (new_labels f + new_labels g)
+labels-counted (Some i) (Some j) n = omega arith
+labels-counted (Some i) None n = omega arith
+labels-counted None (Some j) n = omega arith
+labels-counted None None n = omega arith
 
-rule-room : (rules : List Rule) (f : Found) (n : ℕ) → not (no_place f n 256) ≡ (has_rule (modes_found rules f) || ltb n 256)
-rule-room rules (At k) n = refl
-rule-room rules Nothing n = not_leb 256 n
+rule-room : (rules : List Rule) (f : Option ℕ) (n : ℕ) → not (no_place f n 256) ≡ (has_rule (modes_found rules f) || ltb n 256)
+rule-room rules (Some k) n = refl
+rule-room rules None n = not_leb 256 n
 
 -- a rule is accepted exactly where there is room for it
 pub rule-accepted : (t : Table) (s o : List ℕ) (m : ℕ) → same_bytes s o ≡ false → was_accepted (judged t (rule s o m)) ≡ has_room t s o
@@ -267,7 +264,7 @@ rule_triple text s o m e = by_length (ltb 600 (length text)) refl e
         fields text ≡ x ∷ y ∷ a ∷ [] →
         well_formed x ≡ true →
         well_formed y ≡ true →
-        read_modes line_letters true a ≡ Modes n →
+        read_modes line_letters true a ≡ Some n →
         (b : Bool) →
         same_bytes x y ≡ b →
         cond b (refused same_labels) (rule x y (stored_modes n)) ≡ rule s o m →
@@ -296,12 +293,12 @@ rule_triple text s o m e = by_length (ltb 600 (length text)) refl e
         fields text ≡ x ∷ y ∷ a ∷ [] →
         well_formed x ≡ true →
         well_formed y ≡ true →
-        (v : Access) →
+        (v : Option ℕ) →
         read_modes line_letters true a ≡ v →
         rule_with x y v ≡ rule s o m →
         Triple text s o m
-    by-access x y a short three fx fy (Modes n) r e = by-same x y a n short three fx fy r (same_bytes x y) refl e
-    by-access x y a short three fx fy Bad r e = let z : ◌≡◌ {A = ℕ} 0 1 = cc in absurd (omega arith)
+    by-access x y a short three fx fy (Some n) r e = by-same x y a n short three fx fy r (same_bytes x y) refl e
+    by-access x y a short three fx fy None r e = let z : ◌≡◌ {A = ℕ} 0 1 = cc in absurd (omega arith)
 
     by-formed :
         (x y a : List ℕ) →
@@ -353,8 +350,8 @@ change-text text s o a d e = by_length (ltb 600 (length text)) refl e
         fields text ≡ x ∷ y ∷ f ∷ g ∷ [] →
         well_formed x ≡ true →
         well_formed y ≡ true →
-        read_modes change_letters true f ≡ Modes n →
-        read_modes change_letters true g ≡ Modes k →
+        read_modes change_letters true f ≡ Some n →
+        read_modes change_letters true g ≡ Some k →
         (b : Bool) →
         same_bytes x y ≡ b →
         cond b (refused same_labels) (change x y n k) ≡ change s o a d →
@@ -384,15 +381,15 @@ change-text text s o a d e = by_length (ltb 600 (length text)) refl e
         fields text ≡ x ∷ y ∷ f ∷ g ∷ [] →
         well_formed x ≡ true →
         well_formed y ≡ true →
-        (v : Access) →
+        (v : Option ℕ) →
         read_modes change_letters true f ≡ v →
-        (u : Access) →
+        (u : Option ℕ) →
         read_modes change_letters true g ≡ u →
         change_with x y v u ≡ change s o a d →
         ChangeText text s o a d
-    by-access x y f g short four fx fy (Modes n) r (Modes k) w e = by-same x y f g n k short four fx fy r w (same_bytes x y) refl e
-    by-access x y f g short four fx fy (Modes n) r Bad w e = let z : ◌≡◌ {A = ℕ} 0 1 = cc in absurd (omega arith)
-    by-access x y f g short four fx fy Bad r u w e = let z : ◌≡◌ {A = ℕ} 0 1 = cc in absurd (omega arith)
+    by-access x y f g short four fx fy (Some n) r (Some k) w e = by-same x y f g n k short four fx fy r w (same_bytes x y) refl e
+    by-access x y f g short four fx fy (Some n) r None w e = let z : ◌≡◌ {A = ℕ} 0 1 = cc in absurd (omega arith)
+    by-access x y f g short four fx fy None r u w e = let z : ◌≡◌ {A = ℕ} 0 1 = cc in absurd (omega arith)
 
     by-formed :
         (x y f g : List ℕ) →
@@ -437,9 +434,9 @@ triple_sets t text s o m h w room =
     (accepted_as t (judged t (rule_of text)) (ap (λ (x : Said). was_accepted (judged t x)) (triple_rule w) ∙ rule-accepted t s o m (triple_apart w) ∙ room))
 
 -- ANY ACCEPTED CHANGE
-modes_so_far : (rules : List Rule) (f : Found) → modes_of_rule f rules ≡ modes_or_none (modes_found rules f)
-modes_so_far rules (At k) = refl
-modes_so_far rules Nothing = refl
+modes_so_far : (rules : List Rule) (f : Option ℕ) → modes_of_rule f rules ≡ modes_or_none (modes_found rules f)
+modes_so_far rules (Some k) = refl
+modes_so_far rules None = refl
 
 pub change-sets :
     (t t' : Table) (text s o : List ℕ) (a d : ℕ) →

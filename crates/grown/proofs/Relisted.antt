@@ -11,8 +11,7 @@ use lib.ListN.{length, get_or, length-append, length-map, get_or-append}
 use lib.Seq.{get_or_at}
 use Rattle.search.specs.Search.{all, put}
 use Rattle.search.specs.Bytes.{same_bytes}
-use Rattle.search.specs.declared.Found.{Found}
-use Rattle.search.specs.declared.Found.TheVariants.{At, Nothing}
+use Rattle.std.proofs.Common.{Option, Some, None}
 use Rattle.search.proofs.Laws.{no, and_both, same-equal, not_so, all-at, all-by, first-is, front-first, map_at, map_same, map_snoc, distinct_fits}
 use Rattle.alphabet.specs.Alphabet.{newline, well_formed}
 use Rattle.modes.specs.Modes.{modes_text, known_modes}
@@ -61,12 +60,12 @@ none = record { subject = 0; object = 0; modes = 0 }
 abbrev no_spelling : Spelled
 no_spelling = record { subject = []; object = []; modes = 0 }
 
-same_place : {a b : ℕ} → At a ≡ At b → a ≡ b
+same_place : {a b : ℕ} → Some a ≡ Some b → a ≡ b
 same_place e = cc
 
-found-known : (f : Found) → is_found f ≡ true → f ≡ Nothing → ⊥
-found-known (At i) e q = let z : ◌≡◌ {A = ℕ} 0 1 = cc in omega arith
-found-known Nothing e q = no e
+found-known : (f : Option ℕ) → is_found f ≡ true → f ≡ None → ⊥
+found-known (Some i) e q = let z : ◌≡◌ {A = ℕ} 0 1 = cc in omega arith
+found-known None e q = no e
 
 module _ (t u : Table) (rs rest : List Rule) (r : Rule) (h : Sane t) (w : Loaded t u rs) (is : t.rules ≡ rs ++ (r ∷ rest)) where
   abbrev s : List ℕ
@@ -88,10 +87,10 @@ module _ (t u : Table) (rs rest : List Rule) (r : Rule) (h : Sane t) (w : Loaded
   r_known : (r.subject < length t.labels) × (r.object < length t.labels) × (known_modes r.modes ≡ true)
   r_known = subst (λ (x : Rule). (x.subject < length t.labels) × (x.object < length t.labels) × (known_modes x.modes ≡ true)) r_is (stored_known t (length t.labels) h.sound (length rs) at-end)
 
-  s_number : label_in t s ≡ At r.subject
+  s_number : label_in t s ≡ Some r.subject
   s_number = h.labels_once.label_once r.subject r_known.0
 
-  o_number : label_in t o ≡ At r.object
+  o_number : label_in t o ≡ Some r.object
   o_number = h.labels_once.label_once r.object r_known.1
 
   s_formed : well_formed s ≡ true
@@ -130,7 +129,7 @@ module _ (t u : Table) (rs rest : List Rule) (r : Rule) (h : Sane t) (w : Loaded
       ∙ ap (spell t) (sym (ap (λ (l : List Rule). get_or l q none) is ∙ get_or-append rs (r ∷ rest) none q hr))
 
   -- so none of them is of this pair
-  none_before : (i j q : ℕ) → label_in u s ≡ At i → label_in u o ≡ At j → pair_in u i j ≡ At q → ⊥
+  none_before : (i j q : ℕ) → label_in u s ≡ Some i → label_in u o ≡ Some j → pair_in u i j ≡ Some q → ⊥
   unfolding is_pair
   none_before i j q es eo e =
       let f = first-is (is_pair i j) none u.rules q e in
@@ -148,8 +147,8 @@ module _ (t u : Table) (rs rest : List Rule) (r : Rule) (h : Sane t) (w : Loaded
       ∙ ap (λ (z : Spelled). z.object) x in
       let y = same_place (sym s_number ∙ ap (label_in t) a ∙ h.labels_once.label_once (rule_numbered t q).subject k.0) in
       let z = same_place (sym o_number ∙ ap (label_in t) c ∙ h.labels_once.label_once (rule_numbered t q).object k.1) in
-      let there : pair_in t r.subject r.object ≡ At q = rw (y, z) (h.pair_once q hq) in
-      let here : pair_in t r.subject r.object ≡ At (length rs) = subst (λ (v : Rule). pair_in t v.subject v.object ≡ At (length rs)) r_is (h.pair_once (length rs) at-end) in
+      let there : pair_in t r.subject r.object ≡ Some q = rw (y, z) (h.pair_once q hq) in
+      let here : pair_in t r.subject r.object ≡ Some (length rs) = subst (λ (v : Rule). pair_in t v.subject v.object ≡ Some (length rs)) r_is (h.pair_once (length rs) at-end) in
       let n = same_place (sym there ∙ here) in
       omega (arith, f.0, so_many)
 
@@ -157,21 +156,21 @@ module _ (t u : Table) (rs rest : List Rule) (r : Rule) (h : Sane t) (w : Loaded
   unfolding modes_between
   new-pair = by-labels (label_in u s) refl (label_in u o) refl
     where
-      by-pair : (i j : ℕ) → label_in u s ≡ At i → label_in u o ≡ At j → (f : Found) → pair_in u i j ≡ f → modes_found u.rules f ≡ no_rule
-      by-pair i j es eo (At q) e = absurd (none_before i j q es eo e)
-      by-pair i j es eo Nothing e = refl
+      by-pair : (i j : ℕ) → label_in u s ≡ Some i → label_in u o ≡ Some j → (f : Option ℕ) → pair_in u i j ≡ f → modes_found u.rules f ≡ no_rule
+      by-pair i j es eo (Some q) e = absurd (none_before i j q es eo e)
+      by-pair i j es eo None e = refl
 
-      by-labels : (f : Found) → label_in u s ≡ f → (g : Found) → label_in u o ≡ g → modes_found u.rules (rule_between u f g) ≡ no_rule
-      by-labels (At i) es (At j) eo = by-pair i j es eo (pair_in u i j) refl
-      by-labels (At i) es Nothing eo = refl
-      by-labels Nothing es g eo = refl
+      by-labels : (f : Option ℕ) → label_in u s ≡ f → (g : Option ℕ) → label_in u o ≡ g → modes_found u.rules (rule_between u f g) ≡ no_rule
+      by-labels (Some i) es (Some j) eo = by-pair i j es eo (pair_in u i j) refl
+      by-labels (Some i) es None eo = refl
+      by-labels None es g eo = refl
 
-  new-place : pair_in u (subject_at u s o) (object_at u s o) ≡ Nothing
+  new-place : pair_in u (subject_at u s o) (object_at u s o) ≡ None
   new-place = by_case (pair_in u (subject_at u s o) (object_at u s o)) (pair_read u s o w.sane.sound ∙ new-pair)
     where
-      by_case : (f : Found) → modes_found u.rules f ≡ no_rule → f ≡ Nothing
-      by_case (At k) e = let z : ◌≡◌ {A = ℕ} 0 1 = cc in absurd (omega arith)
-      by_case Nothing e = refl
+      by_case : (f : Option ℕ) → modes_found u.rules f ≡ no_rule → f ≡ None
+      by_case (Some k) e = let z : ◌≡◌ {A = ℕ} 0 1 = cc in absurd (omega arith)
+      by_case None e = refl
 
   -- no label enters that t has not, so there is room
   still_known : all (λ (l : List ℕ). is_found (label_in t l)) (pair_labels u s o) ≡ true
@@ -224,7 +223,7 @@ module _ (t u : Table) (rs rest : List Rule) (r : Rule) (h : Sane t) (w : Loaded
         sane = paired_sane w.sane (rule_paired u (paired u s o m) s o m w.sane.sound (taken, r_known.2) (ap (judged u) (sym says) ∙ accepted));
         known = still_known;
         same =
-            ap (λ (f : Found). map (spell (paired u s o m)) (put f u.rules new)) new-place
+            ap (λ (f : Option ℕ). map (spell (paired u s o m)) (put f u.rules new)) new-place
             ∙ map_snoc (spell (paired u s o m)) u.rules new
             ∙ rw (
               map_same (sound_rule (length u.labels)) (spell (paired u s o m)) (spell u) spelled-more u.rules (sound-parts u (length u.labels) w.sane.sound).0,

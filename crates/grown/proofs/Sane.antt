@@ -11,8 +11,7 @@ use lib.ListN.{length, get_or, take, drop, take-append-drop}
 use lib.Seq.{take_at}
 use Rattle.search.specs.Search.{first, all, put}
 use Rattle.search.specs.Bytes.{same_bytes}
-use Rattle.search.specs.declared.Found.{Found}
-use Rattle.search.specs.declared.Found.TheVariants.{At, Nothing}
+use Rattle.std.proofs.Common.{Option, Some, None, Result, Ok, Err}
 use Rattle.search.proofs.Laws.{no, and_both, same_refl, same-equal, same_sym, all-at, all-put, first-is, length-put, Same, distinct_put, Front, front-more, front_length}
 use Rattle.alphabet.specs.Alphabet.{label_byte, well_formed}
 use Rattle.modes.specs.Modes.{known_modes}
@@ -21,8 +20,7 @@ use Rattle.store.specs.Table.{Table, fresh, label_in, labels_entered, enter, is_
 use Rattle.store.proofs.Laws.{sound_more}
 use Rattle.store.proofs.Pairs.{enter-front, enter-other, enter-once, enter-all}
 use Rattle.rules.specs.declared.Spot.{Spot}
-use Rattle.rules.specs.declared.Place.{Place}
-use Rattle.rules.specs.declared.Place.TheVariants as p
+use Rattle.refusals.specs.declared.Refusal.{Refusal}
 use Rattle.rules.specs.Rules.{pair_labels}
 use Rattle.rules.specs.Within.{subject_number_of, object_number_of, labels_after, rule_of_pair, placing, with_pair_at, modes_of_rule}
 use Rattle.rules.proofs.Pairs as pairs
@@ -53,7 +51,7 @@ same-pair =
     }
 
 -- labels that have the same number are the same
-pub one_label : (ls : List (List ℕ)) (x y : List ℕ) (i : ℕ) → first (same_bytes x) ls ≡ At i → first (same_bytes y) ls ≡ At i → x ≡ y
+pub one_label : (ls : List (List ℕ)) (x y : List ℕ) (i : ℕ) → first (same_bytes x) ls ≡ Some i → first (same_bytes y) ls ≡ Some i → x ≡ y
 one_label ls x y i e q =
     same-equal x (get_or ls i []) (first-is (same_bytes x) [] ls i e).1
     ∙ sym (same-equal y (get_or ls i []) (first-is (same_bytes y) [] ls i q).1)
@@ -109,10 +107,10 @@ module _ (t : Table) (s o : List ℕ) (taken : Taken s o) where
   apart : same_bytes o s ≡ false
   apart = same_sym o s ∙ taken.apart
 
-  pub subject_number : first (same_bytes s) (pair_labels t s o) ≡ At (subject_at t s o)
+  pub subject_number : first (same_bytes s) (pair_labels t s o) ≡ Some (subject_at t s o)
   subject_number = pairs.subject_number t s o taken.apart
 
-  pub object_number : first (same_bytes o) (pair_labels t s o) ≡ At (object_at t s o)
+  pub object_number : first (same_bytes o) (pair_labels t s o) ≡ Some (object_at t s o)
   object_number = pairs.object_number t s o taken.apart
 
   pub pair-length : length (pair_labels t s o) ≡ labels_after t (label_in t s) (label_in t o)
@@ -124,18 +122,18 @@ module _ (t : Table) (s o : List ℕ) (taken : Taken s o) where
   -- the two numbers differ
   pub pair-apart : subject_at t s o ≡ object_at t s o → ⊥
   pair-apart e =
-      let q = one_label (pair_labels t s o) s o (object_at t s o) (subject_number ∙ ap At e) object_number in
+      let q = one_label (pair_labels t s o) s o (object_at t s o) (subject_number ∙ ap Some e) object_number in
       no (sym taken.apart ∙ ap (λ (x : List ℕ). same_bytes x o) q ∙ same_refl o)
 
   -- what a pair with a place makes of the tables
-  pub paired_is : (m : ℕ) (spot : Spot) → placing t s o ≡ p.At spot → with_pair_at t s o spot m ≡ paired t s o m
+  pub paired_is : (m : ℕ) (spot : Spot) → placing t s o ≡ Ok spot → with_pair_at t s o spot m ≡ paired t s o m
   unfolding placing with_pair_at
   paired_is m spot e =
       let room = placed (length t.labels) (length t.rules) (label_in t s) (label_in t o) (rule_of_pair t (label_in t s) (label_in t o)) spot e in
       ap (λ (z : Spot). with_pair_at t s o z m) room.same
-      ∙ ap (λ (f : Found). record { labels = labels_entered f (enter t.labels s) o; rules = (paired t s o m).rules; mappings = t.mappings; onlycap = t.onlycap }) (sym (enter-other t.labels s o apart))
+      ∙ ap (λ (f : Option ℕ). record { labels = labels_entered f (enter t.labels s) o; rules = (paired t s o m).rules; mappings = t.mappings; onlycap = t.onlycap }) (sym (enter-other t.labels s o apart))
 
-  pub pair-room : (spot : Spot) → placing t s o ≡ p.At spot → Room (length t.labels) (length t.rules) (label_in t s) (label_in t o) (rule_of_pair t (label_in t s) (label_in t o)) spot
+  pub pair-room : (spot : Spot) → placing t s o ≡ Ok spot → Room (length t.labels) (length t.rules) (label_in t s) (label_in t o) (rule_of_pair t (label_in t s) (label_in t o)) spot
   unfolding placing
   pair-room spot e = placed (length t.labels) (length t.rules) (label_in t s) (label_in t o) (rule_of_pair t (label_in t s) (label_in t o)) spot e
 
@@ -153,7 +151,7 @@ module _ (t : Table) (s o : List ℕ) (taken : Taken s o) where
           (first-is (same_bytes o) [] (pair_labels t s o) (object_at t s o) object_number).0
           known
 
-  pub pair-sane : (m : ℕ) (spot : Spot) → Sane t → known_modes m ≡ true → placing t s o ≡ p.At spot → Sane (paired t s o m)
+  pub pair-sane : (m : ℕ) (spot : Spot) → Sane t → known_modes m ≡ true → placing t s o ≡ Ok spot → Sane (paired t s o m)
   pair-sane m spot h known e =
       let room = pair-room spot e in
       let new : Rule = record { subject = subject_at t s o; object = object_at t s o; modes = m } in
@@ -183,7 +181,7 @@ pub record Paired (t t' : Table) (s o : List ℕ) (m : ℕ) : Type 0 where
   pub taken : Taken s o
   pub known : known_modes m ≡ true
   pub spot : Spot
-  pub at : placing t s o ≡ p.At spot
+  pub at : placing t s o ≡ Ok spot
   pub is : t' ≡ paired t s o m
 
 pub paired_sane : {t t' : Table} {s o : List ℕ} {m : ℕ} → Sane t → Paired t t' s o m → Sane t'
@@ -205,19 +203,19 @@ unfolding known_modes
 modes-stored t n sound i j = by_case (pair_in t i j) (first-is (is_pair i j) (record { subject = 0; object = 0; modes = 0 }) t.rules)
   where
     by_case :
-        (f : Found) →
-        ((k : ℕ) → f ≡ At k → (k < length t.rules) × (is_pair i j (get_or t.rules k (record { subject = 0; object = 0; modes = 0 })) ≡ true)) →
+        (f : Option ℕ) →
+        ((k : ℕ) → f ≡ Some k → (k < length t.rules) × (is_pair i j (get_or t.rules k (record { subject = 0; object = 0; modes = 0 })) ≡ true)) →
         known_modes (modes_of_rule f t.rules) ≡ true
-    by_case (At k) h = (stored_known t n sound k (h k refl).0).2
-    by_case Nothing h = refl
+    by_case (Some k) h = (stored_known t n sound k (h k refl).0).2
+    by_case None h = refl
 
 -- a rule is set wholly
 pub rule_paired : (t t' : Table) (s o : List ℕ) (m : ℕ) → sound_table (length t.labels) t ≡ true → Sound (rule s o m) → judged t (rule s o m) ≡ is_accepted t' → Paired t t' s o m
 rule_paired t t' s o m sound f e = by_place (placing t s o) refl (sym (rule-at t sound s o f.0 m) ∙ e)
   where
-    by_place : (q : Place) → placing t s o ≡ q → setting_at t s o (setting.Rule m) q ≡ is_accepted t' → Paired t t' s o m
-    by_place (p.Refused n) w e = let z : ◌≡◌ {A = ℕ} 0 1 = cc in absurd (omega arith)
-    by_place (p.At spot) w e =
+    by_place : (q : Result Spot Refusal) → placing t s o ≡ q → setting_at t s o (setting.Rule m) q ≡ is_accepted t' → Paired t t' s o m
+    by_place (Err n) w e = let z : ◌≡◌ {A = ℕ} 0 1 = cc in absurd (omega arith)
+    by_place (Ok spot) w e =
         let z : with_pair_at t s o spot m ≡ t' = cc in
         record { taken = f.0; known = f.1; spot = spot; at = w; is = sym z ∙ paired_is t s o f.0 m spot w }
 
@@ -233,9 +231,9 @@ pub change_paired :
     Paired t t' s o (changed (modes_from t s o) a d)
 change_paired t t' s o a d sound f e = by_place (placing t s o) refl (sym (change-at t sound s o f.0 a d) ∙ e)
   where
-    by_place : (q : Place) → placing t s o ≡ q → setting_at t s o (setting.Change a d) q ≡ is_accepted t' → Paired t t' s o (changed (modes_from t s o) a d)
-    by_place (p.Refused n) w e = let z : ◌≡◌ {A = ℕ} 0 1 = cc in absurd (omega arith)
-    by_place (p.At spot) w e =
+    by_place : (q : Result Spot Refusal) → placing t s o ≡ q → setting_at t s o (setting.Change a d) q ≡ is_accepted t' → Paired t t' s o (changed (modes_from t s o) a d)
+    by_place (Err n) w e = let z : ◌≡◌ {A = ℕ} 0 1 = cc in absurd (omega arith)
+    by_place (Ok spot) w e =
         let z : with_pair_at t s o spot (changed (modes_of_rule spot.rule t.rules) a d) ≡ t' = cc in
         let same = (pair-room t s o f.0 spot w).same in
         record {
@@ -270,7 +268,7 @@ fresh-sane =
       onlycap = omega arith;
     }
   where
-    once : (k : ℕ) → k < 5 → label_in fresh (label_numbered fresh k) ≡ At k
+    once : (k : ℕ) → k < 5 → label_in fresh (label_numbered fresh k) ≡ Some k
     once zero h = refl
     once (suc zero) h = refl
     once (suc (suc zero)) h = refl

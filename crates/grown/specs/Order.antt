@@ -1,9 +1,8 @@
 -- Demand 2, first half: 'Without an effective override, access is granted exactly when the first of the seven published rules that applies
 -- grants it.' Assumes nothing.
-use Rattle.std.specs.Prelude.{ℕ, zero, suc, ◌<◌, ◌≤◌, Bool, true, false, ◌≡◌, List, ◌↔◌, length, get_or}
+use Rattle.std.specs.Prelude.{ℕ, zero, suc, ◌<◌, ◌≤◌, Bool, true, false, ◌≡◌, List, ◌↔◌, length, get_or, Some}
 use Rattle.alphabet.specs.Alphabet.{well_formed}
 use Rattle.modes.specs.Modes.{read_modes, request_letters}
-use Rattle.modes.specs.declared.Access.TheVariants.{Modes}
 use Rattle.store.specs.Table.{Table}
 use Rattle.access.specs.SevenRules.{Clause, clause, seven_rules, denial_number}
 use Rattle.access.specs.Access.{answer}
@@ -17,7 +16,7 @@ pub record Asks (s o request : List ℕ) (wanted : ℕ) : Type 0 where
   pub subject : well_formed s ≡ true
   pub object : well_formed o ≡ true
   pub some : length request ≡ 0 → ⊥
-  pub letters : read_modes request_letters false request ≡ Modes wanted
+  pub letters : read_modes request_letters false request ≡ Some wanted
 
 -- rule number n, from 1
 abbrev pub published_rule : List Clause → ℕ → Clause

@@ -1,12 +1,9 @@
 -- Demand 2, second half: 'Loading a well-formed triple of two different labels, within the line length and with room for it, sets that
 -- pair's modes and changes no other pair's answer.' Each part of that sentence by a name; and what it does to the label of a new object (02, Seven). Assumes
 -- nothing.
-use Rattle.std.specs.Prelude.{ℕ, ◌+◌, ◌≤◌, Bool, true, false, ◌&&◌, ◌||◌, ◌≡◌, List, [], ◌∷◌, length, leb, ltb}
-use Rattle.search.specs.declared.Found.{Found}
-use Rattle.search.specs.declared.Found.TheVariants.{At, Nothing}
+use Rattle.std.specs.Prelude.{ℕ, ◌+◌, ◌≤◌, Bool, true, false, ◌&&◌, ◌||◌, ◌≡◌, List, [], ◌∷◌, length, leb, ltb, Option, Some, None}
 use Rattle.alphabet.specs.Alphabet.{well_formed, line_limit, fields}
 use Rattle.modes.specs.Modes.{read_modes, line_letters, change_letters, stored_modes}
-use Rattle.modes.specs.declared.Access.TheVariants.{Modes}
 use Rattle.store.specs.Table.{Table, label_in, label_limit, rule_limit, sound_table}
 use Rattle.store.specs.Judged.{Judged, is_skipped, is_refused, is_accepted}
 use Rattle.access.specs.SevenRules.{rules_for, seven_rules}
@@ -28,7 +25,7 @@ pub record Triple (text s o : List ℕ) (m : ℕ) : Type 0 where
   pub subject : well_formed s ≡ true
   pub object : well_formed o ≡ true
   pub letters : ℕ
-  pub read : read_modes line_letters true access ≡ Modes letters
+  pub read : read_modes line_letters true access ≡ Some letters
   pub modes : stored_modes letters ≡ m
   pub different : s ≡ o → ⊥
 
@@ -40,14 +37,14 @@ pub record ChangeText (text s o : List ℕ) (allow deny : ℕ) : Type 0 where
   pub four : fields text ≡ s ∷ o ∷ allow_field ∷ deny_field ∷ []
   pub subject : well_formed s ≡ true
   pub object : well_formed o ≡ true
-  pub allows : read_modes change_letters true allow_field ≡ Modes allow
-  pub denies : read_modes change_letters true deny_field ≡ Modes deny
+  pub allows : read_modes change_letters true allow_field ≡ Some allow
+  pub denies : read_modes change_letters true deny_field ≡ Some deny
   pub different : s ≡ o → ⊥
 
 -- room for it: no more new labels than free label places, and the pair has a rule or fewer than 256 are stored
-abbrev pub new_labels : Found → ℕ
-new_labels (At k) = 0
-new_labels Nothing = 1
+abbrev pub new_labels : Option ℕ → ℕ
+new_labels (Some k) = 0
+new_labels None = 1
 
 abbrev pub has_rule : PairModes → Bool
 has_rule (has_modes m) = true

@@ -1,14 +1,13 @@
 -- Demand 2, last sentence: 'A listing of the rules, loaded into a fresh table, gives the same rules in the same order.' Two tables can number
 -- their labels differently, so rules are compared by their labels' bytes and their modes. Assumes nothing.
-use Rattle.std.specs.Prelude.{ℕ, zero, suc, ◌<◌, ◌≤◌, ◌≡◌, List, [], ◌∷◌, ◌++◌, map, length, take, drop}
+use Rattle.std.specs.Prelude.{ℕ, zero, suc, ◌<◌, ◌≤◌, ◌≡◌, List, [], ◌∷◌, ◌++◌, map, length, take, drop, Result, Ok, Err}
 use Rattle.refusals.specs.Refusals.{no_such_number}
 use Rattle.store.specs.declared.Rule.{Rule}
 use Rattle.store.specs.Table.{Table, fresh, label_numbered, rule_numbered}
 use Rattle.store.specs.Layout.{Store, table_of}
 use Rattle.lists.specs.Reader.{Totals, Call, piece, end_call, done, report, start_on, after_all, says_all}
 use Rattle.listing.specs.Listing.{rule_text, listing, list_answer, list_out}
-use Rattle.output.specs.declared.Output.{Output}
-use Rattle.output.specs.declared.Output.TheVariants as l
+use Rattle.refusals.specs.declared.Refusal.{Refusal}
 use Rattle.grown.specs.Grown.{Grown}
 use Rattle.rule_text.specs.RuleText.{longest_rule}
 
@@ -41,9 +40,9 @@ pub record LoadsBack (t : Table) (text : List ℕ) : Type 0 where
 -- ---- the same of what the listing call writes, which is asked for one rule at a time, by its number, and is lent a buffer
 
 -- what a call puts at the front of its buffer: as many bytes as it answers, and none where it is refused
-abbrev pub front : Output → List ℕ → List ℕ
-front (l.Length n) out = take n out
-front (l.Refused n) out = []
+abbrev pub front : Result ℕ Refusal → List ℕ → List ℕ
+front (Ok n) out = take n out
+front (Err n) out = []
 
 -- what n calls write, for the rules from number k on, one text behind the other; each call may be lent another buffer
 abbrev pub listed_by_calls : Store → (ℕ → List ℕ) → ℕ → ℕ → List ℕ
@@ -62,7 +61,7 @@ pub record ListedByNumber (st : Store) : Type 0 where
       (k : ℕ) (out : List ℕ) →
       k < length (table_of st).rules →
       length (text_numbered st k) ≤ length out →
-      list_answer st k out ≡ l.Length (length (text_numbered st k))
+      list_answer st k out ≡ Ok (length (text_numbered st k))
   pub written :
       (k : ℕ) (out : List ℕ) →
       k < length (table_of st).rules →
@@ -73,7 +72,7 @@ pub record ListedByNumber (st : Store) : Type 0 where
       (buffers : ℕ → List ℕ) →
       ((k : ℕ) → longest_rule ≤ length (buffers k)) →
       listed_by_calls st buffers 0 (length (table_of st).rules) ≡ listing (table_of st)
-  pub ends : (out : List ℕ) → list_answer st (length (table_of st).rules) out ≡ l.Refused no_such_number.number
+  pub ends : (out : List ℕ) → list_answer st (length (table_of st).rules) out ≡ Err no_such_number
   pub loads_back :
       (buffers : ℕ → List ℕ) →
       ((k : ℕ) → longest_rule ≤ length (buffers k)) →

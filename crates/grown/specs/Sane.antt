@@ -1,8 +1,7 @@
 -- What holds of every table grown from a fresh one. Of a lent state it need not hold: that can have a label, a pair or a mapping twice, a
 -- rule from a label to itself, or a mapping at level 250. Assumes nothing.
-use Rattle.std.specs.Prelude.{ℕ, ◌<◌, ◌≤◌, Bool, true, not, ◌≡◌, length, take, eqb}
+use Rattle.std.specs.Prelude.{ℕ, ◌<◌, ◌≤◌, Bool, true, not, ◌≡◌, length, take, eqb, Some}
 use Rattle.search.specs.Search.{all}
-use Rattle.search.specs.declared.Found.TheVariants.{At}
 use Rattle.alphabet.specs.Alphabet.{well_formed}
 use Rattle.numbers.specs.Categories.{is_mapping_level, InWords}
 use Rattle.store.specs.declared.Rule.{Rule}
@@ -12,7 +11,7 @@ use Rattle.store.specs.Table.{Table, fresh, label_in, pair_in, label_numbered, r
 -- every label is well formed, and none is there twice: each is found at its own number
 pub record LabelsOnce (t : Table) : Type 0 where
   pub formed : all well_formed t.labels ≡ true
-  pub label_once : (k : ℕ) → k < length t.labels → label_in t (label_numbered t k) ≡ At k
+  pub label_once : (k : ℕ) → k < length t.labels → label_in t (label_numbered t k) ≡ Some k
 
 -- 02, Five: whether a mapping's level is one that a write may give, which 250 is not
 abbrev pub at_mapping_level : Mapping → Bool
@@ -28,11 +27,11 @@ pub record Sane (t : Table) : Type 0 where
   pub labels_once : LabelsOnce t
   -- no rule is from a label to itself, and no pair has two rules: each is found at its own place
   pub two_labels_is : all two_labels t.rules ≡ true
-  pub pair_once : (k : ℕ) → k < length t.rules → pair_in t (rule_numbered t k).subject (rule_numbered t k).object ≡ At k
+  pub pair_once : (k : ℕ) → k < length t.rules → pair_in t (rule_numbered t k).subject (rule_numbered t k).object ≡ Some k
   -- every number names a stored label, and no mode or category bit is unknown
   pub sound : sound_table (length t.labels) t ≡ true
   -- no label has two mappings: each mapping is found at its own place
-  pub mapping_once : (k : ℕ) → k < length t.mappings → mapping_in t (mapping_numbered t k).label ≡ At k
+  pub mapping_once : (k : ℕ) → k < length t.mappings → mapping_in t (mapping_numbered t k).label ≡ Some k
   -- every mapping's level is 0 to 255 and not 250
   pub levels : all at_mapping_level t.mappings ≡ true
   -- every set is three words of 64 bits

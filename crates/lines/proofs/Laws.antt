@@ -13,16 +13,13 @@ use Rattle.alphabet.specs.Alphabet.{well_formed, fields, line_limit, bad_byte_in
 use Rattle.alphabet.specs.Within.{field_at, part}
 use Rattle.alphabet.proofs.Laws.{FieldFrom, in_a_row}
 use Rattle.modes.specs.Modes.{allowed_byte, modes_of, read_modes, line_letters, change_letters, known_modes, stored_modes, has_bring_up}
-use Rattle.modes.specs.declared.Access.{Access}
-use Rattle.modes.specs.declared.Access.TheVariants.{Modes, Bad}
+use Rattle.std.proofs.Common.{Option, Some, None, Result, Ok, Err}
 use Rattle.modes.proofs.Laws.{read_known, stored_known}
 use Rattle.lines.specs.Lines.{Said, skipped, refused, rule, change, rule_with, rule_by, rule_fields, rule_of, bring_up_among, bring_up_in, change_with, change_by, change_fields, change_of}
-use Rattle.lines.specs.Within.{at, span, pair, rule_said, change_said, SpanInside, RuleInside, RuleHeld, ChangeInside, labels_at, apart_at, Kind, first_at, second_at, line_at, rule_at_access, rule_at_fourth, rule_at_third, rule_kind, rule_line_at, change_at_access, change_at_fifth, change_at_fourth, change_at_third, change_kind, change_line_at}
+use Rattle.lines.specs.Within.{span, pair, rule_said, change_said, SpanInside, RuleInside, RuleHeld, ChangeInside, formed_at, same_at, labels_at, apart_at, Kind, first_at, second_at, line_at, rule_at_access, rule_at_fourth, rule_at_third, rule_kind, rule_line_at, change_at_access, change_at_fifth, change_at_fourth, change_at_third, change_kind, change_line_at}
 use Rattle.lines.specs.declared.Pair.{Pair}
 use Rattle.lines.specs.declared.RuleLine.{RuleLine}
-use Rattle.lines.specs.declared.RuleLine.TheVariants as ruled
 use Rattle.lines.specs.declared.ChangeLine.{ChangeLine}
-use Rattle.lines.specs.declared.ChangeLine.TheVariants as changed
 
 -- a field that was read stands inside the line
 pub inside : {line : List ℕ} {from start end : ℕ} → FieldFrom line from start end → SpanInside line (span start end)
@@ -31,15 +28,15 @@ inside w = record { starts = w.starts; ends = w.ends }
 -- ---- what both kinds of line share: an answer x is right of what is to be said, and a refusal is right where its number is said
 
 module _ {A : Type 0} (refuse : Refusal → A) (Right : A → Said → Type 0) (refuses : (r : Refusal) → Right (refuse r) (refused r)) (line : List ℕ) (p : Pair) (x : A) (y : Said) (right : Right x y) where
-  labels_right : Right (labels_at refuse line p x) (cond (well_formed (at line p.subject) && well_formed (at line p.object)) y (refused (bad_label_at (bad_byte_in line))))
-  labels_right = by-test (well_formed (at line p.subject) && well_formed (at line p.object))
+  labels_right : Right (labels_at refuse line p x) (cond (formed_at line p) y (refused (bad_label_at (bad_byte_in line))))
+  labels_right = by-test (formed_at line p)
     where
       by-test : (t : Bool) → Right (cond t x (refuse (bad_label_at (bad_byte_in line)))) (cond t y (refused (bad_label_at (bad_byte_in line))))
       by-test true = right
       by-test false = refuses (bad_label_at (bad_byte_in line))
 
-  apart-right : Right (apart_at refuse line p x) (cond (same_bytes (at line p.subject) (at line p.object)) (refused same_labels) y)
-  apart-right = by-test (same_bytes (at line p.subject) (at line p.object))
+  apart-right : Right (apart_at refuse line p x) (cond (same_at line p) (refused same_labels) y)
+  apart-right = by-test (same_at line p)
     where
       by-test : (t : Bool) → Right (cond t (refuse same_labels) x) (cond t (refused same_labels) y)
       by-test true = refuses same_labels
@@ -66,15 +63,15 @@ line-right k Right refuses line said none one more = by-test (ltb line_limit (le
 -- ---- a rule line
 
 -- an answer is right: it says what is to be said, and what it names is inside
-abbrev pub RightRule : List ℕ → RuleLine → Said → Type 0
+abbrev pub RightRule : List ℕ → Result (Option RuleLine) Refusal → Said → Type 0
 RightRule line x said = (rule_said line x ≡ said) × RuleInside line x
 
 -- an answer tells whether its line held b, whatever is said
-abbrev Holding : Bool → RuleLine → Said → Type 0
+abbrev Holding : Bool → Result (Option RuleLine) Refusal → Said → Type 0
 Holding b x said = RuleHeld x b
 
 module _ (line : List ℕ) where
-  rule-refuses : (r : Refusal) → RightRule line (ruled.Refused r) (refused r)
+  rule-refuses : (r : Refusal) → RightRule line (Err r) (refused r)
   rule-refuses r = (refl, tt)
 
   rule-two-labels :
@@ -86,17 +83,17 @@ module _ (line : List ℕ) where
   rule-two-labels a b c d s o =
       in_a_row (RightRule line) line d (rule_at_third line p) (λ l. rule_fields (bad_byte_in line) (part line a b ∷ part line c d ∷ l)) (rule-refuses wrong_fields)
       (λ e f x. in_a_row (RightRule line) line f (rule_at_fourth line p (span e f)) (λ l. rule_fields (bad_byte_in line) (part line a b ∷ part line c d ∷ part line e f ∷ l))
-      (labels_right ruled.Refused (RightRule line) rule-refuses line p _ _ (by-access (read_modes line_letters true (part line e f))))
+      (labels_right Err (RightRule line) rule-refuses line p _ _ (by-access (read_modes line_letters true (part line e f))))
       (λ g h y. rule-refuses wrong_fields))
     where
       p : Pair
       p = pair a b c d
 
-      by-access : (x : Access) → RightRule line (rule_at_access line p x) (rule_with (part line a b) (part line c d) x)
-      by-access (Modes m) =
-          apart-right ruled.Refused (RightRule line) rule-refuses line p (ruled.Rule p (stored_modes m) (has_bring_up m)) (rule (part line a b) (part line c d) (stored_modes m))
+      by-access : (x : Option ℕ) → RightRule line (rule_at_access line p x) (rule_with (part line a b) (part line c d) x)
+      by-access (Some m) =
+          apart-right Err (RightRule line) rule-refuses line p (Ok (Some (record { labels = p; modes = (stored_modes m); bring_up = (has_bring_up m) }))) (rule (part line a b) (part line c d) (stored_modes m))
           (refl, (s, o, stored_known m))
-      by-access Bad = rule-refuses bad_access
+      by-access None = rule-refuses bad_access
 
   pub rule-right : RightRule line (rule_line_at line) (rule_of line)
   unfolding rule_line_at rule_of
@@ -107,27 +104,27 @@ module _ (line : List ℕ) where
   unfolding read_modes
   access-held p a = by-test (all (allowed_byte line_letters true) a)
     where
-      by-test : (t : Bool) → RuleHeld (rule_at_access line p (cond t (Modes (modes_of a)) Bad)) (has_bring_up (modes_of a))
-      by-test true = apart-right ruled.Refused (Holding (has_bring_up (modes_of a))) (λ r. tt) line p (ruled.Rule p (stored_modes (modes_of a)) (has_bring_up (modes_of a))) skipped refl
+      by-test : (t : Bool) → RuleHeld (rule_at_access line p (cond t (Some (modes_of a)) None)) (has_bring_up (modes_of a))
+      by-test true = apart-right Err (Holding (has_bring_up (modes_of a))) (λ r. tt) line p (Ok (Some (record { labels = p; modes = (stored_modes (modes_of a)); bring_up = (has_bring_up (modes_of a)) }))) skipped refl
       by-test false = tt
 
   pub rule-held : RuleHeld (rule_line_at line) (bring_up_in line)
   unfolding rule_line_at bring_up_in
   rule-held = by-test (ltb line_limit (length line))
     where
-      by-test : (t : Bool) → RuleHeld (cond t (ruled.Refused too_long) (first_at rule_kind line (field_at line 0))) (bring_up_among (fields line))
+      by-test : (t : Bool) → RuleHeld (cond t (Err too_long) (first_at rule_kind line (field_at line 0))) (bring_up_among (fields line))
       by-test true = tt
       by-test false =
           in_a_row RuleHeld line 0 (first_at rule_kind line) bring_up_among tt
           (λ a b s. in_a_row RuleHeld line b (second_at rule_kind line a b) (λ l. bring_up_among (part line a b ∷ l)) tt
           (λ c d o. in_a_row RuleHeld line d (rule_at_third line (pair a b c d)) (λ l. bring_up_among (part line a b ∷ part line c d ∷ l)) tt
           (λ e f x. in_a_row RuleHeld line f (rule_at_fourth line (pair a b c d) (span e f)) (λ l. bring_up_among (part line a b ∷ part line c d ∷ part line e f ∷ l))
-          (labels_right ruled.Refused (Holding (has_bring_up (modes_of (part line e f)))) (λ r. tt) line (pair a b c d) (rule_at_access line (pair a b c d) (read_modes line_letters true (part line e f))) skipped (access-held (pair a b c d) (part line e f)))
+          (labels_right Err (Holding (has_bring_up (modes_of (part line e f)))) (λ r. tt) line (pair a b c d) (rule_at_access line (pair a b c d) (read_modes line_letters true (part line e f))) skipped (access-held (pair a b c d) (part line e f)))
           (λ g h y. tt))))
 
   -- the answer meets its contract
   pub rule_meets :
-      (x : RuleLine) → line_at rule_kind line ≡ x →
+      (x : Result (Option RuleLine) Refusal) → line_at rule_kind line ≡ x →
       (x ≡ rule_line_at line) × ((rule_said line x ≡ rule_of line) × (RuleInside line x × RuleHeld x (bring_up_in line)))
   unfolding rule_line_at
   rule_meets x e = rw (← e) (refl, (rule-right.0, (rule-right.1, rule-held)))
@@ -138,11 +135,11 @@ change-known : known_modes change_letters ≡ true
 unfolding known_modes
 change-known = refl
 
-abbrev pub RightChange : List ℕ → ChangeLine → Said → Type 0
+abbrev pub RightChange : List ℕ → Result ChangeLine Refusal → Said → Type 0
 RightChange line x said = (change_said line x ≡ said) × ChangeInside line x
 
 module _ (line : List ℕ) where
-  change-refuses : (r : Refusal) → RightChange line (changed.Refused r) (refused r)
+  change-refuses : (r : Refusal) → RightChange line (Err r) (refused r)
   change-refuses r = (refl, tt)
 
   change-two-labels :
@@ -155,7 +152,7 @@ module _ (line : List ℕ) where
       in_a_row (RightChange line) line d (change_at_third line p) (λ l. change_fields (bad_byte_in line) (part line a b ∷ part line c d ∷ l)) (change-refuses wrong_fields)
       (λ e f x. in_a_row (RightChange line) line f (change_at_fourth line p (span e f)) (λ l. change_fields (bad_byte_in line) (part line a b ∷ part line c d ∷ part line e f ∷ l)) (change-refuses wrong_fields)
       (λ g h y. in_a_row (RightChange line) line h (change_at_fifth line p (span e f) (span g h)) (λ l. change_fields (bad_byte_in line) (part line a b ∷ part line c d ∷ part line e f ∷ part line g h ∷ l))
-      (labels_right changed.Refused (RightChange line) change-refuses line p _ _
+      (labels_right Err (RightChange line) change-refuses line p _ _
       (by-access (read_modes change_letters true (part line e f)) (read_known change_letters true change-known (part line e f))
       (read_modes change_letters true (part line g h)) (read_known change_letters true change-known (part line g h))))
       (λ i j z. change-refuses wrong_fields)))
@@ -164,23 +161,23 @@ module _ (line : List ℕ) where
       p = pair a b c d
 
       by-access :
-          (x : Access) →
-          ((m : ℕ) → x ≡ Modes m → known_modes m ≡ true) →
-          (y : Access) →
-          ((n : ℕ) → y ≡ Modes n → known_modes n ≡ true) →
+          (x : Option ℕ) →
+          ((m : ℕ) → x ≡ Some m → known_modes m ≡ true) →
+          (y : Option ℕ) →
+          ((n : ℕ) → y ≡ Some n → known_modes n ≡ true) →
           RightChange line (change_at_access line p x y) (change_with (part line a b) (part line c d) x y)
-      by-access (Modes m) i (Modes n) j =
-          apart-right changed.Refused (RightChange line) change-refuses line p (changed.Change p m n) (change (part line a b) (part line c d) m n)
+      by-access (Some m) i (Some n) j =
+          apart-right Err (RightChange line) change-refuses line p (Ok (record { labels = p; allow = m; deny = n })) (change (part line a b) (part line c d) m n)
           (refl, (s, o, i m refl, j n refl))
-      by-access (Modes m) i Bad j = change-refuses bad_access
-      by-access Bad i y j = change-refuses bad_access
+      by-access (Some m) i None j = change-refuses bad_access
+      by-access None i y j = change-refuses bad_access
 
   pub change-right : RightChange line (change_line_at line) (change_of line)
   unfolding change_line_at change_of
   change-right = line-right change_kind (RightChange line) change-refuses line (change_fields (bad_byte_in line)) (refl, tt) (λ s. change-refuses wrong_fields) change-two-labels
 
   -- the answer meets its contract
-  pub change_meets : (x : ChangeLine) → line_at change_kind line ≡ x → (x ≡ change_line_at line) × RightChange line x (change_of line)
+  pub change_meets : (x : Result ChangeLine Refusal) → line_at change_kind line ≡ x → (x ≡ change_line_at line) × RightChange line x (change_of line)
   unfolding change_line_at
   change_meets x e = rw (← e) (refl, change-right)
 
@@ -231,9 +228,9 @@ rule-fields-sound place (s ∷ o ∷ []) = tt
 rule-fields-sound place (s ∷ o ∷ a ∷ []) =
     formed_or s o (rule_with s o (read_modes line_letters true a)) (bad_label_at place) (by-access (read_modes line_letters true a))
   where
-    by-access : (x : Access) → well_formed s ≡ true → well_formed o ≡ true → Sound (rule_with s o x)
-    by-access (Modes m) e i = taken_or s o (rule s o (stored_modes m)) (λ t. (t, stored_known m)) e i
-    by-access Bad e i = tt
+    by-access : (x : Option ℕ) → well_formed s ≡ true → well_formed o ≡ true → Sound (rule_with s o x)
+    by-access (Some m) e i = taken_or s o (rule s o (stored_modes m)) (λ t. (t, stored_known m)) e i
+    by-access None e i = tt
 rule-fields-sound place (s ∷ o ∷ a ∷ x ∷ more) = tt
 
 pub rule-sound : (line : List ℕ) → Sound (rule_of line)
@@ -251,16 +248,16 @@ change-fields-sound place (s ∷ o ∷ a ∷ d ∷ []) =
     (by-access (read_modes change_letters true a) (read_known change_letters true change-known a) (read_modes change_letters true d) (read_known change_letters true change-known d))
   where
     by-access :
-        (x : Access) →
-        ((m : ℕ) → x ≡ Modes m → known_modes m ≡ true) →
-        (y : Access) →
-        ((n : ℕ) → y ≡ Modes n → known_modes n ≡ true) →
+        (x : Option ℕ) →
+        ((m : ℕ) → x ≡ Some m → known_modes m ≡ true) →
+        (y : Option ℕ) →
+        ((n : ℕ) → y ≡ Some n → known_modes n ≡ true) →
         well_formed s ≡ true →
         well_formed o ≡ true →
         Sound (change_with s o x y)
-    by-access (Modes m) h (Modes n) k e i = taken_or s o (change s o m n) (λ t. (t, h m refl, k n refl)) e i
-    by-access (Modes m) h Bad k e i = tt
-    by-access Bad h y k e i = tt
+    by-access (Some m) h (Some n) k e i = taken_or s o (change s o m n) (λ t. (t, h m refl, k n refl)) e i
+    by-access (Some m) h None k e i = tt
+    by-access None h y k e i = tt
 change-fields-sound place (s ∷ o ∷ a ∷ d ∷ x ∷ more) = tt
 
 pub change-sound : (line : List ℕ) → Sound (change_of line)

@@ -1,13 +1,11 @@
 -- 01, Rule text and Single writes, and 02, Six: what a line of rule text and a change-rule write say by their bytes alone, with refusals 1 to 5 in
 -- their order; and whether a line held the retired letter b. Assumes nothing.
-use Rattle.std.specs.Prelude.{ℕ, Bool, true, false, cond, ◌&&◌, List, [], ◌∷◌, length, ltb}
+use Rattle.std.specs.Prelude.{ℕ, Bool, true, false, cond, ◌&&◌, List, [], ◌∷◌, length, ltb, Option, Some, None}
 use Rattle.search.specs.Bytes.{same_bytes}
 use Rattle.refusals.specs.Refusals.{too_long, wrong_fields, bad_label_at, bad_access, same_labels}
 use Rattle.refusals.specs.declared.Refusal.{Refusal}
 use Rattle.alphabet.specs.Alphabet.{well_formed, line_limit, fields, bad_byte_in}
 use Rattle.modes.specs.Modes.{read_modes, modes_of, line_letters, change_letters, stored_modes, has_bring_up}
-use Rattle.modes.specs.declared.Access.{Access}
-use Rattle.modes.specs.declared.Access.TheVariants.{Modes, Bad}
 
 -- ---- a line of rule text: subject, object, access
 
@@ -20,9 +18,9 @@ pub data Said : Type 0 where
   change : List ℕ → List ℕ → ℕ → ℕ → Said
 
 -- the access field has a byte not allowed there, then subject equals object; a b in it is a placeholder (02, Six)
-abbrev pub rule_with : List ℕ → List ℕ → Access → Said
-rule_with s o Bad = refused bad_access
-rule_with s o (Modes m) = cond (same_bytes s o) (refused same_labels) (rule s o (stored_modes m))
+abbrev pub rule_with : List ℕ → List ℕ → Option ℕ → Said
+rule_with s o None = refused bad_access
+rule_with s o (Some m) = cond (same_bytes s o) (refused same_labels) (rule s o (stored_modes m))
 
 -- before these, a label is not well formed; with the place of the first bad byte in the line (02, Three)
 unfoldable pub rule_by : ℕ → List ℕ → List ℕ → List ℕ → Said
@@ -53,10 +51,10 @@ bring_up_in line = bring_up_among (fields line)
 
 -- ---- a change-rule write: subject, object, allow, deny
 
-abbrev pub change_with : List ℕ → List ℕ → Access → Access → Said
-change_with s o Bad d = refused bad_access
-change_with s o (Modes a) Bad = refused bad_access
-change_with s o (Modes a) (Modes d) = cond (same_bytes s o) (refused same_labels) (change s o a d)
+abbrev pub change_with : List ℕ → List ℕ → Option ℕ → Option ℕ → Said
+change_with s o None d = refused bad_access
+change_with s o (Some a) None = refused bad_access
+change_with s o (Some a) (Some d) = cond (same_bytes s o) (refused same_labels) (change s o a d)
 
 unfoldable pub change_by : ℕ → List ℕ → List ℕ → List ℕ → List ℕ → Said
 change_by place s o a d =

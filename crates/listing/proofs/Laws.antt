@@ -13,7 +13,7 @@ use Rattle.refusals.specs.Refusals.{damaged, no_such_number}
 use Rattle.refusals.specs.declared.Refusal.{Refusal}
 use Rattle.modes.specs.Modes.{modes_text}
 use Rattle.store.specs.declared.Rule.{Rule}
-use Rattle.store.specs.declared.Done.TheVariants as d
+use Rattle.std.proofs.Common.{Ok, Err}
 use Rattle.store.specs.Table.{sound_rule, sound_table, label_numbered, rule_numbered}
 use Rattle.store.specs.Layout.{Store, label_at, rule_at, table_of, undamaged_of, held}
 use Rattle.store.proofs.Laws.{Undamaged, undamaged-is, is-undamaged}
@@ -83,15 +83,15 @@ module _ (s : Store) (u : Undamaged s) (k : ℕ) (h : k < get_or s.words 1 0) wh
 
 module _ (s : Store) (k : ℕ) where
   -- done: the store is undamaged, and has a label of that number
-  pub label-done : label_answer s k ≡ d.Done → Undamaged s × (k < get_or s.words 0 0)
+  pub label-done : label_answer s k ≡ Ok tt → Undamaged s × (k < get_or s.words 0 0)
   unfolding label_answer
   label-done e = by-damage (undamaged_of s) refl e
     where
-      by_number : (b : Bool) → ltb k (length (table_of s).labels) ≡ b → undamaged_of s ≡ true → cond b d.Done (d.Refused no_such_number) ≡ d.Done → Undamaged s × (k < get_or s.words 0 0)
+      by_number : (b : Bool) → ltb k (length (table_of s).labels) ≡ b → undamaged_of s ≡ true → cond b (Ok (tt {0})) (Err no_such_number) ≡ Ok (tt {0}) → Undamaged s × (k < get_or s.words 0 0)
       by_number true h q e = (undamaged-is s q, omega (arith, ltb-true k (length (table_of s).labels) h, entries-length (label_at s.labels) (get_or s.words 0 0)))
       by_number false h q e = let z : ◌≡◌ {A = ℕ} 0 1 = cc in absurd (omega arith)
 
-      by-damage : (b : Bool) → undamaged_of s ≡ b → cond b (cond (ltb k (length (table_of s).labels)) d.Done (d.Refused no_such_number)) (d.Refused damaged) ≡ d.Done → Undamaged s × (k < get_or s.words 0 0)
+      by-damage : (b : Bool) → undamaged_of s ≡ b → cond b (cond (ltb k (length (table_of s).labels)) (Ok (tt {0})) (Err no_such_number)) (Err damaged) ≡ Ok (tt {0}) → Undamaged s × (k < get_or s.words 0 0)
       by-damage true q e = by_number (ltb k (length (table_of s).labels)) refl q e
       by-damage false q e = let z : ◌≡◌ {A = ℕ} 0 1 = cc in absurd (omega arith)
 
@@ -100,14 +100,14 @@ module _ (s : Store) (k : ℕ) where
   label_is u h = rw (is-undamaged s u) (sym (entries_at (label_at s.labels) [] (get_or s.words 0 0) k h))
 
   -- refused: an empty part
-  pub label-refused : (j : Refusal) → label_answer s k ≡ d.Refused j → [] ≡ label_given s k
+  pub label-refused : (j : Refusal) → label_answer s k ≡ Err j → [] ≡ label_given s k
   unfolding label_answer label_given
   label-refused j e = by-damage (undamaged_of s) e
     where
-      by_number : (b : Bool) → ltb k (length (table_of s).labels) ≡ b → cond b d.Done (d.Refused no_such_number) ≡ d.Refused j → [] ≡ label_numbered (table_of s) k
+      by_number : (b : Bool) → ltb k (length (table_of s).labels) ≡ b → cond b (Ok (tt {0})) (Err no_such_number) ≡ Err j → [] ≡ label_numbered (table_of s) k
       by_number true h e = let z : ◌≡◌ {A = ℕ} 0 1 = cc in absurd (omega arith)
       by_number false h e = sym (get_or-eq_default (table_of s).labels [] {n = k} (ltb-false _ _ h))
 
-      by-damage : (b : Bool) → cond b (cond (ltb k (length (table_of s).labels)) d.Done (d.Refused no_such_number)) (d.Refused damaged) ≡ d.Refused j → [] ≡ cond b (label_numbered (table_of s) k) []
+      by-damage : (b : Bool) → cond b (cond (ltb k (length (table_of s).labels)) (Ok (tt {0})) (Err no_such_number)) (Err damaged) ≡ Err j → [] ≡ cond b (label_numbered (table_of s) k) []
       by-damage true e = by_number (ltb k (length (table_of s).labels)) refl e
       by-damage false e = refl

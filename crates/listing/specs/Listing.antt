@@ -1,14 +1,12 @@
 -- 01, Listing: a rule given by its number as a line of text, a label given by its number, and the whole listing of a table. Assumes nothing.
-use Rattle.std.specs.Prelude.{ℕ, cond, List, [], ◌∷◌, ◌++◌, length, ltb}
+use Rattle.std.specs.Prelude.{ℕ, cond, List, [], ◌∷◌, ◌++◌, length, ltb, Result, Ok, Err}
 use Rattle.refusals.specs.Refusals.{damaged, no_such_number}
 use Rattle.modes.specs.Modes.{modes_text}
 use Rattle.store.specs.declared.Rule.{Rule}
 use Rattle.places.specs.Places.{label_start}
-use Rattle.store.specs.declared.Done.{Done}
-use Rattle.store.specs.declared.Done.TheVariants as d
+use Rattle.refusals.specs.declared.Refusal.{Refusal}
 use Rattle.store.specs.Table.{Table, label_numbered, rule_numbered}
 use Rattle.store.specs.Layout.{Store, table_of, undamaged_of}
-use Rattle.output.specs.declared.Output.{Output}
 use Rattle.output.specs.Output.{Text, text, refused, text_answer, text_out}
 use Rattle.rule_text.specs.RuleText.{text_of}
 
@@ -26,10 +24,10 @@ listing t = texts_of t t.rules
 
 -- rule number k as text; refused where there is no rule of that number
 unfoldable pub rule_given : Table → ℕ → Text
-rule_given t k = cond (ltb k (length t.rules)) (text (rule_text t (rule_numbered t k))) (refused no_such_number.number)
+rule_given t k = cond (ltb k (length t.rules)) (text (rule_text t (rule_numbered t k))) (refused no_such_number)
 
 -- the answer, and the lent output afterwards
-abbrev pub list_rule : Table → ℕ → List ℕ → Output
+abbrev pub list_rule : Table → ℕ → List ℕ → Result ℕ Refusal
 list_rule t k out = text_answer (rule_given t k) out
 
 abbrev pub list_rule_out : Table → ℕ → List ℕ → List ℕ
@@ -37,9 +35,9 @@ list_rule_out t k out = text_out (rule_given t k) out
 
 -- of a lent state: the refusal of a damaged one comes before every other
 abbrev pub list_given : Store → ℕ → Text
-list_given st k = cond (undamaged_of st) (rule_given (table_of st) k) (refused damaged.number)
+list_given st k = cond (undamaged_of st) (rule_given (table_of st) k) (refused damaged)
 
-unfoldable pub list_answer : Store → ℕ → List ℕ → Output
+unfoldable pub list_answer : Store → ℕ → List ℕ → Result ℕ Refusal
 list_answer st k out = text_answer (list_given st k) out
 
 unfoldable pub list_out : Store → ℕ → List ℕ → List ℕ
@@ -49,10 +47,10 @@ list_out st k out = text_out (list_given st k) out
 unfoldable pub label_given : Store → ℕ → List ℕ
 label_given st k = cond (undamaged_of st) (label_numbered (table_of st) k) []
 
-unfoldable pub label_answer : Store → ℕ → Done
-label_answer st k = cond (undamaged_of st) (cond (ltb k (length (table_of st).labels)) d.Done (d.Refused no_such_number)) (d.Refused damaged)
+unfoldable pub label_answer : Store → ℕ → Result (Unit {0}) Refusal
+label_answer st k = cond (undamaged_of st) (cond (ltb k (length (table_of st).labels)) (Ok tt) (Err no_such_number)) (Err damaged)
 
 -- where the part of the label store that is answered begins: behind the label's length; on a refusal it is empty, and begins where the store does
-abbrev pub label_from : Done → ℕ → ℕ
-label_from d.Done k = label_start k
-label_from (d.Refused n) k = 0
+abbrev pub label_from : Result (Unit {0}) Refusal → ℕ → ℕ
+label_from (Ok tt) k = label_start k
+label_from (Err n) k = 0

@@ -3,43 +3,43 @@
 
 ghost use Rattle.std.specs.Prelude.{◌≡◌};
 ghost use Rattle.store.specs.Layout.{store};
+ghost use Rattle.store.specs.LentWithin.{lent};
 ghost use Rattle.places.specs.Places.{PartFrom};
 ghost use Rattle.listing.specs.Listing.{list_answer, list_out, label_given, label_answer, label_from};
 
-use output::Output;
-use store::Done;
+use refusals::Refusal;
+use store::Lent;
 
 // Rule number k as text.
-pub fn list_rule(labels: &[u8], entries: &[u8], words: &[u64], k: usize, out: &mut [u8]) -> Output
-    ensures value { result ≡ list_answer (store labels.now entries.now words.now) k out.old }
-    ensures out_after { out.new ≡ list_out (store labels.now entries.now words.now) k out.old }
+pub fn list_rule(state: Lent, k: usize, out: &mut [u8]) -> Result<usize, Refusal>
+    ensures value { result ≡ list_answer (lent state.entry) k out.old }
+    ensures out_after { out.new ≡ list_out (lent state.entry) k out.old }
 {
-    if !damage::undamaged(labels, entries, words) {
-        return Output::Refused(refusals::DAMAGED.number);
-    }
-    let rules = words[store::RULE_COUNT] as usize;
+    damage::check(state)?;
+    let rules = state.words[store::RULE_COUNT] as usize;
     if rules <= k {
-        return Output::Refused(refusals::NO_SUCH_NUMBER.number);
+        return Err(Refusal::NoSuchNumber);
     }
-    let subject = places::label_at(labels, entries[k] as usize);
-    let object = places::label_at(labels, entries[store::OBJECTS_FROM + k] as usize);
+    let subject = places::label_at(state.labels, state.entries[k] as usize);
+    let object = places::label_at(
+        state.labels,
+        state.entries[store::OBJECTS_FROM + k] as usize,
+    );
     let mut text = [0u8; 5];
-    let n = modes::write_modes(&mut text, 0, entries[store::MODES_FROM + k]);
+    let n = modes::write_modes(&mut text, 0, state.entries[store::MODES_FROM + k]);
     rule_text::put_text(out, subject, object, &text[0..n])
 }
 
 // What `label_by_number` does: done, or its refusal.
-pub fn label_check(labels: &[u8], entries: &[u8], words: &[u64], k: usize) -> Done
-    ensures { result ≡ label_answer (store labels.now entries.now words.now) k }
+pub fn label_check(state: Lent, k: usize) -> Result<(), Refusal>
+    ensures { result ≡ label_answer (lent state.entry) k }
 {
-    if !damage::undamaged(labels, entries, words) {
-        return Done::Refused(refusals::DAMAGED);
-    }
-    let stored = words[store::LABEL_COUNT] as usize;
+    damage::check(state)?;
+    let stored = state.words[store::LABEL_COUNT] as usize;
     if stored <= k {
-        return Done::Refused(refusals::NO_SUCH_NUMBER);
+        return Err(Refusal::NoSuchNumber);
     }
-    Done::Done
+    Ok(())
 }
 
 // The very part of the label store that holds label k, or an empty part of it on a refusal.
@@ -52,9 +52,14 @@ pub fn label_by_number<'a, 'b, 'c>(
     ensures bytes { result.now ≡ label_given (store labels.now entries.now words.now) k }
     ensures part_from { PartFrom result labels.entry (label_from (label_answer (store labels.now entries.now words.now) k) k) }
 {
-    let answer = label_check(labels, entries, words, k);
+    let state = Lent {
+        labels,
+        entries,
+        words,
+    };
+    let answer = label_check(state, k);
     match answer {
-        Done::Refused(_) => &labels[0..0],
-        Done::Done => places::label_at(labels, k),
+        Err(_) => &labels[0..0],
+        Ok(()) => places::label_at(labels, k),
     }
 }

@@ -10,14 +10,15 @@ use lib.Dec.{ltb, eqb}
 use borrow.Author.Tests.{eqb-true, eqb-false, eq-eqb, ne_eqb, lt-ltb, le-ltb, ltb-true, ltb-false}
 use lib.ListN.{length, take, set, length-set, length-append}
 use lib.Seq.{take_all, take-suc-set, take-append-le}
-use Rattle.refusals.specs.Refusals.{too_long}
+use Rattle.std.proofs.Common.{Result, Err}
+use Rattle.refusals.specs.declared.Refusal.{Refusal}
+use Rattle.refusals.specs.Refusals.{number_of, place_of, too_long}
 use Rattle.store.specs.Table.{Table}
 use Rattle.store.specs.Layout.{Store, table_of, undamaged_of}
 use Rattle.lines.specs.Lines.{rule_of, refused, bring_up_in}
 use Rattle.writes.specs.Writes.{judged, outcome_of, line_outcome, line_stored}
 use Rattle.store.specs.Judged.{Judged, is_skipped, is_refused, is_accepted, table_after}
 use Rattle.writes.specs.declared.Outcome.{Outcome}
-use Rattle.writes.specs.declared.Outcome.TheVariants as v
 use Rattle.writes.proofs.Laws.{line-table}
 use Rattle.lists.specs.Reader.{Totals, counted, Reader, start_on, end_line, take_byte, take_piece, finish, limited}
 use Rattle.reports.specs.declared.Report.{Report}
@@ -106,8 +107,8 @@ count_follows l c held (is_refused r) s =
       skipped = s.skipped;
       refused = more-limited _ _ s.refused;
       first = rw z (same_first (eqb c.refused 0) (more l.lines) (c.lines + 1) l.first c.first (more-limited _ _ s.lines) s.first);
-      reason = rw z (same_either (eqb c.refused 0) r.number s.reason);
-      place = rw z (same_either (eqb c.refused 0) r.place s.place);
+      reason = rw z (same_either (eqb c.refused 0) (number_of r) s.reason);
+      place = rw z (same_either (eqb c.refused 0) (place_of r) s.place);
       bringup = s.bringup;
     }
 
@@ -125,7 +126,7 @@ unfolding rule_of
 too_long_lem kept h = rw (lt-ltb 600 (length kept) h)
 
 end-parts :
-    (s : Load) (p : Reader) (st : Store) (q : Outcome) (j : Judged) →
+    (s : Load) (p : Reader) (st : Store) (q : Result Outcome Refusal) (j : Judged) →
     Ready (load st s.line (count s.loader q)) →
     table_of st ≡ table_after p.table j →
     q ≡ outcome_of (bring_up_in p.kept) j →
@@ -153,16 +154,16 @@ end_follows s p h = by-test (ltb 600 s.loader.kept) refl (ready-end s h.ready)
         ltb 600 s.loader.kept ≡ b →
         Ready
         (cond b
-        (load s.store s.line (count s.loader (v.Refused too_long)))
+        (load s.store s.line (count s.loader (Err too_long)))
         (load (line_stored s.store (take s.loader.kept s.line)) s.line (count s.loader (line_outcome s.store (take s.loader.kept s.line))))) →
         Holds
         (cond b
-        (load s.store s.line (count s.loader (v.Refused too_long)))
+        (load s.store s.line (count s.loader (Err too_long)))
         (load (line_stored s.store (take s.loader.kept s.line)) s.line (count s.loader (line_outcome s.store (take s.loader.kept s.line)))))
         (end_line p)
     by-test true e r =
         let z : 600 < length p.kept = omega (arith, ltb-true 600 s.loader.kept e, h.line.size) in
-        end-parts s p s.store (v.Refused too_long) (is_refused too_long) r h.table refl (sym (ap (λ said. judged p.table said) (too_long_lem p.kept z))) h
+        end-parts s p s.store (Err too_long) (is_refused too_long) r h.table refl (sym (ap (λ said. judged p.table said) (too_long_lem p.kept z))) h
     by-test false e r =
         let text = take s.loader.kept s.line in
         let same : text ≡ p.kept = whole-line s.line s.loader.kept p.kept h.line (ltb-false 600 s.loader.kept e) in

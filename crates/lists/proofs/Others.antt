@@ -5,26 +5,21 @@ use mathlib.Core.Bool.{Bool, true, false, cond}
 use mathlib.Core.List.{List}
 use lib.Dec.{ltb}
 use lib.ListN.{length}
-use Rattle.refusals.specs.Refusals.{damaged, no_such_number, plain}
+use Rattle.refusals.specs.Refusals.{told, damaged, no_such_number, plain}
 use Rattle.numbers.specs.declared.CategorySet.{CategorySet}
-use Rattle.store.specs.declared.Done.TheVariants as d
+use Rattle.std.proofs.Common.{Ok, Err}
 use Rattle.store.specs.Table.{Table, label_numbered}
 use Rattle.store.specs.Layout.{Store, store, table_of, undamaged_of}
 use Rattle.store.specs.Judged.{on_state}
 use Rattle.writes.specs.Writes.{change_answer, change_store}
 use Rattle.revoke.specs.Revoke.{revoke_answer, revoke_store}
-use Rattle.revoke.specs.declared.Revoked.TheVariants as v
 use Rattle.onlycap.specs.Onlycap.{onlycap_answer, onlycap_store}
 use Rattle.cipso.specs.Cipso.{map_answer, map_stored}
 use Rattle.lookups.specs.Lookups.{by_label_of, by_level_of}
-use Rattle.lookups.specs.declared.Lookup.TheVariants as lookup
-use Rattle.lookups.specs.declared.Label.TheVariants as label
 use Rattle.listing.specs.Listing.{list_answer, list_out, label_given, label_answer}
 use Rattle.cipso_option.specs.Option.{option_given, option_answer, option_out, not_read, peer_given, peer_shown}
-use Rattle.output.specs.declared.Output.TheVariants as listed
 use Rattle.access.specs.Access.{question_of}
 use Rattle.new_object.specs.NewObject.{object_label_of}
-use Rattle.new_object.specs.declared.ObjectLabel.TheVariants as object-label
 use Rattle.answers.specs.Answers.{shown}
 use Rattle.access.specs.declared.Answer.TheVariants as a
 use Rattle.load.specs.Loader.{Load, load}
@@ -112,7 +107,7 @@ module _ (st : Store) (u : undamaged_of st ≡ true) where
   unfolding label_answer
   check_says k = rw u (by-test (ltb k (length (table_of st).labels)))
     where
-      by-test : (b : Bool) → done_reply (cond b d.Done (d.Refused no_such_number)) ≡ cond b r.done (r.refusal no_such_number)
+      by-test : (b : Bool) → done_reply (cond b (Ok tt) (Err no_such_number)) ≡ cond b r.done (r.refusal (told no_such_number))
       by-test true = refl
       by-test false = refl
 
@@ -122,8 +117,8 @@ module _ (st : Store) (u : undamaged_of st ≡ true) where
     where
       by-test :
           (b : Bool) →
-          cond (part_shown k n (cond b d.Done (d.Refused no_such_number))).refused (r.refusal (plain (part_shown k n (cond b d.Done (d.Refused no_such_number))).number)) (r.label_is (label_numbered (table_of st) k))
-          ≡ cond b (r.label_is (label_numbered (table_of st) k)) (r.refusal no_such_number)
+          cond (part_shown k n (cond b (Ok tt) (Err no_such_number))).refused (r.refusal (plain (part_shown k n (cond b (Ok tt) (Err no_such_number))).number)) (r.label_is (label_numbered (table_of st) k))
+          ≡ cond b (r.label_is (label_numbered (table_of st) k)) (r.refusal (told no_such_number))
       by-test true = refl
       by-test false = refl
 
@@ -137,19 +132,19 @@ module _ (st : Store) (u : undamaged_of st ≡ false) where
   write_refused (r.onlycap text) = rw u
   write_refused (r.mapping text) = rw u
 
-  pub change-refused : (text : List ℕ) → change_answer st text ≡ d.Refused damaged
+  pub change-refused : (text : List ℕ) → change_answer st text ≡ Err damaged
   unfolding change_answer on_state
   change-refused text = rw u
 
-  pub revoke-refused : (l : List ℕ) → revoke_answer st l ≡ v.Refused damaged
+  pub revoke-refused : (l : List ℕ) → revoke_answer st l ≡ Err damaged
   unfolding revoke_answer on_state
   revoke-refused l = rw u
 
-  pub onlycap-refused : (text : List ℕ) → onlycap_answer st text ≡ d.Refused damaged
+  pub onlycap-refused : (text : List ℕ) → onlycap_answer st text ≡ Err damaged
   unfolding onlycap_answer on_state
   onlycap-refused text = rw u
 
-  pub mapping-refused : (text : List ℕ) → map_answer st text ≡ d.Refused damaged
+  pub mapping-refused : (text : List ℕ) → map_answer st text ≡ Err damaged
   unfolding map_answer on_state
   mapping-refused text = rw u
 
@@ -157,33 +152,33 @@ module _ (st : Store) (u : undamaged_of st ≡ false) where
   unfolding question_of
   question-refused x o request capable = rw u
 
-  pub by-label-refused : (l : List ℕ) → by_label_of st l ≡ lookup.Refused damaged
+  pub by-label-refused : (l : List ℕ) → by_label_of st l ≡ Err damaged
   unfolding by_label_of
   by-label-refused l = rw u
 
-  pub by-level-refused : (level : ℕ) (set : CategorySet) → by_level_of st level set ≡ label.Refused 0
+  pub by-level-refused : (level : ℕ) (set : CategorySet) → by_level_of st level set ≡ Err damaged
   unfolding by_level_of
   by-level-refused level set = rw u
 
-  pub option_refused : (l out : List ℕ) → (option_answer st l out ≡ listed.Refused 0) × (option_out st l out ≡ out)
+  pub option_refused : (l out : List ℕ) → (option_answer st l out ≡ Err damaged) × (option_out st l out ≡ out)
   unfolding option_answer option_out option_given
   option_refused l out = (rw u, rw u)
 
-  pub peer_refused : (option : List ℕ) → peer_given st option ≡ not_read 0
+  pub peer_refused : (option : List ℕ) → peer_given st option ≡ not_read damaged
   unfolding peer_given
   peer_refused option = rw u
 
-  pub object-refused : (creator folder : List ℕ) (folder_transmutes is_folder : Bool) → object_label_of st creator folder folder_transmutes is_folder ≡ object-label.Refused 0
+  pub object-refused : (creator folder : List ℕ) (folder_transmutes is_folder : Bool) → object_label_of st creator folder folder_transmutes is_folder ≡ Err damaged
   unfolding object_label_of
   object-refused creator folder folder_transmutes is_folder = rw u
 
-  pub list_refused : (k : ℕ) (out : List ℕ) → (list_answer st k out ≡ listed.Refused 0) × (list_out st k out ≡ out)
+  pub list_refused : (k : ℕ) (out : List ℕ) → (list_answer st k out ≡ Err damaged) × (list_out st k out ≡ out)
   unfolding list_answer list_out
   list_refused k out = (rw u, rw u)
 
-  pub check_refused : (k : ℕ) → label_answer st k ≡ d.Refused damaged
+  pub check_refused : (k : ℕ) → label_answer st k ≡ Err damaged
   unfolding label_answer
   check_refused k = rw u
 
-  pub label-refused : (k n : ℕ) (x : Part) (bytes : List ℕ) → x ≡ part_shown k n (label_answer st k) → cond x.refused (r.refusal (plain x.number)) (r.label_is bytes) ≡ r.refusal damaged
+  pub label-refused : (k n : ℕ) (x : Part) (bytes : List ℕ) → x ≡ part_shown k n (label_answer st k) → cond x.refused (r.refusal (plain x.number)) (r.label_is bytes) ≡ r.refusal (told damaged)
   label-refused k n x bytes p = rw (p, check_refused k)

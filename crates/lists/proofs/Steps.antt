@@ -5,23 +5,18 @@ use mathlib.Core.Bool.{Bool, true, false, cond}
 use mathlib.Core.List.{List, [], ◌∷◌, ◌++◌, foldl, map}
 use lib.Dec.{ltb}
 use lib.ListN.{length}
-use Rattle.refusals.specs.Refusals.{plain, no_such_number}
+use Rattle.refusals.specs.Refusals.{told, plain, number_of, no_such_number}
 use Rattle.store.specs.Table.{Table, label_numbered}
-use Rattle.store.specs.declared.Done.{Done}
-use Rattle.store.specs.declared.Done.TheVariants as d
+use Rattle.std.proofs.Common.{Result, Ok, Err}
+use Rattle.refusals.specs.declared.Refusal.{Refusal}
+use Rattle.reports.specs.declared.Loader.{Loader}
 use Rattle.writes.specs.Writes.{change_write}
 use Rattle.store.specs.Judged.{done_of}
 use Rattle.revoke.specs.Revoke.{revoke_write, revoke_count, count_of}
 use Rattle.onlycap.specs.Onlycap.{onlycap_write}
 use Rattle.cipso.specs.Cipso.{mapping_write}
-use Rattle.revoke.specs.declared.Revoked.{Revoked}
-use Rattle.revoke.specs.declared.Revoked.TheVariants as v
 use Rattle.access.specs.Access.{answer, question_of}
 use Rattle.reports.specs.declared.Report.{Report}
-use Rattle.load.specs.declared.Fed.{Fed}
-use Rattle.load.specs.declared.Fed.TheVariants as f
-use Rattle.load.specs.declared.Ended.{Ended}
-use Rattle.load.specs.declared.Ended.TheVariants as e
 use Rattle.reports.specs.Report.{fresh_loader}
 use Rattle.load.specs.Loader.{Load, load, step_end, piece_answer, piece_after, end_answer, end_after}
 use Rattle.lists.specs.Reader.{Totals, Reader, start_on, take_byte, take_piece, finish, limited_totals, Write, change, revoke, onlycap, mapping, Ask, question, by_label, by_level, list_a_rule, label, label_check, write_option, read_option, new_object, Call, piece, end_call, ask, write, Reply, done, refusal, report, label_is, done_reply, count_reply, write_says, ask_says, write_on, after, says, after_all, says_all, Event, byte, stop, wrote, events, reports}
@@ -29,16 +24,16 @@ use Rattle.load.proofs.Laws.{is-ready}
 use Rattle.lists.proofs.Follows.{SameTotals, Holds, piece_follows, finish_follows, fresh_holds}
 
 -- what a caller in Rattle makes of an answer
-abbrev pub fed_reply : Fed → Reply
-fed_reply (f.Done l) = done
-fed_reply (f.Refused n) = refusal (plain n)
+abbrev pub fed_reply : Result Loader Refusal → Reply
+fed_reply (Ok l) = done
+fed_reply (Err r) = refusal (plain (number_of r))
 
 abbrev pub totals_of : Report → Totals
 totals_of r = record { lines = r.lines; accepted = r.accepted; skipped = r.skipped; refused = r.refused; first = r.first; reason = r.reason; place = r.place; bringup = r.bringup }
 
-abbrev pub end-reply : Ended → Reply
-end-reply (e.Report r l) = report (totals_of r)
-end-reply (e.Refused n) = refusal (plain n)
+abbrev pub end-reply : Result (Report × Loader) Refusal → Reply
+end-reply (Ok (r, l)) = report (totals_of r)
+end-reply (Err r) = refusal (plain (number_of r))
 
 -- what a call keeps: the state it leaves stands for the plain reader, and the reply is the plain reader's
 pub record Follows (s : Load) (r : Reply) (p : Reader) (q : Reply) : Type 0 where
@@ -48,7 +43,7 @@ pub record Follows (s : Load) (r : Reply) (p : Reader) (q : Reply) : Type 0 wher
 -- ---- each contract, at a state that stands for a plain reader
 
 pub piece_law :
-    (text : List ℕ) {s s' : Load} {r : Fed} (p : Reader) →
+    (text : List ℕ) {s s' : Load} {r : Result Loader Refusal} (p : Reader) →
     r ≡ piece_answer s text →
     s' ≡ piece_after s text →
     Holds s p →
@@ -64,7 +59,7 @@ same-report : (l : Report) (c : Totals) → SameTotals l c → totals_of l ≡ l
 same-report l c s = rw (s.lines, s.accepted, s.skipped, s.refused, s.first, s.reason, s.place, s.bringup)
 
 pub end_law :
-    {s s' : Load} {r : Ended} (p : Reader) →
+    {s s' : Load} {r : Result (Report × Loader) Refusal} (p : Reader) →
     r ≡ end_answer s →
     s' ≡ end_after s →
     Holds s p →
@@ -115,13 +110,13 @@ reports-bytes p [] es = refl
 reports-bytes p (b ∷ bs) es = reports-bytes (take_byte p b) bs es
 
 -- no other call reports
-done-reports : (a : Done) (rs : List Reply) → reports (done_reply a ∷ rs) ≡ reports rs
-done-reports d.Done rs = refl
-done-reports (d.Refused n) rs = refl
+done-reports : (a : Result (Unit {0}) Refusal) (rs : List Reply) → reports (done_reply a ∷ rs) ≡ reports rs
+done-reports (Ok tt) rs = refl
+done-reports (Err n) rs = refl
 
-count-reports : (a : Revoked) (rs : List Reply) → reports (count_reply a ∷ rs) ≡ reports rs
-count-reports (v.Count k) rs = refl
-count-reports (v.Refused n) rs = refl
+count-reports : (a : Result ℕ Refusal) (rs : List Reply) → reports (count_reply a ∷ rs) ≡ reports rs
+count-reports (Ok k) rs = refl
+count-reports (Err n) rs = refl
 
 write-reports : (t : Table) (w : Write) (rs : List Reply) → reports (write_says t w ∷ rs) ≡ reports rs
 write-reports t (change text) rs = done-reports (done_of (change_write text t)) rs
@@ -139,12 +134,12 @@ ask-reports t (read_option option) rs = refl
 ask-reports t (new_object creator folder folder_transmutes is_folder) rs = refl
 ask-reports t (label k) rs = by-test (ltb k (length t.labels))
   where
-    by-test : (b : Bool) → reports (cond b (label_is (label_numbered t k)) (refusal no_such_number) ∷ rs) ≡ reports rs
+    by-test : (b : Bool) → reports (cond b (label_is (label_numbered t k)) (refusal (told no_such_number)) ∷ rs) ≡ reports rs
     by-test true = refl
     by-test false = refl
 ask-reports t (label_check k) rs = by-test (ltb k (length t.labels))
   where
-    by-test : (b : Bool) → reports (cond b done (refusal no_such_number) ∷ rs) ≡ reports rs
+    by-test : (b : Bool) → reports (cond b done (refusal (told no_such_number)) ∷ rs) ≡ reports rs
     by-test true = refl
     by-test false = refl
 

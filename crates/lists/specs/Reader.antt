@@ -2,22 +2,18 @@
 -- true numbers. It is fed only each call's kind and arguments. Nothing here names a lent slice of the state or a limit of storage, but for those of 01's
 -- tables and lines. Demand 3 speaks of pieces, end calls and questions; here are the other calls too, a single write of which acts at once. Assumes
 -- nothing.
-use Rattle.std.specs.Prelude.{ℕ, ◌+◌, min, Bool, cond, length, ltb, eqb}
+use Rattle.std.specs.Prelude.{ℕ, ◌+◌, min, Bool, cond, length, ltb, eqb, Result, Ok, Err}
 use mathlib.Core.List.{List, [], ◌∷◌, ◌++◌, foldl, map}
-use Rattle.refusals.specs.Refusals.{no_such_number}
+use Rattle.refusals.specs.Refusals.{AsTold, told, number_of, place_of, no_such_number}
 use Rattle.refusals.specs.declared.Refusal.{Refusal}
 use Rattle.alphabet.specs.Alphabet.{is_newline}
 use Rattle.reports.specs.Report.{count_limit}
 use Rattle.numbers.specs.declared.CategorySet.{CategorySet}
 use Rattle.store.specs.Table.{Table, label_numbered}
-use Rattle.store.specs.declared.Done.{Done}
-use Rattle.store.specs.declared.Done.TheVariants as d
 use Rattle.lines.specs.Lines.{rule_of, bring_up_in}
 use Rattle.writes.specs.Writes.{judged, change_write}
 use Rattle.store.specs.Judged.{Judged, is_skipped, is_refused, is_accepted, table_after, done_of}
 use Rattle.revoke.specs.Revoke.{revoke_write, revoke_count, count_of}
-use Rattle.revoke.specs.declared.Revoked.{Revoked}
-use Rattle.revoke.specs.declared.Revoked.TheVariants as v
 use Rattle.onlycap.specs.Onlycap.{onlycap_write}
 use Rattle.cipso.specs.Cipso.{mapping_write}
 use Rattle.lookups.specs.Lookups.{label_lookup, level_lookup}
@@ -81,8 +77,8 @@ counted c held (is_refused r) =
       skipped = c.skipped;
       refused = c.refused + 1;
       first = cond (eqb c.refused 0) (c.lines + 1) c.first;
-      reason = cond (eqb c.refused 0) r.number c.reason;
-      place = cond (eqb c.refused 0) r.place c.place;
+      reason = cond (eqb c.refused 0) (number_of r) c.reason;
+      place = cond (eqb c.refused 0) (place_of r) c.place;
       bringup = c.bringup;
     }
 
@@ -164,7 +160,7 @@ pub data Call : Type 0 where
 -- what a host reads of an answer; where a call has no other form for it, a refusal is its number and its place
 pub data Reply : Type 0 where
   done : Reply
-  refusal : Refusal → Reply
+  refusal : AsTold → Reply
   report : Totals → Reply
   count : ℕ → Reply
   answered : Shown → Reply
@@ -175,13 +171,13 @@ pub data Reply : Type 0 where
   labelled : Labelled → Reply
   label_is : List ℕ → Reply
 
-abbrev pub done_reply : Done → Reply
-done_reply d.Done = done
-done_reply (d.Refused n) = refusal n
+abbrev pub done_reply : Result (Unit {0}) Refusal → Reply
+done_reply (Ok tt) = done
+done_reply (Err n) = refusal (told n)
 
-abbrev pub count_reply : Revoked → Reply
-count_reply (v.Count k) = count k
-count_reply (v.Refused n) = refusal n
+abbrev pub count_reply : Result ℕ Refusal → Reply
+count_reply (Ok k) = count k
+count_reply (Err n) = refusal (told n)
 
 -- what becomes of a single write
 abbrev pub judge_write : Write → Table → Judged
@@ -206,8 +202,8 @@ ask_says t (question s o r capable) = answered (shown (answer t s o r capable))
 ask_says t (by_label l) = mapped (lookup_shown (label_lookup t l))
 ask_says t (by_level level set) = lowest (search_shown (level_lookup t level set))
 ask_says t (list_a_rule k out) = listed (output_shown (list_rule t k out)) (list_rule_out t k out)
-ask_says t (label k) = cond (ltb k (length t.labels)) (label_is (label_numbered t k)) (refusal no_such_number)
-ask_says t (label_check k) = cond (ltb k (length t.labels)) done (refusal no_such_number)
+ask_says t (label k) = cond (ltb k (length t.labels)) (label_is (label_numbered t k)) (refusal (told no_such_number))
+ask_says t (label_check k) = cond (ltb k (length t.labels)) done (refusal (told no_such_number))
 ask_says t (write_option l out) = listed (output_shown (text_answer (label_option t l) out)) (text_out (label_option t l) out)
 ask_says t (read_option option) = peer (peer_shown (peer_of t option))
 ask_says t (new_object creator folder folder_transmutes is_folder) = labelled (object_shown (object_label t creator folder folder_transmutes is_folder))

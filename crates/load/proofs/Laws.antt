@@ -11,11 +11,12 @@ use lib.ListN.{length, take, drop, set, length-set, length-drop, take-append-dro
 use lib.Seq.{length-take-le, sets, sets-eq}
 use Rattle.search.specs.Bytes.{written}
 use Rattle.search.proofs.Laws.{and_both}
+use Rattle.std.proofs.Common.{Result, Err}
 use Rattle.refusals.specs.Refusals.{too_long}
+use Rattle.refusals.specs.declared.Refusal.{Refusal}
 use Rattle.store.specs.Layout.{Store, undamaged_of}
 use Rattle.writes.specs.Writes.{line_outcome, line_stored}
 use Rattle.writes.specs.declared.Outcome.{Outcome}
-use Rattle.writes.specs.declared.Outcome.TheVariants as v
 use Rattle.writes.proofs.Laws.{line-undamaged}
 use Rattle.reports.specs.declared.Loader.{Loader}
 use Rattle.reports.specs.Report.{count, with_kept}
@@ -37,20 +38,24 @@ pub is-ready : (s : Load) → Ready s → ready s ≡ true
 unfolding ready
 is-ready s r = rw (r.undamaged, eq-eqb _ _ r.line, le-leb _ _ r.kept)
 
+-- what a test of one store says of another that is the same
+pub ready-same : {st st' : Store} {b answer : Bool} (line : List ℕ) (l : Loader) → st ≡ st' → b ≡ ready (load st line l) → b ≡ answer → ready (load st' line l) ≡ answer
+ready-same line l p q r = ap (λ (x : Store). ready (load x line l)) (sym p) ∙ sym q ∙ r
+
 pub what_ready-is : WhatReadyIs
 what_ready-is s = (ready-is s, is-ready s)
 
 pub ready-end : (s : Load) → Ready s → Ready (end_kept s)
 ready-end s r = by-test (ltb 600 s.loader.kept)
   where
-    verdict : Outcome
+    verdict : Result Outcome Refusal
     verdict = line_outcome s.store (take s.loader.kept s.line)
 
     by-test :
         (b : Bool) →
         Ready
         (cond b
-        (load s.store s.line (count s.loader (v.Refused too_long)))
+        (load s.store s.line (count s.loader (Err too_long)))
         (load (line_stored s.store (take s.loader.kept s.line)) s.line (count s.loader (line_outcome s.store (take s.loader.kept s.line)))))
     by-test true = record { undamaged = r.undamaged; line = r.line; kept = omega arith }
     by-test false =
@@ -194,7 +199,7 @@ pub byte_empties : (s : Load) (b : ℕ) → eqb (step_byte s b).loader.kept 0 �
 unfolding step_byte
 byte_empties s b = by-test (eqb b 10)
   where
-    ends : (x : Bool) → eqb (cond x (load s.store s.line (count s.loader (v.Refused too_long))) (load (line_stored s.store (take s.loader.kept s.line)) s.line (count s.loader (line_outcome s.store (take s.loader.kept s.line))))).loader.kept 0 ≡ true
+    ends : (x : Bool) → eqb (cond x (load s.store s.line (count s.loader (Err too_long))) (load (line_stored s.store (take s.loader.kept s.line)) s.line (count s.loader (line_outcome s.store (take s.loader.kept s.line))))).loader.kept 0 ≡ true
     ends true = refl
     ends false = refl
 

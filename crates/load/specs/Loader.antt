@@ -1,18 +1,15 @@
 -- The loader in lent memory: its exact step, byte by byte, and when it is damaged. A line of over 600 bytes is kept as its first 600 and the
 -- length 601; a count stops at its limit. Assumes nothing.
-use Rattle.std.specs.Prelude.{ℕ, ◌+◌, ◌≤◌, ◌≡◌, ◌↔◌, Bool, true, cond, ◌&&◌, length, take, set, ltb, leb, eqb}
+use Rattle.std.specs.Prelude.{ℕ, ◌+◌, ◌≤◌, ◌≡◌, ◌↔◌, Bool, true, cond, ◌&&◌, length, take, set, ltb, leb, eqb, Result, Ok, Err}
 use mathlib.Core.List.{List, foldl}
 use Rattle.refusals.specs.Refusals.{damaged, too_long}
 use Rattle.alphabet.specs.Alphabet.{line_limit, is_newline}
 use Rattle.store.specs.Layout.{Store, undamaged_of}
 use Rattle.writes.specs.Writes.{line_outcome, line_stored}
-use Rattle.writes.specs.declared.Outcome.TheVariants as v
 use Rattle.reports.specs.declared.Loader.{Loader}
 use Rattle.reports.specs.Report.{fresh_loader, count, with_kept}
-use Rattle.load.specs.declared.Fed.{Fed}
-use Rattle.load.specs.declared.Fed.TheVariants as f
-use Rattle.load.specs.declared.Ended.{Ended}
-use Rattle.load.specs.declared.Ended.TheVariants as e
+use Rattle.refusals.specs.declared.Refusal.{Refusal}
+use Rattle.reports.specs.declared.Report.{Report}
 
 -- the length that marks a line of over 600 bytes
 abbrev pub overlong : ℕ
@@ -31,7 +28,7 @@ load st line l = record { store = st; line = line; loader = l }
 abbrev pub end_kept : Load → Load
 end_kept s =
     cond (ltb line_limit s.loader.kept)
-    (load s.store s.line (count s.loader (v.Refused too_long)))
+    (load s.store s.line (count s.loader (Err too_long)))
     (load (line_stored s.store (take s.loader.kept s.line)) s.line (count s.loader (line_outcome s.store (take s.loader.kept s.line))))
 
 -- a byte joins the kept line
@@ -69,12 +66,12 @@ step_piece s text = foldl step_byte s text
 unfoldable pub piece_after : Load → List ℕ → Load
 piece_after s text = cond (ready s) (step_piece s text) s
 
-unfoldable pub piece_answer : Load → List ℕ → Fed
-piece_answer s text = cond (ready s) (f.Done (step_piece s text).loader) (f.Refused damaged.number)
+unfoldable pub piece_answer : Load → List ℕ → Result Loader Refusal
+piece_answer s text = cond (ready s) (Ok (step_piece s text).loader) (Err damaged)
 
 -- the end call: ends a kept line that has a byte, answers the report, and leaves the loader fresh
 unfoldable pub end_after : Load → Load
 end_after s = cond (ready s) (load (step_end s).store (step_end s).line fresh_loader) s
 
-unfoldable pub end_answer : Load → Ended
-end_answer s = cond (ready s) (e.Report (step_end s).loader.report fresh_loader) (e.Refused damaged.number)
+unfoldable pub end_answer : Load → Result (Report × Loader) Refusal
+end_answer s = cond (ready s) (Ok ((step_end s).loader.report, fresh_loader)) (Err damaged)

@@ -5,46 +5,30 @@
 ghost use Rattle.std.specs.Prelude.{◌≡◌, true, length};
 ghost use Rattle.alphabet.specs.Alphabet.{line_limit};
 ghost use Rattle.store.specs.Layout.{Store, store};
+ghost use Rattle.store.specs.Lent.{lent_mut, SameSlices};
+ghost use Rattle.store.specs.LentWithin.{lent};
 ghost use Rattle.text_lines.specs.Within.{NoNewline};
 ghost use Rattle.load.specs.Loader.{end_kept, step_piece, ready, WhatReadyIs, load, piece_after, piece_answer, end_after, end_answer};
 ghost use Rattle.load.specs.Within.{fed_loader, ended_loader};
 
+use refusals::Refusal;
 use reports::{Loader, Report};
-use writes::Outcome;
+use store::{Lent, LentMut};
 
 // The kept length that marks a line of more bytes than a line may have.
 const OVER_LONG: usize = alphabet::LINE_LIMIT + 1;
 
-// What a piece answers: done, with the loader for the next call, or refused.
-#[derive(Drop)]
-pub enum Fed {
-    Done(Loader),
-    Refused(u8),
-}
-
-// What the end call answers: the report, and a fresh loader for the next call, or refused.
-#[derive(Drop)]
-pub enum Ended {
-    Report(Report, Loader),
-    Refused(u8),
-}
-
 // Ends the kept line: it is judged whole and counted.
-fn end_line(
-    labels: &mut [u8],
-    entries: &mut [u8],
-    words: &mut [u64],
-    line: &[u8],
-    l: Loader,
-) -> Loader
-    requires { ready (load (store labels.old entries.old words.old) line.now l) ≡ true }
-    ensures { load (store labels.new entries.new words.new) line.now result ≡ end_kept (load (store labels.old entries.old words.old) line.now l) }
+fn end_line(state: &mut LentMut, line: &[u8], l: Loader) -> Loader
+    requires { ready (load (lent_mut state.old) line.now l) ≡ true }
+    ensures loaded { load (lent_mut state.new) line.now result ≡ end_kept (load (lent_mut state.old) line.now l) }
+    ensures same_slices { SameSlices state.old state.new }
 {
     let kept = l.kept;
     if alphabet::LINE_LIMIT < kept {
-        return reports::count_line(l, Outcome::Refused(refusals::TOO_LONG));
+        return reports::count_line(l, Err(Refusal::TooLong));
     }
-    let outcome = writes::write_line(labels, entries, words, &line[..kept]);
+    let outcome = writes::write_line(state, &line[..kept]);
     reports::count_line(l, outcome)
 }
 
@@ -77,10 +61,10 @@ pub fn what_ready_is()
 {}
 
 // Whether the lent state is undamaged, the loader too: refusal 0 otherwise.
-pub fn is_ready(labels: &[u8], entries: &[u8], words: &[u64], line: &[u8], l: Loader) -> bool
-    ensures { result ≡ ready (load (store labels.now entries.now words.now) line.now l) }
+pub fn is_ready(state: Lent, line: &[u8], l: Loader) -> bool
+    ensures { result ≡ ready (load (lent state.entry) line.now l) }
 {
-    if !damage::undamaged(labels, entries, words) {
+    if !damage::undamaged(state) {
         return false;
     }
     if line.len() != alphabet::LINE_LIMIT {
@@ -89,21 +73,20 @@ pub fn is_ready(labels: &[u8], entries: &[u8], words: &[u64], line: &[u8], l: Lo
     l.kept <= OVER_LONG
 }
 
-// Takes a piece of rule text: any bytes, any length, also none.
+// Takes a piece of rule text: any bytes, any length, also none. Answers the loader for the next call.
 pub fn piece(
-    labels: &mut [u8],
-    entries: &mut [u8],
-    words: &mut [u64],
+    state: &mut LentMut,
     line: &mut [u8],
     l: Loader,
     text: &[u8],
-) -> Fed
-    ensures value { result ≡ piece_answer (load (store labels.old entries.old words.old) line.old l) text.now }
-    ensures loaded { load (store labels.new entries.new words.new) line.new (fed_loader l result) ≡
-        piece_after (load (store labels.old entries.old words.old) line.old l) text.now }
+) -> Result<Loader, Refusal>
+    ensures value { result ≡ piece_answer (load (lent_mut state.old) line.old l) text.now }
+    ensures loaded { load (lent_mut state.new) line.new (fed_loader l result) ≡
+        piece_after (load (lent_mut state.old) line.old l) text.now }
+    ensures same_slices { SameSlices state.old state.new }
 {
-    if !is_ready(labels, entries, words, line, l) {
-        return Fed::Refused(refusals::DAMAGED.number);
+    if !is_ready(state.shared(), line, l) {
+        return Err(Refusal::Damaged);
     }
     let mut next = l;
     let mut i = 0;
@@ -111,34 +94,29 @@ pub fn piece(
         let end = text_lines::line_end(text, i);
         next = take_run(line, next, &text[i..end]);
         if end == text.len() {
-            return Fed::Done(next);
+            return Ok(next);
         }
-        next = end_line(labels, entries, words, line, next);
+        next = end_line(state, line, next);
         i = end + 1;
     }
 }
 
-// The end call: bytes after the last newline are one more line; the report is answered, and the loader is fresh.
-pub fn end(
-    labels: &mut [u8],
-    entries: &mut [u8],
-    words: &mut [u64],
-    line: &mut [u8],
-    l: Loader,
-) -> Ended
-    ensures value { result ≡ end_answer (load (store labels.old entries.old words.old) line.old l) }
-    ensures loaded { load (store labels.new entries.new words.new) line.new (ended_loader l result) ≡
-        end_after (load (store labels.old entries.old words.old) line.old l) }
+// The end call: bytes after the last newline are one more line; the report is answered, and a fresh loader for the next call.
+pub fn end(state: &mut LentMut, line: &mut [u8], l: Loader) -> Result<(Report, Loader), Refusal>
+    ensures value { result ≡ end_answer (load (lent_mut state.old) line.old l) }
+    ensures loaded { load (lent_mut state.new) line.new (ended_loader l result) ≡
+        end_after (load (lent_mut state.old) line.old l) }
+    ensures same_slices { SameSlices state.old state.new }
 {
-    if !is_ready(labels, entries, words, line, l) {
-        return Ended::Refused(refusals::DAMAGED.number);
+    if !is_ready(state.shared(), line, l) {
+        return Err(Refusal::Damaged);
     }
     let kept = l.kept;
     if kept == 0 {
         let report = l.report;
-        return Ended::Report(report, reports::fresh());
+        return Ok((report, reports::fresh()));
     }
-    let last = end_line(labels, entries, words, line, l);
+    let last = end_line(state, line, l);
     let report = last.report;
-    Ended::Report(report, reports::fresh())
+    Ok((report, reports::fresh()))
 }

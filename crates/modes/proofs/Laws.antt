@@ -18,8 +18,7 @@ use Rattle.modes.specs.Modes.{letters, bring_up, bit_among, bit_of, allowed_byte
 use Rattle.modes.specs.Within.{bit_where}
 use Rattle.modes.proofs.Bits.{single, has_or, has_and, six, five}
 use Rattle.modes.specs.declared.Letter.{Letter}
-use Rattle.modes.specs.declared.Access.{Access}
-use Rattle.modes.specs.declared.Access.TheVariants.{Modes, Bad}
+use Rattle.std.proofs.Common.{Option, Some, None}
 
 -- ---- the table of letters
 
@@ -295,12 +294,12 @@ held_b field = joined-has 6 (bit_alone 64 refl refl) field _ ∙ any_same (λ (b
 -- a field whose bytes are allowed is read as what it has
 read_as :
     (allowed : ℕ) (dashes : Bool) (field : List ℕ) (m : ℕ) →
-    (read_modes allowed dashes field ≡ Modes m) ↔ ((all (allowed_byte allowed dashes) field ≡ true) × (modes_of field ≡ m))
+    (read_modes allowed dashes field ≡ Some m) ↔ ((all (allowed_byte allowed dashes) field ≡ true) × (modes_of field ≡ m))
 unfolding read_modes
 read_as allowed dashes field m = by-test (all (allowed_byte allowed dashes) field)
   where
-    by-test : (b : Bool) → (cond b (Modes (modes_of field)) Bad ≡ Modes m) ↔ ((b ≡ true) × (modes_of field ≡ m))
-    by-test true = (λ e. (refl, cc), λ e. ap Modes e.1)
+    by-test : (b : Bool) → (cond b (Some (modes_of field)) None ≡ Some m) ↔ ((b ≡ true) × (modes_of field ≡ m))
+    by-test true = (λ e. (refl, cc), λ e. ap Some e.1)
     by-test false = (λ e. let z : ◌≡◌ {A = ℕ} 0 1 = cc in absurd (omega arith), λ e. absurd (no e.0))
 
 -- ---- THE LETTERS as 01 and 02 say them
@@ -330,20 +329,20 @@ letters_and_bits =
 
 -- ---- a field read from some byte on, with the modes m of the bytes before
 
-unfoldable pub read_from : ℕ → Bool → ℕ → List ℕ → Access
-read_from allowed dashes m rest = cond (all (allowed_byte allowed dashes) rest) (Modes (foldl joined m rest)) Bad
+unfoldable pub read_from : ℕ → Bool → ℕ → List ℕ → Option ℕ
+read_from allowed dashes m rest = cond (all (allowed_byte allowed dashes) rest) (Some (foldl joined m rest)) None
 
 pub read_all : (allowed : ℕ) (dashes : Bool) (field : List ℕ) → read_modes allowed dashes field ≡ read_from allowed dashes 0 field
 unfolding read_modes modes_of read_from
 read_all allowed dashes field = refl
 
-pub read_none : (allowed : ℕ) (dashes : Bool) (m : ℕ) → read_from allowed dashes m [] ≡ Modes m
+pub read_none : (allowed : ℕ) (dashes : Bool) (m : ℕ) → read_from allowed dashes m [] ≡ Some m
 unfolding read_from all
 read_none allowed dashes m = refl
 
 -- one byte of it, whose bit is `bit`, by the tests in their order
 module _ (allowed : ℕ) (dashes : Bool) (m : ℕ) (field : List ℕ) (i : ℕ) (h : i < length field) (bit : ℕ) (is : bit ≡ bit_of (get_or field i 0)) where
-  read-stop : allowed_byte allowed dashes (get_or field i 0) ≡ false → read_from allowed dashes m (drop i field) ≡ Bad
+  read-stop : allowed_byte allowed dashes (get_or field i 0) ≡ false → read_from allowed dashes m (drop i field) ≡ None
   unfolding read_from all
   read-stop e = rw (drop-cons field i 0 h, e)
 
@@ -359,11 +358,11 @@ module _ (allowed : ℕ) (dashes : Bool) (m : ℕ) (field : List ℕ) (i : ℕ) 
   unfolding allowed_byte
   read-dash d e = read_more (rw (d, eq-eqb (get_or field i 0) 45 e) (or-true (not (eqb (bit_and (bit_of (get_or field i 0)) allowed) 0))))
 
-  pub read_no_dash : bit_and bit allowed ≡ 0 → dashes ≡ false → read_from allowed dashes m (drop i field) ≡ Bad
+  pub read_no_dash : bit_and bit allowed ≡ 0 → dashes ≡ false → read_from allowed dashes m (drop i field) ≡ None
   unfolding allowed_byte
   read_no_dash z d = read-stop (rw (← is, eq-eqb (bit_and bit allowed) 0 z, d))
 
-  pub read-other : bit_and bit allowed ≡ 0 → (get_or field i 0 ≡ 45 → ⊥) → read_from allowed dashes m (drop i field) ≡ Bad
+  pub read-other : bit_and bit allowed ≡ 0 → (get_or field i 0 ≡ 45 → ⊥) → read_from allowed dashes m (drop i field) ≡ None
   unfolding allowed_byte
   read-other z n = read-stop (rw (← is, eq-eqb (bit_and bit allowed) 0 z, ne_eqb (get_or field i 0) 45 n) (and-false dashes))
 
@@ -394,11 +393,11 @@ module _ (allowed : ℕ) (dashes : Bool) (few : known_modes allowed ≡ true) wh
       let g = and_both (allowed_byte allowed dashes b) (all (allowed_byte allowed dashes) bs) e in
       joined-known bs (joined m b) g.1 (known_or m (bit_of b) h (byte-known b g.0))
 
-  pub read_known : (field : List ℕ) (m : ℕ) → read_modes allowed dashes field ≡ Modes m → known_modes m ≡ true
+  pub read_known : (field : List ℕ) (m : ℕ) → read_modes allowed dashes field ≡ Some m → known_modes m ≡ true
   unfolding read_modes modes_of known_modes
   read_known field m e = by-test (all (allowed_byte allowed dashes) field) refl e
     where
-      by-test : (t : Bool) → all (allowed_byte allowed dashes) field ≡ t → cond t (Modes (foldl joined 0 field)) Bad ≡ Modes m → known_modes m ≡ true
+      by-test : (t : Bool) → all (allowed_byte allowed dashes) field ≡ t → cond t (Some (foldl joined 0 field)) None ≡ Some m → known_modes m ≡ true
       by-test true h q =
           let z : foldl joined 0 field ≡ m = cc in
           subst (λ (x : ℕ). known_modes x ≡ true) z (joined-known field 0 h refl)
@@ -407,9 +406,9 @@ module _ (allowed : ℕ) (dashes : Bool) (few : known_modes allowed ≡ true) wh
 -- ---- modes as text
 
 -- whether a field was read as m
-abbrev is_modes : ℕ → Access → Bool
-is_modes m (Modes n) = eqb n m
-is_modes m Bad = false
+abbrev is_modes : ℕ → Option ℕ → Bool
+is_modes m (Some n) = eqb n m
+is_modes m None = false
 
 reads_back : ℕ → Bool
 reads_back m = not (known_modes m) || (is_modes m (read_modes line_letters true (modes_text m)) && (ltb 0 (length (modes_text m)) && not (has_bring_up (modes_of (modes_text m)))))
@@ -418,9 +417,9 @@ all-read_back : all reads_back (entries (λ (k : ℕ). k) 64) ≡ true
 unfolding all entries reads_back read_modes allowed_byte modes_of bit_of modes_text known_modes
 all-read_back = refl
 
-is-modes : (m : ℕ) (a : Access) → is_modes m a ≡ true → a ≡ Modes m
-is-modes m (Modes n) e = ap Modes (eqb-true n m e)
-is-modes m Bad e = absurd (no e)
+is-modes : (m : ℕ) (a : Option ℕ) → is_modes m a ≡ true → a ≡ Some m
+is-modes m (Some n) e = ap Some (eqb-true n m e)
+is-modes m None e = absurd (no e)
 
 -- modes written out are read back, and hold no b
 module _ (m : ℕ) (h : known_modes m ≡ true) where
@@ -431,7 +430,7 @@ module _ (m : ℕ) (h : known_modes m ≡ true) where
   rest_back : (ltb 0 (length (modes_text m)) && not (has_bring_up (modes_of (modes_text m)))) ≡ true
   rest_back = (and_both (is_modes m (read_modes line_letters true (modes_text m))) _ known_back).1
 
-  pub text-read : read_modes line_letters true (modes_text m) ≡ Modes m
+  pub text-read : read_modes line_letters true (modes_text m) ≡ Some m
   text-read = is-modes m (read_modes line_letters true (modes_text m)) (and_both _ _ known_back).0
 
   pub text-some : 1 ≤ length (modes_text m)

@@ -1,15 +1,13 @@
 -- 01, Modes, and 02, Six: a set of the letters r w x a t, its bits, and how it is read and written; and b, the retired letter, which a line may
 -- still have. One table of letters and bits serves reading and writing. The letters are those of the kernel's Smack text; the four of the first version
 -- (source document 003) are overruled. Assumes nothing.
-use Rattle.std.specs.Prelude.{ℕ, ◌+◌, ◌-◌, ◌%◌, ◌<◌, ◌≡◌, Bool, true, false, cond, not, ◌&&◌, ◌||◌, ◌↔◌, ◌⊎◌, eqb}
+use Rattle.std.specs.Prelude.{ℕ, ◌+◌, ◌-◌, ◌%◌, ◌<◌, ◌≡◌, Bool, true, false, cond, not, ◌&&◌, ◌||◌, ◌↔◌, ◌⊎◌, eqb, Option, Some, None}
 use mathlib.Core.List.{List, [], ◌∷◌, foldl}
 use Rattle.std.specs.Int.Bits.{bit_and, bit_or}
 use Rattle.search.specs.Bytes.{ascii}
 use Rattle.search.specs.Search.{all, those}
 use Rattle.alphabet.specs.Alphabet.{dash}
 use Rattle.modes.specs.declared.Letter.{Letter}
-use Rattle.modes.specs.declared.Access.{Access}
-use Rattle.modes.specs.declared.Access.TheVariants.{Modes, Bad}
 
 abbrev entry : ℕ → ℕ → Letter
 entry l b = record { letter = l; bit = b }
@@ -39,8 +37,8 @@ allowed_byte allowed dashes b = not (eqb (bit_and (bit_of b) allowed) 0) || (das
 unfoldable pub modes_of : List ℕ → ℕ
 modes_of field = foldl (λ (m b : ℕ). bit_or m (bit_of b)) 0 field
 
-unfoldable pub read_modes : ℕ → Bool → List ℕ → Access
-read_modes allowed dashes field = cond (all (allowed_byte allowed dashes) field) (Modes (modes_of field)) Bad
+unfoldable pub read_modes : ℕ → Bool → List ℕ → Option ℕ
+read_modes allowed dashes field = cond (all (allowed_byte allowed dashes) field) (Some (modes_of field)) None
 
 -- whether modes hold a bit
 abbrev pub has : ℕ → ℕ → Bool
@@ -125,7 +123,7 @@ pub record LettersAndBits : Type 0 where
   pub request_bytes : (b : ℕ) → b < 256 → allowed_byte request_letters false b ≡ one_of (ascii "rwxaRWXA") b
   pub read_as :
       (allowed : ℕ) (dashes : Bool) (field : List ℕ) (m : ℕ) →
-      (read_modes allowed dashes field ≡ Modes m) ↔ ((all (allowed_byte allowed dashes) field ≡ true) × (modes_of field ≡ m))
+      (read_modes allowed dashes field ≡ Some m) ↔ ((all (allowed_byte allowed dashes) field ≡ true) × (modes_of field ≡ m))
   pub read : (field : List ℕ) (l : ℕ) → one_of (ascii "rwxatb") l ≡ true → has (modes_of field) (bit_of l) ≡ any (λ (b : ℕ). eqb (bit_of b) (bit_of l)) field
   pub no_other : (field : List ℕ) → (modes_of field < 128) × (modes_of field % 2 ≡ 0)
   pub written : (m : ℕ) → modes_text m ≡ cond (eqb m 0) (ascii "-") (those (λ (l : ℕ). has m (bit_of l)) (ascii "rwxat"))

@@ -7,14 +7,11 @@ ghost use Rattle.modes.specs.Modes.{bit_of, read_modes, modes_text, LettersAndBi
 ghost use Rattle.modes.specs.Within.{bit_where};
 
 // A letter and its bit.
-#[derive(Clone, Copy)]
+#[derive(Clone, Copy, Debug, PartialEq, Eq)]
 pub struct Letter {
     pub letter: u8,
     pub bit: u8,
 }
-
-// How many letters a rule may have.
-const COUNT: usize = 5;
 
 // These letters in the order in which they are written out: r, w, x, a, t. Reading searches it, listing walks it.
 const LETTERS: [Letter; 5] = [
@@ -69,13 +66,6 @@ pub const TRANSMUTE: u8 = 2;
 // The bit that a small letter has and a capital one has not.
 const SMALL: u8 = 32;
 
-// What reading an access field answers: its modes, or that it has a byte not allowed there.
-#[derive(Drop)]
-pub enum Access {
-    Modes(u8),
-    Bad,
-}
-
 // The bit of a letter where a byte is that letter, and 0 where not.
 fn bit_where(small: u8, entry: Letter) -> u8
     ensures { result ≡ bit_where small entry }
@@ -90,10 +80,8 @@ fn bit_of(b: u8) -> u8
 {
     let small = b | SMALL;
     let mut bit = bit_where(small, RETIRED);
-    let mut i = 0;
-    while i < COUNT {
-        bit = bit | bit_where(small, LETTERS[i]);
-        i += 1;
+    for entry in LETTERS {
+        bit |= bit_where(small, entry);
     }
     bit
 }
@@ -104,27 +92,24 @@ pub fn letters_and_bits()
     ensures { LettersAndBits }
 {}
 
-// The modes of an access field, which may have the letters of `allowed` and, where `dashes` says so, dashes.
-pub fn read_modes(field: &[u8], allowed: u8, dashes: bool) -> Access
+// The modes of an access field, which may have the letters of `allowed` and, where `dashes` says so, dashes; nothing where it has a byte not allowed there.
+pub fn read_modes(field: &[u8], allowed: u8, dashes: bool) -> Option<u8>
     ensures { result ≡ read_modes allowed dashes field.now }
 {
     let mut modes = 0;
-    let mut i = 0;
-    while i < field.len() {
-        let b = field[i];
-        let bit = bit_of(b);
+    for b in field {
+        let bit = bit_of(*b);
         if bit & allowed == 0 {
             if !dashes {
-                return Access::Bad;
+                return None;
             }
-            if b != alphabet::DASH {
-                return Access::Bad;
+            if *b != alphabet::DASH {
+                return None;
             }
         }
-        modes = modes | bit;
-        i += 1;
+        modes |= bit;
     }
-    Access::Modes(modes)
+    Some(modes)
 }
 
 // Writes modes as text from index `at`, the letters in their order or a dash, and answers how many bytes that took. Who calls it has made
@@ -139,14 +124,11 @@ pub fn write_modes(out: &mut [u8], at: usize, modes: u8) -> usize
         return 1;
     }
     let mut n = 0;
-    let mut i = 0;
-    while i < COUNT {
-        let entry = LETTERS[i];
+    for entry in LETTERS {
         if modes & entry.bit != 0 {
             out[at + n] = entry.letter;
             n += 1;
         }
-        i += 1;
     }
     n
 }

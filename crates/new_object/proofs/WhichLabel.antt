@@ -9,8 +9,7 @@ use lib.Dec.{eqb}
 use borrow.Author.Tests.{eqb-true, eqb-false}
 use Rattle.search.specs.Search.{all}
 use Rattle.search.specs.Bytes.{ascii}
-use Rattle.search.specs.declared.Found.{Found}
-use Rattle.search.specs.declared.Found.TheVariants.{At, Nothing}
+use Rattle.std.proofs.Common.{Option, Some, None, Result, Ok, Err}
 use Rattle.search.proofs.Laws.{no, and_both}
 use Rattle.refusals.specs.Refusals.{damaged, bad_label_at}
 use Rattle.refusals.specs.declared.Refusal.{Refusal}
@@ -31,7 +30,7 @@ use Rattle.access.proofs.Laws.{effective_not, answer-is}
 use Rattle.new_object.specs.NewObject.{object_label_by, object_label_for, object_label, object_label_of}
 use Rattle.new_object.specs.WhichLabel.{write_asked, RuleHas, WhichLabel, GoesByModes, SameNewObjects}
 use Rattle.new_object.specs.declared.ObjectLabel.{ObjectLabel}
-use Rattle.new_object.specs.declared.ObjectLabel.TheVariants.{CreatorLabel, Denied, FolderLabel, Refused}
+use Rattle.new_object.specs.declared.ObjectLabel.TheVariants.{CreatorLabel, Denied, FolderLabel}
 
 -- ---- the rule of a pair has a letter exactly where the pair's modes have it
 
@@ -48,22 +47,22 @@ module _ (t : Table) (s o : List ℕ) (letter : ℕ) where
   rule-has e = by-labels (label_in t s) (label_in t o) refl refl e
     where
       by-rule :
-          (i j : ℕ) (f : Found) →
-          label_in t s ≡ At i → label_in t o ≡ At j → pair_in t i j ≡ f →
+          (i j : ℕ) (f : Option ℕ) →
+          label_in t s ≡ Some i → label_in t o ≡ Some j → pair_in t i j ≡ f →
           modes_pass (modes_found t.rules f) (λ (m : ℕ). has m letter) ≡ true →
           RuleHas t s o letter
-      by-rule i j (At k) p q r z =
+      by-rule i j (Some k) p q r z =
           record { subject_number = i; object_number = j; rule_number = k; subject = p; object = q; rule = r; letter_there = z }
-      by-rule i j Nothing p q r z = absurd (no z)
+      by-rule i j None p q r z = absurd (no z)
 
       by-labels :
-          (f g : Found) →
+          (f g : Option ℕ) →
           label_in t s ≡ f → label_in t o ≡ g →
           modes_pass (modes_found t.rules (rule_between t f g)) (λ (m : ℕ). has m letter) ≡ true →
           RuleHas t s o letter
-      by-labels (At i) (At j) p q z = by-rule i j (pair_in t i j) p q refl z
-      by-labels (At i) Nothing p q z = absurd (no z)
-      by-labels Nothing g p q z = absurd (no z)
+      by-labels (Some i) (Some j) p q z = by-rule i j (pair_in t i j) p q refl z
+      by-labels (Some i) None p q z = absurd (no z)
+      by-labels None g p q z = absurd (no z)
 
 -- ---- what the call answers, beside what the question for w does
 
@@ -80,12 +79,12 @@ one_of_three true false c e = inr (inl refl)
 one_of_three true true false e = inr (inr refl)
 one_of_three true true true e = absurd (no (sym e))
 
--- refused with one number; denied; granted, with the folder's label or with the creator's
-pub data Beside (folder_transmutes is_folder with_t : Bool) : ObjectLabel → Answer → Type 0 where
-  refuses : (r : Refusal) → Beside folder_transmutes is_folder with_t (Refused r.number) (answer.Refused r)
-  denies : (by : Denial) → Beside folder_transmutes is_folder with_t Denied (answer.Denied by)
-  grants_folders : (rule : ℕ) → (folder_transmutes ≡ true) × (rule ≡ 6) × (with_t ≡ true) → Beside folder_transmutes is_folder with_t (FolderLabel is_folder) (answer.Granted rule)
-  grants_creators : (rule : ℕ) → (folder_transmutes ≡ false) ⊎ (rule ≢ 6) ⊎ (with_t ≡ false) → Beside folder_transmutes is_folder with_t CreatorLabel (answer.Granted rule)
+-- refused with one refusal; denied; granted, with the folder's label or with the creator's
+pub data Beside (folder_transmutes is_folder with_t : Bool) : Result ObjectLabel Refusal → Answer → Type 0 where
+  refuses : (r : Refusal) → Beside folder_transmutes is_folder with_t (Err r) (answer.Refused r)
+  denies : (by : Denial) → Beside folder_transmutes is_folder with_t (Ok Denied) (answer.Denied by)
+  grants_folders : (rule : ℕ) → (folder_transmutes ≡ true) × (rule ≡ 6) × (with_t ≡ true) → Beside folder_transmutes is_folder with_t (Ok (FolderLabel is_folder)) (answer.Granted rule)
+  grants_creators : (rule : ℕ) → (folder_transmutes ≡ false) ⊎ (rule ≢ 6) ⊎ (with_t ≡ false) → Beside folder_transmutes is_folder with_t (Ok CreatorLabel) (answer.Granted rule)
 
 module _ (st : Store) (creator folder : List ℕ) (folder_transmutes is_folder : Bool) where
   abbrev T : Table
@@ -94,10 +93,10 @@ module _ (st : Store) (creator folder : List ℕ) (folder_transmutes is_folder :
   abbrev with_t : Bool
   with_t = has_between T creator folder transmute_letter
 
-  by_verdict : (v : Verdict) → Beside folder_transmutes is_folder with_t (object_label_by v (modes_between T creator folder) folder_transmutes is_folder) (answered false v)
+  by_verdict : (v : Verdict) → Beside folder_transmutes is_folder with_t (Ok (object_label_by v (modes_between T creator folder) folder_transmutes is_folder)) (answered false v)
   by_verdict (Grants n) = by-test (folder_transmutes && (eqb n 6 && with_t)) refl
     where
-      by-test : (b : Bool) → (folder_transmutes && (eqb n 6 && with_t)) ≡ b → Beside folder_transmutes is_folder with_t (cond b (FolderLabel is_folder) CreatorLabel) (answer.Granted n)
+      by-test : (b : Bool) → (folder_transmutes && (eqb n 6 && with_t)) ≡ b → Beside folder_transmutes is_folder with_t (Ok (cond b (FolderLabel is_folder) CreatorLabel)) (answer.Granted n)
       by-test true e = let h = three folder_transmutes (eqb n 6) with_t e in grants_folders n (h.0, eqb-true n 6 h.1, h.2)
       by-test false e =
           grants_creators n
@@ -115,7 +114,7 @@ module _ (st : Store) (creator folder : List ℕ) (folder_transmutes is_folder :
   unfolding answer
   not_formed p = rw p
 
-  abbrev given : ObjectLabel
+  abbrev given : Result ObjectLabel Refusal
   given = object_label_of st creator folder folder_transmutes is_folder
 
   abbrev asked : Answer
@@ -135,11 +134,11 @@ module _ (st : Store) (creator folder : List ℕ) (folder_transmutes is_folder :
 -- ---- so each is what 02 says: by the four ways
 
 -- which of the four an answer is
-abbrev kind : ObjectLabel → ℕ
-kind (Refused n) = 0
-kind Denied = 1
-kind (FolderLabel b) = 2
-kind CreatorLabel = 3
+abbrev kind : Result ObjectLabel Refusal → ℕ
+kind (Err n) = 0
+kind (Ok Denied) = 1
+kind (Ok (FolderLabel b)) = 2
+kind (Ok CreatorLabel) = 3
 
 abbrev kind_asked : Answer → ℕ
 kind_asked (answer.Refused r) = 0
@@ -147,7 +146,7 @@ kind_asked (answer.Denied by) = 1
 kind_asked (answer.Granted n) = 2
 kind_asked (answer.Override by) = 3
 
-other : (a b : ObjectLabel) → eqb (kind a) (kind b) ≡ false → a ≡ b → ⊥
+other : (a b : Result ObjectLabel Refusal) → eqb (kind a) (kind b) ≡ false → a ≡ b → ⊥
 other a b p e = eqb-false (kind a) (kind b) p (ap kind e)
 
 other-asked : (a b : Answer) → eqb (kind_asked a) (kind_asked b) ≡ false → a ≡ b → ⊥
@@ -158,27 +157,27 @@ neither : {P Q : Type 0} → (P → ⊥) → (Q → ⊥) → P ↔ Q
 neither p q = (λ e. absurd (p e), λ e. absurd (q e))
 
 module _ (folder_transmutes is_folder with_t : Bool) where
-  is-denied : {n : ObjectLabel} {a : Answer} → Beside folder_transmutes is_folder with_t n a → (n ≡ Denied) ↔ ((by : Denial) × (a ≡ answer.Denied by))
+  is-denied : {n : Result ObjectLabel Refusal} {a : Answer} → Beside folder_transmutes is_folder with_t n a → (n ≡ Ok Denied) ↔ ((by : Denial) × (a ≡ answer.Denied by))
   is-denied (refuses r) = neither (other _ _ refl) (λ e. other-asked _ _ refl e.1)
   is-denied (denies by) = (λ e. (by, refl), λ e. refl)
   is-denied (grants_folders rule p) = neither (other _ _ refl) (λ e. other-asked _ _ refl e.1)
   is-denied (grants_creators rule p) = neither (other _ _ refl) (λ e. other-asked _ _ refl e.1)
 
-  is_refused : {n : ObjectLabel} {a : Answer} → Beside folder_transmutes is_folder with_t n a → (k : ℕ) → (n ≡ Refused k) ↔ ((r : Refusal) × (a ≡ answer.Refused r) × (r.number ≡ k))
-  is_refused (refuses r) k = (λ e. (r, refl, cc), λ e. let p = e.1 in let q = e.2 in cc)
-  is_refused (denies by) k = neither (other _ _ refl) (λ e. other-asked _ _ refl e.1)
-  is_refused (grants_folders rule p) k = neither (other _ _ refl) (λ e. other-asked _ _ refl e.1)
-  is_refused (grants_creators rule p) k = neither (other _ _ refl) (λ e. other-asked _ _ refl e.1)
+  is_refused : {n : Result ObjectLabel Refusal} {a : Answer} → Beside folder_transmutes is_folder with_t n a → (why : Refusal) → (n ≡ Err why) ↔ (a ≡ answer.Refused why)
+  is_refused (refuses r) why = (λ e. cc, λ e. cc)
+  is_refused (denies by) why = neither (other _ _ refl) (other-asked _ _ refl)
+  is_refused (grants_folders rule p) why = neither (other _ _ refl) (other-asked _ _ refl)
+  is_refused (grants_creators rule p) why = neither (other _ _ refl) (other-asked _ _ refl)
 
   module _ (RuleWithT : Type 0) (there : with_t ≡ true → RuleWithT) (stands : RuleWithT → with_t ≡ true) where
     is-folders :
-        {n : ObjectLabel} {a : Answer} →
+        {n : Result ObjectLabel Refusal} {a : Answer} →
         Beside folder_transmutes is_folder with_t n a →
         (b : Bool) →
-        (n ≡ FolderLabel b) ↔ ((folder_transmutes ≡ true) × (a ≡ answer.Granted 6) × RuleWithT × (b ≡ is_folder))
+        (n ≡ Ok (FolderLabel b)) ↔ ((folder_transmutes ≡ true) × (a ≡ answer.Granted 6) × RuleWithT × (b ≡ is_folder))
     is-folders (refuses r) b = neither (other _ _ refl) (λ e. other-asked _ _ refl e.1)
     is-folders (denies by) b = neither (other _ _ refl) (λ e. other-asked _ _ refl e.1)
-    is-folders (grants_folders rule p) b = (λ e. (p.0, ap answer.Granted p.1, there p.2, cc), λ e. sym (ap FolderLabel e.3))
+    is-folders (grants_folders rule p) b = (λ e. (p.0, ap answer.Granted p.1, there p.2, cc), λ e. let q = e.3 in cc)
     is-folders (grants_creators rule p) b =
         neither (other _ _ refl)
         (λ e.
@@ -186,9 +185,9 @@ module _ (folder_transmutes is_folder with_t : Bool) where
         (⊎_elim (λ q. let z = e.1 in q cc) (λ q. no (sym q ∙ stands e.2))) p)
 
     is-creators :
-        {n : ObjectLabel} {a : Answer} →
+        {n : Result ObjectLabel Refusal} {a : Answer} →
         Beside folder_transmutes is_folder with_t n a →
-        (n ≡ CreatorLabel) ↔ ((rule : ℕ) × (a ≡ answer.Granted rule) × ((folder_transmutes ≡ false) ⊎ (rule ≢ 6) ⊎ (RuleWithT → ⊥)))
+        (n ≡ Ok CreatorLabel) ↔ ((rule : ℕ) × (a ≡ answer.Granted rule) × ((folder_transmutes ≡ false) ⊎ (rule ≢ 6) ⊎ (RuleWithT → ⊥)))
     is-creators (refuses r) = neither (other _ _ refl) (λ e. other-asked _ _ refl e.1)
     is-creators (denies by) = neither (other _ _ refl) (λ e. other-asked _ _ refl e.1)
     is-creators (grants_folders rule p) =

@@ -4,21 +4,22 @@
 ghost use Rattle.std.specs.Prelude.{◌≡◌, Bool, List, ℕ};
 ghost use Rattle.store.specs.Table.{Table};
 ghost use Rattle.store.specs.Layout.{store, Store, table_of, Sizes};
+ghost use Rattle.store.specs.LentWithin.{lent, tested};
 ghost use Rattle.store.specs.Within.{Counts};
 ghost use Rattle.store.specs.Pairs.{PairModes, has_modes, modes_between};
 ghost use Rattle.new_object.specs.NewObject.{object_label_by, object_label_for, object_label_of};
 ghost use Rattle.new_object.specs.WhichLabel.{WhichLabel, by_labels_and_modes, SameNewObjects};
 
 use access::Verdict;
+use refusals::Refusal;
+use store::{Lent, Tables};
 
-// Which label it gets: the creator's; none, since the creator may not write to the folder; the folder's, and whether the new object transmutes; or refused,
-// with its number.
-#[derive(Drop)]
+// Which label it gets: the creator's; none, since the creator may not write to the folder; or the folder's, and whether the new object transmutes.
+#[derive(Clone, Copy, Debug, PartialEq, Eq)]
 pub enum ObjectLabel {
     CreatorLabel,
     Denied,
     FolderLabel(bool),
-    Refused(u8),
 }
 
 // By what the rules say and, where rule 6 granted, the modes of its rule.
@@ -45,16 +46,13 @@ fn by_verdict(
 // By the seven rules, of a request of w alone. Rules 1 to 4 go by no rule of the table; nor does rule 5, which is told by the bytes, so that nothing is looked
 // up for a creator in a folder of its own label. For rules 6 and 7 each label is looked up once. Who calls it has tested the store.
 fn by_rules(
-    labels: &[u8],
-    entries: &[u8],
-    words: &[u64],
+    tables: Tables,
     creator: &[u8],
     folder: &[u8],
     folder_transmutes: bool,
     is_folder: bool,
 ) -> ObjectLabel
-    requires { Sizes labels.now entries.now words.now × Counts words.now }
-    ensures { result ≡ object_label_for creator.now folder.now (modes_between (table_of (store labels.now entries.now words.now)) creator.now folder.now) folder_transmutes is_folder }
+    ensures { result ≡ object_label_for creator.now folder.now (modes_between (table_of (tested tables.entry)) creator.now folder.now) folder_transmutes is_folder }
 {
     match access::by_marks(creator, folder, modes::WRITE) {
         Verdict::Grants(_) => ObjectLabel::CreatorLabel,
@@ -63,10 +61,17 @@ fn by_rules(
             if search::same_bytes(creator, folder) {
                 return ObjectLabel::CreatorLabel;
             }
-            let count = words[store::LABEL_COUNT] as usize;
-            let s = places::find_label(labels, count, creator);
-            let o = places::find_label(labels, count, folder);
-            let ruling = access::by_numbers(entries, words, false, s, o, modes::WRITE);
+            let count = tables.words[store::LABEL_COUNT] as usize;
+            let s = places::find_label(tables.labels, count, creator);
+            let o = places::find_label(tables.labels, count, folder);
+            let ruling = access::by_numbers(
+                tables.entries,
+                tables.words,
+                false,
+                s,
+                o,
+                modes::WRITE,
+            );
             let verdict = ruling.verdict;
             let granting = ruling.modes;
             by_verdict(verdict, granting, folder_transmutes, is_folder)
@@ -76,34 +81,18 @@ fn by_rules(
 
 // The label of a new object. `folder_transmutes` says whether the folder transmutes, `is_folder` whether the new object is a folder itself.
 pub fn object_label(
-    labels: &[u8],
-    entries: &[u8],
-    words: &[u64],
+    state: Lent,
     creator: &[u8],
     folder: &[u8],
     folder_transmutes: bool,
     is_folder: bool,
-) -> ObjectLabel
-    ensures { result ≡ object_label_of (store labels.now entries.now words.now) creator.now folder.now folder_transmutes is_folder }
+) -> Result<ObjectLabel, Refusal>
+    ensures { result ≡ object_label_of (lent state.entry) creator.now folder.now folder_transmutes is_folder }
 {
-    if !damage::undamaged(labels, entries, words) {
-        return ObjectLabel::Refused(refusals::DAMAGED.number);
-    }
-    if !alphabet::well_formed(creator) {
-        return ObjectLabel::Refused(refusals::BAD_LABEL.number);
-    }
-    if !alphabet::well_formed(folder) {
-        return ObjectLabel::Refused(refusals::BAD_LABEL.number);
-    }
-    by_rules(
-        labels,
-        entries,
-        words,
-        creator,
-        folder,
-        folder_transmutes,
-        is_folder,
-    )
+    let tables = damage::tested(state)?;
+    alphabet::check_label(creator)?;
+    alphabet::check_label(folder)?;
+    Ok(by_rules(tables, creator, folder, folder_transmutes, is_folder))
 }
 
 // The claim of when it is denied, the folder's or the creator's label, in 02's words: by the answer to a question for w, and the rule of the pair. And of a

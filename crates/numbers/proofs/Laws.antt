@@ -13,19 +13,18 @@ use lib.Seq.{drop-cons}
 use Rattle.search.specs.Search.{all}
 use Rattle.search.proofs.Laws.{no, and_both}
 use Rattle.numbers.specs.Numbers.{is_digit, one_more, number_of, Digits, NumbersOfDigits}
-use Rattle.numbers.specs.declared.Number.{Number}
-use Rattle.numbers.specs.declared.Number.TheVariants.{Value, Bad}
+use Rattle.std.proofs.Common.{Option, Some, None}
 
 -- ---- a number read from some digit on, with the value v of the digits before
 
-unfoldable pub number_from : ℕ → List ℕ → Number
-number_from v rest = cond (all is_digit rest) (Value (foldl one_more v rest)) Bad
+unfoldable pub number_from : ℕ → List ℕ → Option ℕ
+number_from v rest = cond (all is_digit rest) (Some (foldl one_more v rest)) None
 
-pub number-empty : (field : List ℕ) → length field < 1 → number_of field ≡ Bad
+pub number-empty : (field : List ℕ) → length field < 1 → number_of field ≡ None
 unfolding number_of
 number-empty field h = rw (lt-leb 1 (length field) h)
 
-pub number-long : (field : List ℕ) → 3 < length field → number_of field ≡ Bad
+pub number-long : (field : List ℕ) → 3 < length field → number_of field ≡ None
 unfolding number_of
 number-long field h = rw (lt-leb (length field) 3 h, and-false (leb 1 (length field)))
 
@@ -33,16 +32,16 @@ pub number-all : (field : List ℕ) → 1 ≤ length field → length field ≤ 
 unfolding number_of number_from
 number-all field h₁ h₃ = rw (le-leb 1 (length field) h₁, le-leb (length field) 3 h₃)
 
-pub number-none : (v : ℕ) → number_from v [] ≡ Value v
+pub number-none : (v : ℕ) → number_from v [] ≡ Some v
 unfolding number_from all
 number-none v = refl
 
 module _ (v : ℕ) (field : List ℕ) (i : ℕ) (h : i < length field) where
-  pub number-below : get_or field i 0 < 48 → number_from v (drop i field) ≡ Bad
+  pub number-below : get_or field i 0 < 48 → number_from v (drop i field) ≡ None
   unfolding number_from all
   number-below b = rw (drop-cons field i 0 h, lt-leb 48 (get_or field i 0) b)
 
-  pub number_above : 57 < get_or field i 0 → number_from v (drop i field) ≡ Bad
+  pub number_above : 57 < get_or field i 0 → number_from v (drop i field) ≡ None
   unfolding number_from all
   number_above b = rw (drop-cons field i 0 h, lt-leb (get_or field i 0) 57 b, and-false (leb 48 (get_or field i 0)))
 
@@ -69,14 +68,14 @@ is_digit_lem b e =
     let j = leb-true b 57 h.1 in
     (omega arith, omega arith)
 
-digits_number : (field : List ℕ) (n : ℕ) → Digits field n → number_of field ≡ Value n
+digits_number : (field : List ℕ) (n : ℕ) → Digits field n → number_of field ≡ Some n
 unfolding number_of all
-digits_number field n (Digits.one a ha) = rw (digit-is a ha) (ap Value (omega arith))
-digits_number field n (Digits.two a b ha hb) = rw (digit-is a ha, digit-is b hb) (ap Value (omega arith))
-digits_number field n (Digits.three a b c ha hb hc) = rw (digit-is a ha, digit-is b hb, digit-is c hc) (ap Value (omega arith))
+digits_number field n (Digits.one a ha) = rw (digit-is a ha) (ap Some (omega arith))
+digits_number field n (Digits.two a b ha hb) = rw (digit-is a ha, digit-is b hb) (ap Some (omega arith))
+digits_number field n (Digits.three a b c ha hb hc) = rw (digit-is a ha, digit-is b hb, digit-is c hc) (ap Some (omega arith))
 
 -- what was answered was tested
-told : (t : Bool) (v n : ℕ) → cond t (Value v) Bad ≡ Value n → (t ≡ true) × (v ≡ n)
+told : (t : Bool) (v n : ℕ) → cond t (Some v) None ≡ Some n → (t ≡ true) × (v ≡ n)
 told true v n e = (refl, cc)
 told false v n e = let z : ◌≡◌ {A = ℕ} 0 1 = cc in absurd (omega arith)
 
@@ -84,7 +83,7 @@ told false v n e = let z : ◌≡◌ {A = ℕ} 0 1 = cc in absurd (omega arith)
 as_digits : (field ds : List ℕ) (n v : ℕ) → ds ≡ field → v ≡ n → Digits ds v → Digits field n
 as_digits field ds n v p q d = rw (← p, ← q) d
 
-number_digits : (field : List ℕ) (n : ℕ) → number_of field ≡ Value n → Digits field n
+number_digits : (field : List ℕ) (n : ℕ) → number_of field ≡ Some n → Digits field n
 unfolding number_of all
 number_digits [] n e = absurd (no (told false 0 n e).0)
 number_digits (a ∷ []) n e =

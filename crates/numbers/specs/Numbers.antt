@@ -1,9 +1,7 @@
 -- 01, Single writes, Mapping: the decimal numbers of levels and categories. Assumes nothing.
-use Rattle.std.specs.Prelude.{ℕ, ◌+◌, ◌-◌, ◌*◌, ◌<◌, ◌≡◌, ◌↔◌, Bool, cond, ◌&&◌, length, leb}
+use Rattle.std.specs.Prelude.{ℕ, ◌+◌, ◌-◌, ◌*◌, ◌<◌, ◌≡◌, ◌↔◌, Bool, cond, ◌&&◌, length, leb, Option, Some, None}
 use mathlib.Core.List.{List, [], ◌∷◌, foldl}
 use Rattle.search.specs.Search.{all}
-use Rattle.numbers.specs.declared.Number.{Number}
-use Rattle.numbers.specs.declared.Number.TheVariants.{Value, Bad}
 
 -- an ASCII digit: 0 (48) to 9 (57)
 abbrev pub is_digit : ℕ → Bool
@@ -14,8 +12,8 @@ abbrev pub one_more : ℕ → ℕ → ℕ
 one_more v b = v * 10 + (b - 48)
 
 -- 1 to 3 digits, leading zeros allowed; any other field is no number
-unfoldable pub number_of : List ℕ → Number
-number_of field = cond (leb 1 (length field) && leb (length field) 3 && all is_digit field) (Value (foldl one_more 0 field)) Bad
+unfoldable pub number_of : List ℕ → Option ℕ
+number_of field = cond (leb 1 (length field) && leb (length field) 3 && all is_digit field) (Some (foldl one_more 0 field)) None
 
 -- What 01 says of a number, without the test above: one, two or three digits, and their value.
 pub data Digits : List ℕ → ℕ → Type 0 where
@@ -25,4 +23,4 @@ pub data Digits : List ℕ → ℕ → Type 0 where
 
 -- a field is read as a number exactly where it is one, with that value
 abbrev pub NumbersOfDigits : Type 0
-NumbersOfDigits = (field : List ℕ) (n : ℕ) → (number_of field ≡ Value n) ↔ Digits field n
+NumbersOfDigits = (field : List ℕ) (n : ℕ) → (number_of field ≡ Some n) ↔ Digits field n

@@ -16,7 +16,7 @@ pub const OWN_LEVEL: u64 = 250;
 
 // A set of categories: a number of 192 bits, the highest 64 in `first`. Category 1 is the top bit, and the eight lowest are no category.
 #[repr(C)]
-#[derive(Clone, Copy)]
+#[derive(Clone, Copy, Debug, PartialEq, Eq)]
 pub struct CategorySet {
     pub first: u64,
     pub second: u64,
@@ -33,44 +33,27 @@ pub const NO_CATEGORIES: CategorySet = CategorySet {
     third: 0,
 };
 
-// What reading a number answers: its value, or that the field is none.
-#[derive(Drop)]
-pub enum Number {
-    Value(u64),
-    Bad,
-}
-
-// A digit's value as wide as the number's.
-fn wide(digit: u8) -> u64
-    ensures { result ≡ digit }
-{
-    digit as u64
-}
-
-// The value of a field of 1 to 3 digits.
-pub fn read_number(field: &[u8]) -> Number
+// The value of a field of 1 to 3 digits; nothing where it is no such field.
+pub fn read_number(field: &[u8]) -> Option<u64>
     ensures { result ≡ number_of field.now }
 {
     if field.len() < 1 {
-        return Number::Bad;
+        return None;
     }
     if field.len() > 3 {
-        return Number::Bad;
+        return None;
     }
     let mut value = 0;
-    let mut i = 0;
-    while i < field.len() {
-        let b = field[i];
+    for &b in field {
         if b < b'0' {
-            return Number::Bad;
+            return None;
         }
         if b > b'9' {
-            return Number::Bad;
+            return None;
         }
-        value = value * 10 + wide(b - b'0');
-        i += 1;
+        value = value * 10 + u64::from(b - b'0');
     }
-    Number::Value(value)
+    Some(value)
 }
 
 // The claim that a number is as 01 says: the definition's, and so, by the contract above, the code's.
@@ -129,7 +112,7 @@ pub fn with_category(set: CategorySet, n: u64) -> CategorySet
 pub fn same_set(a: CategorySet, b: CategorySet) -> bool
     ensures { result ≡ same_set a b }
 {
-    (a.first == b.first) & ((a.second == b.second) & (a.third == b.third))
+    a == b
 }
 
 // Whether a set has no other bit than those of categories.

@@ -1,9 +1,8 @@
 -- How the code counts and takes the labels of an override write, and what it knows of one that it takes. Nobody has to believe this. Assumes nothing.
-use Rattle.std.specs.Prelude.{ℕ, zero, suc, ◌+◌, ◌≤◌, Bool, true, false, cond, ◌||◌, ◌≡◌, List, [], ◌∷◌, length, get_or, set, take}
+use Rattle.std.specs.Prelude.{ℕ, zero, suc, ◌+◌, ◌≤◌, Bool, true, false, cond, ◌||◌, ◌≡◌, List, [], ◌∷◌, length, get_or, set, take, Option}
 use Rattle.search.specs.Within.{count_after}
 use Rattle.search.specs.Search.{first, all, place_of, entries}
 use Rattle.search.specs.Bytes.{same_bytes}
-use Rattle.search.specs.declared.Found.{Found}
 use Rattle.alphabet.specs.Alphabet.{well_formed, line_limit, fields}
 use Rattle.store.specs.Table.{Table, label_limit, onlycap_limit, enter}
 use Rattle.store.specs.Layout.{Store, store, onlycap_from, table_of, label_at, Sizes}
@@ -36,7 +35,7 @@ pub record Taken : Type 0 where
   pub stored : ℕ
   pub listed : ℕ
 
-abbrev pub take_label : Taken → Bool → List ℕ → Found → Taken
+abbrev pub take_label : Taken → Bool → List ℕ → Option ℕ → Taken
 take_label p seen l f =
     record {
       labels = entered f p.labels p.stored l;
@@ -45,7 +44,7 @@ take_label p seen l f =
       listed = cond seen p.listed (p.listed + 1);
     }
 
-abbrev pub found_in : Taken → List ℕ → Found
+abbrev pub found_in : Taken → List ℕ → Option ℕ
 found_in p l = first (same_bytes l) (entries (label_at p.labels) p.stored)
 
 -- the first n fields taken, in order
@@ -64,7 +63,7 @@ list_set st fs = store_taken st.words (taken_up_to (begun st) fs (length fs))
 
 -- ---- how the code counts before it writes: a field that was seen before counts neither as different nor as new
 
-abbrev pub count_with : Counted → Bool → Found → Counted
+abbrev pub count_with : Counted → Bool → Option ℕ → Counted
 count_with c true f = c
 count_with c false f = record { different = c.different + 1; labels = count_after f c.labels }
 

@@ -1,33 +1,25 @@
 // The onlycap list (01, Single writes, Override list): one write replaces it. Everything is judged before the first byte is written.
 #![tactic(auto)]
 
-ghost use Rattle.std.specs.Prelude.{◌≡◌, [], ◌<◌, ◌≤◌, length, take};
-ghost use Rattle.search.specs.Within.{count_after};
-ghost use Rattle.search.specs.Search.{first, all, place_of, entries};
+ghost use Rattle.std.specs.Prelude.{◌≡◌, [], ℕ, ◌≤◌, length, get_or, take};
+ghost use Rattle.search.specs.Search.{first, all, entries};
 ghost use Rattle.search.specs.Bytes.{same_bytes};
 ghost use Rattle.alphabet.specs.Alphabet.{well_formed, fields, line_limit};
 ghost use Rattle.store.specs.Table.{label_limit};
 ghost use Rattle.store.specs.Layout.{store, label_at, labels_size};
-ghost use Rattle.store.specs.Within.{entered};
+ghost use Rattle.store.specs.Lent.{lent_mut, SameSlices};
 ghost use Rattle.onlycap.specs.Onlycap.{lone_dash, onlycap_answer, onlycap_store};
 ghost use Rattle.onlycap.specs.Within.{appears_in, joined, count_with, list_set, Fits};
 
 use alphabet::Field;
-use search::Found;
-use store::Done;
+use refusals::Refusal;
+use store::LentMut;
 
 // How many different labels a write has, and how many labels the table would have with them.
-#[derive(Drop)]
+#[derive(Clone, Copy, Debug, PartialEq, Eq)]
 pub struct Counted {
     pub different: usize,
     pub labels: usize,
-}
-
-// A label's number, and how many labels there are with it.
-#[derive(Drop)]
-pub struct Numbered {
-    pub number: usize,
-    pub stored: usize,
 }
 
 // Whether the only field of a write is a dash.
@@ -52,9 +44,9 @@ fn all_formed(text: &[u8]) -> bool
         let Field::Part { start, end } = alphabet::next_field(text, at) else {
             return true;
         };
-        let Found::Nothing = alphabet::label_fault(&text[start..end]) else {
+        if !alphabet::well_formed(&text[start..end]) {
             return false;
-        };
+        }
         at = end;
     }
 }
@@ -64,8 +56,7 @@ fn seen_before(text: &[u8], count: usize, label: &[u8]) -> bool
     ensures { result ≡ appears_in label.now (take count (fields text.now)) }
 {
     let mut at = 0;
-    let mut i = 0;
-    while i < count {
+    for _ in 0..count {
         let Field::Part { start, end } = alphabet::next_field(text, at) else {
             return false;
         };
@@ -73,7 +64,6 @@ fn seen_before(text: &[u8], count: usize, label: &[u8]) -> bool
             return true;
         }
         at = end;
-        i += 1;
     }
     false
 }
@@ -89,11 +79,11 @@ fn count_label(labels: &[u8], stored: usize, label: &[u8], seen: bool, counted: 
     }
     let found = places::find_label(labels, stored, label);
     match found {
-        Found::At(_) => Counted {
+        Some(_) => Counted {
             different: counted.different + 1,
             labels: counted.labels,
         },
-        Found::Nothing => Counted {
+        None => Counted {
             different: counted.different + 1,
             labels: counted.labels + 1,
         },
@@ -126,51 +116,29 @@ fn count(labels: &[u8], stored: usize, text: &[u8]) -> Counted
     }
 }
 
-// A label's number; a new label enters first. Who calls it has made sure that there is room.
-fn enter(labels: &mut [u8], stored: usize, label: &[u8]) -> Numbered
-    requires { (length labels.old ≡ labels_size) × (stored ≤ label_limit) ×
-        (place_of (first (same_bytes label.now) (entries (label_at labels.old) stored)) stored < label_limit) × (length label.now ≤ 255) }
-    ensures value { result ≡ record {
-      number = place_of
-          (first (same_bytes label.now) (entries (label_at labels.old) stored)) stored;
-      stored = count_after
-          (first (same_bytes label.now) (entries (label_at labels.old) stored)) stored;
-    } }
-    ensures labels_after { labels.new ≡ entered (first (same_bytes label.now) (entries (label_at labels.old) stored))
-        labels.old stored label.now }
-{
-    let found = places::find_label(labels, stored, label);
-    match found {
-        Found::At(i) => Numbered { number: i, stored },
-        Found::Nothing => {
-            store::write_label(labels, stored, label);
-            Numbered {
-                number: stored,
-                stored: stored + 1,
-            }
-        }
-    }
-}
-
 // Replaces the list by the labels of a write that was judged.
-fn apply(labels: &mut [u8], entries: &mut [u8], words: &mut [u64], text: &[u8])
-    requires { Fits (store labels.old entries.old words.old) text.now }
-    ensures { store labels.new entries.new words.new ≡ list_set (store labels.old entries.old words.old) (fields text.now) }
+fn apply(state: &mut LentMut, text: &[u8])
+    requires { Fits (lent_mut state.old) text.now }
+    ensures stored { lent_mut state.new ≡ list_set (lent_mut state.old) (fields text.now) }
+    ensures same_slices { SameSlices state.old state.new }
 {
-    let mut stored = words[store::LABEL_COUNT] as usize;
+    let mut stored = state.words[store::LABEL_COUNT] as usize;
     let mut listed = 0;
     let mut at = 0;
     let mut i = 0;
     loop {
         let Field::Part { start, end } = alphabet::next_field(text, at) else {
-            words[store::LABEL_COUNT] = stored as u64;
-            words[store::ONLYCAP_COUNT] = listed as u64;
+            state.words[store::LABEL_COUNT] = stored as u64;
+            state.words[store::ONLYCAP_COUNT] = listed as u64;
             return;
         };
-        let numbered = enter(labels, stored, &text[start..end]);
-        stored = numbered.stored;
-        if !seen_before(text, i, &text[start..end]) {
-            entries[store::ONLYCAP_FROM + listed] = numbered.number as u8;
+        let label = &text[start..end];
+        let found = places::find_label(state.shared().labels, stored, label);
+        let numbered = places::number_for(found, stored);
+        places::enter(state.labels, found, stored, label);
+        stored = numbered.count;
+        if !seen_before(text, i, label) {
+            state.entries[store::ONLYCAP_FROM + listed] = numbered.number as u8;
             listed += 1;
         }
         at = end;
@@ -178,34 +146,40 @@ fn apply(labels: &mut [u8], entries: &mut [u8], words: &mut [u64], text: &[u8])
     }
 }
 
+// That each number of a slice of bytes is a byte: who lends it out of a struct does not see that. This function does nothing.
+fn are_bytes(labels: &[u8])
+    ensures { (k : ℕ) → get_or labels.now k 0 ≤ 255 }
+{}
+
 // Replaces the onlycap list by the labels of a write, or clears it where the write is a lone dash.
-pub fn set_onlycap(labels: &mut [u8], entries: &mut [u8], words: &mut [u64], text: &[u8]) -> Done
-    ensures value { result ≡ onlycap_answer (store labels.old entries.old words.old) text.now }
-    ensures stored { store labels.new entries.new words.new ≡ onlycap_store (store labels.old entries.old words.old) text.now }
+pub fn set_onlycap(state: &mut LentMut, text: &[u8]) -> Result<(), Refusal>
+    ensures value { result ≡ onlycap_answer (lent_mut state.old) text.now }
+    ensures stored { lent_mut state.new ≡ onlycap_store (lent_mut state.old) text.now }
+    ensures same_slices { SameSlices state.old state.new }
 {
-    if !damage::undamaged(labels, entries, words) {
-        return Done::Refused(refusals::DAMAGED);
-    }
+    let lent = state.shared();
+    damage::check(lent)?;
+    are_bytes(lent.labels);
     if alphabet::LINE_LIMIT < text.len() {
-        return Done::Refused(refusals::TOO_LONG);
+        return Err(Refusal::TooLong);
     }
     let Field::Part { start: _, end: _ } = alphabet::next_field(text, 0) else {
-        return Done::Refused(refusals::WRONG_FIELDS);
+        return Err(Refusal::WrongFields);
     };
     if lone_dash(text) {
-        words[store::ONLYCAP_COUNT] = 0;
-        return Done::Done;
+        state.words[store::ONLYCAP_COUNT] = 0;
+        return Ok(());
     }
     if !all_formed(text) {
-        return Done::Refused(alphabet::bad_label_in(text));
+        return Err(alphabet::bad_label_in(text));
     }
-    let counted = count(labels, words[store::LABEL_COUNT] as usize, text);
+    let counted = count(lent.labels, lent.words[store::LABEL_COUNT] as usize, text);
     if store::ONLYCAP_LIMIT < counted.different {
-        return Done::Refused(refusals::TOO_MANY_OVERRIDES);
+        return Err(Refusal::TooManyOverrides);
     }
     if store::LABEL_LIMIT < counted.labels {
-        return Done::Refused(refusals::LABELS_FULL);
+        return Err(Refusal::LabelsFull);
     }
-    apply(labels, entries, words, text);
-    Done::Done
+    apply(state, text);
+    Ok(())
 }

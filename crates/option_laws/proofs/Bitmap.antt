@@ -7,6 +7,7 @@ use native.Mathlib.Omega.{arith}
 use lib.Dec.{eqb, ltb}
 use borrow.Author.Tests.{eqb-true, eqb-false, ltb-true, ltb-false, le-leb}
 use lib.ListN.{length, get_or, length-append, get_or-eq_default}
+use Rattle.refusals.specs.Refusals.{bad_option_category}
 use Rattle.search.proofs.Laws.{no, and_both, entries-length, entries_at}
 use Rattle.numbers.specs.Categories.{is_category, has_category, set_of, known_set, InWords}
 use Rattle.numbers.specs.declared.CategorySet.{CategorySet}
@@ -108,7 +109,7 @@ module _ (a b : List ℕ) (h : (i : ℕ) → get_or a i 0 ≡ get_or b i 0) wher
 
 -- our option of any level and bitmap, of at most 30 bytes: what is left is its categories
 pub read_ours : (t : Table) (level : ℕ) (bitmap : List ℕ) → length bitmap ≤ 30
-    → peer_of t (option_bytes our_doi level bitmap) ≡ cond (only_categories bitmap) (peer_at t level (set_of_bitmap bitmap)) (not_read 18)
+    → peer_of t (option_bytes our_doi level bitmap) ≡ cond (only_categories bitmap) (peer_at t level (set_of_bitmap bitmap)) (not_read bad_option_category)
 unfolding peer_of is_option
 read_ours t level bitmap h = rw (le-leb (length bitmap) 30 h, same_refl (option_bytes our_doi level bitmap), same_refl our_doi)
 

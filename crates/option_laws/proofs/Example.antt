@@ -2,7 +2,7 @@
 use mathlib.Core.Path.{refl}
 use Rattle.search.specs.Search.{first, all, put, entries}
 use Rattle.search.specs.Bytes.{same_bytes}
-use Rattle.alphabet.specs.Alphabet.{is_blank, label_byte, well_formed, fields, bad_byte_in}
+use Rattle.alphabet.specs.Alphabet.{is_blank, label_byte, well_formed, fault_of, fields, bad_byte_in}
 use Rattle.numbers.specs.Numbers.{number_of}
 use Rattle.numbers.specs.Categories.{value, with_category, set_of}
 use Rattle.set_bytes.specs.SetBytes.{byte_where, bytes_where, bitmap_bytes, set_of_bitmap, only_categories, own_bytes, set_of_own}
@@ -13,7 +13,7 @@ use Rattle.cipso_option.specs.Option.{trimmed, option_of, label_option, is_optio
 use Rattle.option_laws.specs.Example.{OptionExamples}
 
 pub option_examples : OptionExamples
-unfolding first all put entries same_bytes is_blank label_byte well_formed fields bad_byte_in number_of value with_category set_of names byte_where bytes_where bitmap_bytes set_of_bitmap only_categories own_bytes set_of_own label_lookup sought has_both level_lookup categories_of said_by mapping_of with_mapping mapping_write trimmed option_of label_option is_option peer_at peer_of
+unfolding first all put entries same_bytes is_blank label_byte well_formed fault_of fields bad_byte_in number_of value with_category set_of names byte_where bytes_where bitmap_bytes set_of_bitmap only_categories own_bytes set_of_own label_lookup sought has_both level_lookup categories_of said_by mapping_of with_mapping mapping_write trimmed option_of label_option is_option peer_at peer_of
 option_examples =
     record {
       written = refl;

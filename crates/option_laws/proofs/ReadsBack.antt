@@ -8,8 +8,9 @@ use lib.Dec.{eqb, leb, ltb}
 use borrow.Author.Tests.{leb-true, ltb-true, ltb-false}
 use lib.ListN.{length, get_or, take, drop, get_or-eq_default}
 use lib.Seq.{take_at}
+use Rattle.refusals.specs.Refusals.{damaged, not_in_an_option}
 use Rattle.search.specs.Bytes.{same_bytes}
-use Rattle.search.specs.declared.Found.TheVariants.{At}
+use Rattle.std.proofs.Common.{Some, Option, None, Result, Ok}
 use Rattle.search.proofs.Laws.{and_both, all-at, first-is, same-equal}
 use Rattle.alphabet.specs.Alphabet.{well_formed}
 use Rattle.alphabet.proofs.Laws.{label_form}
@@ -19,14 +20,13 @@ use Rattle.numbers.proofs.Sets.{passing_words, passing_known}
 use Rattle.set_bytes.specs.SetBytes.{bit_at, own_bytes, set_of_own, Bytes}
 use Rattle.set_bytes.proofs.Laws.{own-length, own-byte}
 use Rattle.output.specs.Output.{text, refused, text_answer}
-use Rattle.output.specs.declared.Output.TheVariants.{Length}
+use Rattle.refusals.specs.declared.Refusal.{Refusal}
+use Rattle.lookups.specs.declared.Cipso.{Cipso}
 use Rattle.output.proofs.Laws.{length-answered}
 use Rattle.store.specs.declared.Mapping.{Mapping}
 use Rattle.store.specs.Table.{Table, label_in, label_numbered, names, sound_mapping}
 use Rattle.store.specs.Layout.{Store, table_of, undamaged_of}
-use Rattle.lookups.specs.Lookups.{label_lookup, level_lookup, sought}
-use Rattle.lookups.specs.declared.Lookup.{Lookup}
-use Rattle.lookups.specs.declared.Lookup.TheVariants.{Mapped, Unmapped}
+use Rattle.lookups.specs.Lookups.{mapped, label_lookup, level_lookup, sought}
 use Rattle.cipso_option.specs.Option.{trimmed, option_of, option_by, label_option, option_given, option_answer, option_out, label, own_peer, mapped_peer, peer_at, peer_of, peer_given}
 use Rattle.grown.specs.Grown.{Grown}
 use Rattle.grown.specs.Sane.{at_mapping_level, Sane}
@@ -70,28 +70,28 @@ own-known l = passing_known (λ (n : ℕ). bit_at l (n - 1))
 same_text : {a b : List ℕ} → text a ≡ text b → a ≡ b
 same_text e = cc
 
-no_text : {n : ℕ} {b : List ℕ} {A : Type 0} → refused n ≡ text b → A
+no_text : {n : Refusal} {b : List ℕ} {A : Type 0} → refused n ≡ text b → A
 no_text e = let z : ◌≡◌ {A = ℕ} 0 1 = cc in absurd (omega arith)
 
 -- ---- of a table
 
 module _ (t : Table) (h : Sane t) (l b : List ℕ) (e : label_option t l ≡ text b) where
-  by_look_up : {x : Lookup} → label_lookup t l ≡ x → option_by l x ≡ text b
+  by_look_up : {x : Result (Option Cipso) Refusal} → label_lookup t l ≡ x → option_by l x ≡ text b
   unfolding label_option
   by_look_up q = ap (option_by l) (sym q) ∙ e
 
-  table-unmapped : label_lookup t l ≡ Unmapped → peer_of t b ≡ label l
+  table-unmapped : label_lookup t l ≡ Ok None → peer_of t b ≡ label l
   unfolding peer_at
   table-unmapped q =
       let formed = ((looked_up_lem t l).unmapped.0 q).0 in
       let w = by-test (leb (length l) 23) refl (by_look_up q) in
       ap (peer_of t) w.1 ∙ taken (set_of_own l) (own-words l) (own-known l) t 250 ∙ ap own_peer (own-rebuilt l formed w.0) ∙ rw formed
     where
-      by-test : (x : Bool) → leb (length l) 23 ≡ x → cond x (text (option_of 250 (set_of_own l))) (refused 19) ≡ text b → (length l ≤ 23) × (b ≡ option_of 250 (set_of_own l))
+      by-test : (x : Bool) → leb (length l) 23 ≡ x → cond x (text (option_of 250 (set_of_own l))) (refused not_in_an_option) ≡ text b → (length l ≤ 23) × (b ≡ option_of 250 (set_of_own l))
       by-test true p q = (leb-true _ _ p, sym (same_text q))
       by-test false p q = no_text q
 
-  module _ (level : ℕ) (s : CategorySet) (count : ℕ) (q : label_lookup t l ≡ Mapped level s count) where
+  module _ (level : ℕ) (s : CategorySet) (count : ℕ) (q : label_lookup t l ≡ mapped level s count) where
     -- what is known of the label's mapping
     none : Mapping
     none = record { label = 0; level = 0; set = no_categories }
@@ -125,13 +125,13 @@ module _ (t : Table) (h : Sane t) (l b : List ℕ) (e : label_option t l ≡ tex
     lowest-is : (n : ℕ) → n < length t.labels → HasBoth t level s n → ((k : ℕ) → k < n → HasBoth t level s k → ⊥) → peer_of t b ≡ label (label_numbered t n)
     lowest-is n i has before = table-mapped ∙ ap (mapped_peer t) (((lowest t level s h.labels_once can-be-sought).lowest n).1 (i, has, before))
 
-    module _ (k : ℕ) (at : label_in t l ≡ At k) where
+    module _ (k : ℕ) (at : label_in t l ≡ Some k) where
       stored : (k < length t.labels) × (label_numbered t k ≡ l)
       stored = let f = first-is (same_bytes l) [] t.labels k at in (f.0, sym (same-equal l (label_numbered t k) f.1))
 
       table-given : ((n : ℕ) → n < k → HasBoth t level s n → ⊥) → peer_of t b ≡ label l
       table-given before =
-          lowest-is k stored.0 (ap (label_lookup t) stored.1 ∙ q ∙ ap (Mapped level s) its.4) before ∙ ap label stored.1
+          lowest-is k stored.0 (ap (label_lookup t) stored.1 ∙ q ∙ ap (mapped level s) its.4) before ∙ ap label stored.1
 
       table-lower : (n : ℕ) → n < k → HasBoth t level s n → ((j : ℕ) → j < n → HasBoth t level s j → ⊥) → peer_of t b ≡ label (label_numbered t n)
       table-lower n below has before = let few = stored.0 in lowest-is n (omega arith) has before
@@ -147,15 +147,15 @@ unfolding option_given
 given_is st l u = rw u
 
 -- a state in which something is written is undamaged
-written_tested : (st : Store) (l out : List ℕ) (n : ℕ) → option_answer st l out ≡ Length n → undamaged_of st ≡ true
+written_tested : (st : Store) (l out : List ℕ) (n : ℕ) → option_answer st l out ≡ Ok n → undamaged_of st ≡ true
 unfolding option_answer option_given
 written_tested st l out n e = by-test (undamaged_of st) e
   where
-    by-test : (t : Bool) → text_answer (cond t (label_option (table_of st) l) (refused 0)) out ≡ Length n → t ≡ true
+    by-test : (t : Bool) → text_answer (cond t (label_option (table_of st) l) (refused damaged)) out ≡ Ok n → t ≡ true
     by-test true q = refl
     by-test false q = let z : ◌≡◌ {A = ℕ} 0 1 = cc in absurd (omega arith)
 
-pub reads_back : (st : Store) (l out : List ℕ) (n : ℕ) → Grown (table_of st) → option_answer st l out ≡ Length n → ReadsBack st l (take n (option_out st l out))
+pub reads_back : (st : Store) (l out : List ℕ) (n : ℕ) → Grown (table_of st) → option_answer st l out ≡ Ok n → ReadsBack st l (take n (option_out st l out))
 unfolding option_answer option_out
 reads_back st l out n g e =
     let u = written_tested st l out n e in

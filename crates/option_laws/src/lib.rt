@@ -1,8 +1,7 @@
 // What is written in a packet option is read from it (02, Five). Claims alone.
 #![tactic(auto)]
 
-ghost use Rattle.std.specs.Prelude.{◌≡◌, List, ℕ, take};
-ghost use Rattle.output.specs.declared.Output.TheVariants.{Length};
+ghost use Rattle.std.specs.Prelude.{◌≡◌, List, ℕ, take, Ok};
 ghost use Rattle.store.specs.Table.{Table};
 ghost use Rattle.store.specs.Layout.{Store, table_of};
 ghost use Rattle.cipso_option.specs.Option.{option_answer, option_out};
@@ -29,6 +28,6 @@ pub fn what_an_option_says()
 
 // With one table, grown from a fresh one: reading what was written for a label gives the label back, unless a lower-numbered label has the same mapping.
 pub fn option_reads_back()
-    ensures { (st : Store) (l out : List ℕ) (n : ℕ) → Grown (table_of st) → option_answer st l out ≡ Length n →
+    ensures { (st : Store) (l out : List ℕ) (n : ℕ) → Grown (table_of st) → option_answer st l out ≡ Ok n →
         ReadsBack st l (take n (option_out st l out)) }
 {}

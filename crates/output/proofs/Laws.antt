@@ -8,16 +8,18 @@ use lib.Dec.{leb}
 use borrow.Author.Tests.{le-leb, lt-leb}
 use lib.ListN.{length, take, drop, set, length-append}
 use lib.Seq.{take-append_seam}
+use Rattle.refusals.specs.Refusals.{output_too_short}
+use Rattle.refusals.specs.declared.Refusal.{Refusal}
 use Rattle.search.specs.Bytes.{written}
 use Rattle.search.proofs.Laws.{length-written, written-more, written_one}
 use Rattle.output.specs.Output.{put_answer, put_out, Text, text, refused, text_answer, text_out, Written, LengthAnswered}
-use Rattle.output.specs.declared.Output.TheVariants as output
+use Rattle.std.proofs.Common.{Ok, Err}
 
 -- ---- a text that fits, and one that does not
 
 module _ (t out : List ℕ) where
   module _ (h : length t ≤ length out) where
-    pub fits-answer : put_answer t out ≡ output.Length (length t)
+    pub fits-answer : put_answer t out ≡ Ok (length t)
     unfolding put_answer
     fits-answer = rw (le-leb (length t) (length out) h)
 
@@ -26,7 +28,7 @@ module _ (t out : List ℕ) where
     fits_out = rw (le-leb (length t) (length out) h)
 
   module _ (h : length out < length t) where
-    pub short-answer : put_answer t out ≡ output.Refused 12
+    pub short-answer : put_answer t out ≡ Err output_too_short
     unfolding put_answer
     short-answer = rw (lt-leb (length t) (length out) h)
 
@@ -35,21 +37,21 @@ module _ (t out : List ℕ) where
     short-out = rw (lt-leb (length t) (length out) h)
 
 -- a refusal writes nothing
-pub refused_keeps : (x : Text) (out : List ℕ) (n : ℕ) → text_answer x out ≡ output.Refused n → text_out x out ≡ out
+pub refused_keeps : (x : Text) (out : List ℕ) (why : Refusal) → text_answer x out ≡ Err why → text_out x out ≡ out
 unfolding put_answer put_out
-refused_keeps (text t) out n q = by-test (leb (length t) (length out)) q
+refused_keeps (text t) out why q = by-test (leb (length t) (length out)) q
   where
-    by-test : (b : Bool) → cond b (output.Length (length t)) (output.Refused 12) ≡ output.Refused n → cond b (written out 0 t) out ≡ out
+    by-test : (b : Bool) → cond b (Ok (length t)) (Err output_too_short) ≡ Err why → cond b (written out 0 t) out ≡ out
     by-test true q = let z : ◌≡◌ {A = ℕ} 0 1 = cc in absurd (omega arith)
     by-test false q = refl
-refused_keeps (refused k) out n q = refl
+refused_keeps (refused k) out why q = refl
 
 -- THE LENGTH WRITTEN IS ANSWERED
-written_is : (x : Text) (out : List ℕ) (n : ℕ) → text_answer x out ≡ output.Length n → Written x out (text_out x out) n
+written_is : (x : Text) (out : List ℕ) (n : ℕ) → text_answer x out ≡ Ok n → Written x out (text_out x out) n
 unfolding put_answer put_out written
 written_is (text t) out n q = by-test (leb (length t) (length out)) q
   where
-    by-test : (b : Bool) → cond b (output.Length (length t)) (output.Refused 12) ≡ output.Length n → Written (text t) out (cond b (written out 0 t) out) n
+    by-test : (b : Bool) → cond b (Ok (length t)) (Err output_too_short) ≡ Ok n → Written (text t) out (cond b (written out 0 t) out) n
     by-test true q =
         let e : length t ≡ n = cc in
         let k : 0 + length t ≡ n = omega arith in

@@ -12,8 +12,7 @@ use lib.Seq.{take-take, get_or-take, get_or-drop, length-take-le, drop-cons}
 use Rattle.search.specs.Bytes.{same_bytes}
 use Rattle.search.specs.Search.{first, place_of, entries as listed}
 use Rattle.search.specs.Within.{word_at}
-use Rattle.search.specs.declared.Found.{Found}
-use Rattle.search.specs.declared.Found.TheVariants.{At, Nothing}
+use Rattle.std.proofs.Common.{Option, Some, None}
 use Rattle.search.proofs.Laws.{no, same-equal, first-is, first-before, first_fails, first-append, first_snoc, first-last, last_entry, entries-length, entries_at}
 use Rattle.store.specs.Layout.{label_at}
 use Rattle.places.specs.Within.{Unlike, NoWord, NotHeld, FirstHeld}
@@ -123,11 +122,11 @@ no_word_join t offset word from i m j meets before here = no_word_more t offset 
 -- ---- a label sought where another was found
 
 -- a place of the first n
-pub found_below : {A : Type 0} (p : A → Bool) (f : ℕ → A) (n k : ℕ) → first p (listed f n) ≡ At k → k < n
+pub found_below : {A : Type 0} (p : A → Bool) (f : ℕ → A) (n k : ℕ) → first p (listed f n) ≡ Some k → k < n
 found_below p f n k e = omega (arith, (first-is p (f 0) (listed f n) k e).0, entries-length f n)
 
 -- what a search for any label answers is the first place that holds what it holds
-pub first-held : (t : List ℕ) (n : ℕ) (l : List ℕ) (r : Found) → r ≡ first (same_bytes l) (listed (label_at t) n) → FirstHeld t n r
+pub first-held : (t : List ℕ) (n : ℕ) (l : List ℕ) (r : Option ℕ) → r ≡ first (same_bytes l) (listed (label_at t) n) → FirstHeld t n r
 first-held t n l r is k at =
     let e = sym is ∙ at in
     let here = sym (ap (same_bytes l) (entries_at (label_at t) (label_at t 0) n k (found_below (same_bytes l) (label_at t) n k e))) ∙ (first-is (same_bytes l) (label_at t 0) (listed (label_at t) n) k e).1 in
@@ -153,18 +152,18 @@ module _ {A : Type 0} (p : A → Bool) (f : ℕ → A) (last : ℕ) where
       above k h true e = omega arith
       above k h false e = omega arith
 
-      by_case : (r : Found) → first p (listed f i) ≡ r → (b : Bool) → p (f i) ≡ b → min low here ≡ lowest (i + 1)
-      by_case (At k) e b q =
-          let low-is : low ≡ k = is ∙ ap (λ (r : Found). place_of r last) e in
+      by_case : (r : Option ℕ) → first p (listed f i) ≡ r → (b : Bool) → p (f i) ≡ b → min low here ≡ lowest (i + 1)
+      by_case (Some k) e b q =
+          let low-is : low ≡ k = is ∙ ap (λ (r : Option ℕ). place_of r last) e in
           let below = found_below p f i k e in
           let t : min low here ≡ low = omega (arith, above k below b (here-is b q)) in
           rw (t, more ∙ first-append p (listed f i) (f i ∷ []) k e) low-is
-      by_case Nothing e true q =
-          let low-is : low ≡ last = is ∙ ap (λ (r : Found). place_of r last) e in
+      by_case None e true q =
+          let low-is : low ≡ last = is ∙ ap (λ (r : Option ℕ). place_of r last) e in
           let t : min low here ≡ here = omega (arith, here-is true q) in
           rw (t, more ∙ first-last p (listed f i) (f i) e q, entries-length f i) (here-is true q)
-      by_case Nothing e false q =
-          let low-is : low ≡ last = is ∙ ap (λ (r : Found). place_of r last) e in
+      by_case None e false q =
+          let low-is : low ≡ last = is ∙ ap (λ (r : Option ℕ). place_of r last) e in
           let t : min low here ≡ here = omega (arith, here-is false q) in
           rw (t, more ∙ first_snoc p (listed f i) (f i) q ∙ e) (here-is false q)
 
@@ -172,20 +171,20 @@ module _ {A : Type 0} (p : A → Bool) (f : ℕ → A) (last : ℕ) where
   before-lowest : (m k : ℕ) → k < m → k < lowest m → p (f k) ≡ false
   before-lowest m k h below = sym (ap p (entries_at f (f 0) m k h)) ∙ by_case (first p (listed f m)) refl below
     where
-      by_case : (r : Found) → first p (listed f m) ≡ r → k < place_of r last → p (get_or (listed f m) k (f 0)) ≡ false
-      by_case (At j) e b = first-before p (f 0) (listed f m) j e k b
-      by_case Nothing e b = first_fails p (f 0) (listed f m) e k (omega (arith, entries-length f m))
+      by_case : (r : Option ℕ) → first p (listed f m) ≡ r → k < place_of r last → p (get_or (listed f m) k (f 0)) ≡ false
+      by_case (Some j) e b = first-before p (f 0) (listed f m) j e k b
+      by_case None e b = first_fails p (f 0) (listed f m) e k (omega (arith, entries-length f m))
 
   -- and it passes, unless it is the number that stands for none
   pub at-lowest : (m low : ℕ) → low ≡ lowest m → (low ≡ last → ⊥) → p (f low) ≡ true
   at-lowest m low is other = by_case (first p (listed f m)) refl
     where
-      by_case : (r : Found) → first p (listed f m) ≡ r → p (f low) ≡ true
-      by_case (At j) e =
+      by_case : (r : Option ℕ) → first p (listed f m) ≡ r → p (f low) ≡ true
+      by_case (Some j) e =
           let h = first-is p (f 0) (listed f m) j e in
-          let low-is : low ≡ j = is ∙ ap (λ (r : Found). place_of r last) e in
+          let low-is : low ≡ j = is ∙ ap (λ (r : Option ℕ). place_of r last) e in
           ap (λ (k : ℕ). p (f k)) low-is ∙ sym (ap p (entries_at f (f 0) m j (found_below p f m j e))) ∙ h.1
-      by_case Nothing e = absurd (other (is ∙ ap (λ (r : Found). place_of r last) e))
+      by_case None e = absurd (other (is ∙ ap (λ (r : Option ℕ). place_of r last) e))
 
 -- places before an index, and those of the block that begins there: none of them passes before the block's lowest
 pub none-before-lowest :

@@ -1,10 +1,8 @@
 -- What the searches know of places that they passed. No public contract names these. Assumes nothing.
-use Rattle.std.specs.Prelude.{ℕ, ◌+◌, ◌*◌, ◌<◌, ◌≤◌, get_or, eqb, false, ◌&&◌, ◌≡◌, List}
+use Rattle.std.specs.Prelude.{ℕ, ◌+◌, ◌*◌, ◌<◌, ◌≤◌, get_or, eqb, false, ◌&&◌, ◌≡◌, List, Option, Some}
 use Rattle.search.specs.Search.{first, entries}
 use Rattle.search.specs.Bytes.{same_bytes}
 use Rattle.search.specs.Within.{word_at}
-use Rattle.search.specs.declared.Found.{Found}
-use Rattle.search.specs.declared.Found.TheVariants.{At}
 use Rattle.store.specs.Table.{label_limit}
 use Rattle.store.specs.Layout.{place_size, label_at}
 
@@ -25,8 +23,8 @@ abbrev pub Another : List ℕ → ℕ → List ℕ → ℕ → Type 0
 Another labels count label k = k < count → same_bytes label (label_at labels k) ≡ false
 
 -- a place that was found is the first, of those that are stored, that holds what it holds
-abbrev pub FirstHeld : List ℕ → ℕ → Found → Type 0
-FirstHeld labels count hint = (k : ℕ) → hint ≡ At k → first (same_bytes (label_at labels k)) (entries (label_at labels) count) ≡ At k
+abbrev pub FirstHeld : List ℕ → ℕ → Option ℕ → Type 0
+FirstHeld labels count hint = (k : ℕ) → hint ≡ Some k → first (same_bytes (label_at labels k)) (entries (label_at labels) count) ≡ Some k
 
 -- how many places of rules are looked at in one go, and what stands for no place among them
 abbrev pub block : ℕ

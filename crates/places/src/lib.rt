@@ -12,8 +12,6 @@ ghost use Rattle.store.specs.Within.{entered};
 ghost use Rattle.places.specs.Places.{label_start, PartFrom};
 ghost use Rattle.places.specs.Within.{Unlike, NoWord, NotHeld, Another, FirstHeld, block, none_in_block};
 
-use search::Found;
-
 // How many places of rules are looked at in one go, and what stands for no place among them.
 const BLOCK: usize = 64;
 
@@ -46,56 +44,27 @@ fn next_short(labels: &[u8], from: usize, count: usize, n: usize, last: u8) -> u
     requires { (length labels.now ≡ labels_size) × (from ≤ label_limit) × (count ≤ label_limit) × (n ≤ 255) }
     ensures { (from ≤ result) × ((k : ℕ) → from ≤ k → k < result → Unlike labels.now k n last) }
 {
-    let mut i = from;
-    let mut at = from * store::LABEL_PLACE;
-    while i < count {
+    for k in from..count {
+        let at = k * store::LABEL_PLACE;
         if (labels[at + n] == last) & (labels[at] as usize == n) {
-            return i;
+            return k;
         }
-        i += 1;
-        at += store::LABEL_PLACE;
     }
-    i
+    from.max(count)
 }
 
-// The first of two places from an index on that has this word at that offset, or one past them. Each place has a test and an exit of its own, so
-// that the processor guesses wrong once for a label. Who calls it has tested the store.
-fn of_two(labels: &[u8], from: usize, offset: usize, word: u32) -> usize
-    requires { (length labels.now ≡ labels_size) × (from + 2 ≤ label_limit) × (offset + 4 ≤ place_size) }
-    ensures { (from ≤ result) × (result ≤ from + 2) × NoWord labels.now offset word from result }
+// The first of N places from an index on that has this word at that offset, or one past them. How many is a constant, so that the compiler gives each
+// place a test and an exit of its own, and the processor guesses wrong once for a label. Who calls it has tested the store.
+fn next_of<const N: usize>(labels: &[u8], from: usize, offset: usize, word: u32) -> usize
+    requires { (length labels.now ≡ labels_size) × (from + N ≤ label_limit) × (offset + 4 ≤ place_size) }
+    ensures { (from ≤ result) × (result ≤ from + N) × NoWord labels.now offset word from result }
 {
-    let at = from * store::LABEL_PLACE + offset;
-    if search::word_at(labels, at) == word {
-        return from;
+    for k in from..from + N {
+        if search::word_at(labels, k * store::LABEL_PLACE + offset) == word {
+            return k;
+        }
     }
-    if search::word_at(labels, at + store::LABEL_PLACE) == word {
-        return from + 1;
-    }
-    from + 2
-}
-
-// The same of four places.
-fn of_four(labels: &[u8], from: usize, offset: usize, word: u32) -> usize
-    requires { (length labels.now ≡ labels_size) × (from + 4 ≤ label_limit) × (offset + 4 ≤ place_size) }
-    ensures { (from ≤ result) × (result ≤ from + 4) × NoWord labels.now offset word from result }
-{
-    let k = of_two(labels, from, offset, word);
-    if k < from + 2 {
-        return k;
-    }
-    of_two(labels, from + 2, offset, word)
-}
-
-// The same of eight places.
-fn of_eight(labels: &[u8], from: usize, offset: usize, word: u32) -> usize
-    requires { (length labels.now ≡ labels_size) × (from + 8 ≤ label_limit) × (offset + 4 ≤ place_size) }
-    ensures { (from ≤ result) × (result ≤ from + 8) × NoWord labels.now offset word from result }
-{
-    let k = of_four(labels, from, offset, word);
-    if k < from + 4 {
-        return k;
-    }
-    of_four(labels, from + 4, offset, word)
+    from + N
 }
 
 // The next place from an index on, of the first `count`, that has this word at that offset, or one that is not of these: eight at a time, of
@@ -107,19 +76,18 @@ fn next_with(labels: &[u8], from: usize, count: usize, offset: usize, word: u32)
     let eights = (count + 7) / 8 * 8;
     let mut i = from;
     while i + 8 <= eights {
-        let k = of_eight(labels, i, offset, word);
+        let k = next_of::<8>(labels, i, offset, word);
         if k < i + 8 {
             return k;
         }
         i += 8;
     }
-    while i < count {
-        if search::word_at(labels, i * store::LABEL_PLACE + offset) == word {
-            return i;
+    for k in i..count {
+        if search::word_at(labels, k * store::LABEL_PLACE + offset) == word {
+            return k;
         }
-        i += 1;
     }
-    i
+    i.max(count)
 }
 
 // The next place from an index on, of the first `count`, that is like a label, or one past them: it ends in the same four bytes. Few others
@@ -137,32 +105,32 @@ fn next_like(labels: &[u8], from: usize, count: usize, label: &[u8]) -> usize
 
 // The number of a label among the first `count`: the first that has its bytes. One place, where there is such a place, is known to hold another
 // label, and is not compared. Who calls it has tested the store.
-fn find_besides(labels: &[u8], count: usize, label: &[u8], passed: usize) -> Found
+fn find_besides(labels: &[u8], count: usize, label: &[u8], passed: usize) -> Option<usize>
     requires { (length labels.now ≡ labels_size) × (count ≤ label_limit) × Another labels.now count label.now passed }
     ensures { result ≡ first (same_bytes label.now) (listed (label_at labels.now) count) }
 {
     if 255 < label.len() {
-        return Found::Nothing;
+        return None;
     }
     let mut i = 0;
     while i < count {
         let k = next_like(labels, i, count, label);
         if count <= k {
-            return Found::Nothing;
+            return None;
         }
         if k != passed {
             let held = label_at(labels, k);
             if search::same_bytes(label, held) {
-                return Found::At(k);
+                return Some(k);
             }
         }
         i = k + 1;
     }
-    Found::Nothing
+    None
 }
 
 // The number of a label among the first `count`, each of which may hold it. Who calls it has tested the store.
-pub fn find_label(labels: &[u8], count: usize, label: &[u8]) -> Found
+pub fn find_label(labels: &[u8], count: usize, label: &[u8]) -> Option<usize>
     requires { (length labels.now ≡ labels_size) × (count ≤ label_limit) }
     ensures { result ≡ first (same_bytes label.now) (listed (label_at labels.now) count) }
 {
@@ -171,11 +139,16 @@ pub fn find_label(labels: &[u8], count: usize, label: &[u8]) -> Found
 
 // The same, where the other label of a question, which is often the same, has been sought: the place that it answered is compared first, and not again. Who
 // calls it has tested the store and has that answer.
-pub fn find_label_hinted(labels: &[u8], count: usize, label: &[u8], hint: Found) -> Found
+pub fn find_label_hinted(
+    labels: &[u8],
+    count: usize,
+    label: &[u8],
+    hint: Option<usize>,
+) -> Option<usize>
     requires { (length labels.now ≡ labels_size) × (count ≤ label_limit) × FirstHeld labels.now count hint }
     ensures { result ≡ first (same_bytes label.now) (listed (label_at labels.now) count) }
 {
-    let Found::At(k) = hint else {
+    let Some(k) = hint else {
         return find_besides(labels, count, label, count);
     };
     let hinted = label_at(labels, k);
@@ -199,40 +172,36 @@ fn lowest_pair(entries: &[u8], from: usize, subject: u8, object: u8) -> u8
     ensures { result ≡ place_of (first (is_pair subject object) (listed (λ i. rule_at entries.now (from + i)) block)) none_in_block }
 {
     let mut low = NO_PLACE;
-    let mut i = 0;
-    while i < BLOCK {
+    for i in 0..BLOCK {
         let at = from + i;
         let holds = (entries[at] == subject) & (entries[store::OBJECTS_FROM + at] == object);
         low = search::smaller(low, place_if(holds, i as u8));
-        i += 1;
     }
     low
 }
 
 // The place of a pair's rule among the first `count`: only numbers are compared, a block of places at a time, of which some may stand past the
 // count. Who calls it has tested the store.
-pub fn find_pair(entries: &[u8], count: usize, subject: u8, object: u8) -> Found
+pub fn find_pair(entries: &[u8], count: usize, subject: u8, object: u8) -> Option<usize>
     requires { (modes_from + rule_limit ≤ length entries.now) × (count ≤ rule_limit) }
     ensures { result ≡ first (is_pair subject object) (listed (rule_at entries.now) count) }
 {
-    let mut passed = 0;
-    while passed * BLOCK < count {
+    for passed in 0..count.div_ceil(BLOCK) {
         let from = passed * BLOCK;
         let low = lowest_pair(entries, from, subject, object) as usize;
         if low < BLOCK {
             let k = from + low;
             if k < count {
-                return Found::At(k);
+                return Some(k);
             }
-            return Found::Nothing;
+            return None;
         }
-        passed += 1;
     }
-    Found::Nothing
+    None
 }
 
 // The number of an entry that is there or takes the next place, and how many entries there then are.
-#[derive(Drop)]
+#[derive(Clone, Copy, Debug, PartialEq, Eq)]
 pub struct Numbered {
     pub number: usize,
     pub count: usize,
@@ -240,13 +209,13 @@ pub struct Numbered {
 
 // The number of an entry that was sought, and how many there then are. Who calls it has a count of a tested store, which is at most 256, or one
 // more; 300 leaves room for that.
-pub fn number_for(found: Found, count: usize) -> Numbered
+pub fn number_for(found: Option<usize>, count: usize) -> Numbered
     requires { count ≤ 300 }
     ensures { result ≡ record { number = place_of found count; count = count_after found count } }
 {
     match found {
-        Found::At(i) => Numbered { number: i, count },
-        Found::Nothing => Numbered {
+        Some(i) => Numbered { number: i, count },
+        None => Numbered {
             number: count,
             count: count + 1,
         },
@@ -254,23 +223,25 @@ pub fn number_for(found: Found, count: usize) -> Numbered
 }
 
 // Whether an entry that was sought has no place among `count`, of which there may be `limit`.
-pub fn full(found: Found, count: usize, limit: usize) -> bool
+pub fn full(found: Option<usize>, count: usize, limit: usize) -> bool
     ensures { result ≡ no_place found count limit }
 {
     match found {
-        Found::At(_) => false,
-        Found::Nothing => limit <= count,
+        Some(_) => false,
+        None => limit <= count,
     }
 }
 
-// Writes a label into the next place where it was not found. Who calls it has tested the store and the label, and that there is room.
-pub fn enter(labels: &mut [u8], found: Found, count: usize, label: &[u8])
+// Writes a label into the next place where it was not found. Who calls it has tested the store and the label, and that there is room. (That each number of a
+// slice of bytes is a byte is told too: who lends it out of a struct does not see that.)
+pub fn enter(labels: &mut [u8], found: Option<usize>, count: usize, label: &[u8])
     requires { (length labels.old ≡ labels_size) × (place_of found count < label_limit) × (length label.now ≤ 255) }
-    ensures { labels.new ≡ entered found labels.old count label.now }
+    ensures labels_after { labels.new ≡ entered found labels.old count label.now }
+    ensures bytes { (k : ℕ) → get_or labels.old k 0 ≤ 255 }
 {
     match found {
-        Found::At(_) => {}
-        Found::Nothing => {
+        Some(_) => {}
+        None => {
             store::write_label(labels, count, label);
         }
     }
@@ -278,16 +249,14 @@ pub fn enter(labels: &mut [u8], found: Found, count: usize, label: &[u8])
 
 // The place of a label's mapping among the first `count`, by the label's number: the first that names it, whatever the sets. Who calls it
 // has tested the store.
-pub fn find_mapping(entries: &[u8], count: usize, number: usize) -> Found
+pub fn find_mapping(entries: &[u8], count: usize, number: usize) -> Option<usize>
     requires { (mapped_from + mapping_limit ≤ length entries.now) × (count ≤ mapping_limit) }
     ensures { (words : List ℕ) → result ≡ first (names number) (listed (mapping_at entries.now words) count) }
 {
-    let mut i = 0;
-    while i < count {
+    for i in 0..count {
         if entries[store::MAPPED_FROM + i] as usize == number {
-            return Found::At(i);
+            return Some(i);
         }
-        i += 1;
     }
-    Found::Nothing
+    None
 }

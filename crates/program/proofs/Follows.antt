@@ -21,8 +21,11 @@ use Rattle.access.specs.declared.Answer.{Answer}
 use Rattle.access.specs.declared.Answer.TheVariants.{Refused}
 use Rattle.reports.specs.declared.Loader.{Loader}
 use Rattle.reports.specs.Report.{fresh_loader}
-use Rattle.load.specs.declared.Ended.{Ended}
-use Rattle.load.specs.declared.Ended.TheVariants as e
+use Rattle.std.proofs.Common.{Result, Ok, Err}
+use Rattle.refusals.specs.declared.Refusal.{Refusal}
+use Rattle.reports.specs.declared.Report.{Report}
+use Rattle.program.specs.declared.Session.{Session}
+use Rattle.program.specs.declared.Declined.{Declined}
 use Rattle.load.specs.Loader.{Load, load, ready, step_byte, end_answer, end_after}
 use Rattle.load.proofs.Laws.{is-ready}
 use Rattle.lists.specs.Reader.{Totals, Reader, start_on, finish, limited_totals, report}
@@ -31,7 +34,6 @@ use Rattle.lists.proofs.Follows.{SameLine, Holds, step_follows, fresh_holds}
 use Rattle.lists.proofs.Steps.{totals_of, end-reply, end_law, question_law}
 use Rattle.replies.specs.Replies.{line_room, answer_line}
 use Rattle.program.specs.Program.{mark, is_mark, asked, answer_to, report_line}
-use Rattle.program.specs.declared.Turn.{Turn}
 use Rattle.program.specs.Turns.{went_count}
 use Rattle.program.specs.Steps.{State, state, fresh_session, asking, reading, at_mark, emptied, without_mark, answer_of, answer_text, ended_text, text_after, text_says, byte_by, say_by, take_input_byte, say_input_byte, take_input, say_input, say_last_by, take_last, say_last, Turns}
 use Rattle.program.proofs.Laws.{unmarked_yes, unmarked_no}
@@ -101,10 +103,10 @@ answer-same s p h = by-test (ltb line_limit (length p.kept)) refl
 
 -- ---- the end call's report, as it is written
 
-report-text : (r : Ended) (c : Totals) → end-reply r ≡ report c → ended_text r ≡ report_line c
+report-text : (r : Result (Report × Loader) Refusal) (c : Totals) → end-reply r ≡ report c → ended_text r ≡ report_line c
 unfolding report_line
-report-text (e.Report r l) c q = let z : totals_of r ≡ c = cc in ap (λ (x : Totals). report_line x) z
-report-text (e.Refused n) c q = let z : ◌≡◌ {A = ℕ} 0 1 = cc in absurd (omega arith)
+report-text (Ok (r, l)) c q = let z : totals_of r ≡ c = cc in ap (λ (x : Totals). report_line x) z
+report-text (Err n) c q = let z : ◌≡◌ {A = ℕ} 0 1 = cc in absurd (omega arith)
 
 text_says_lem : (s : Load) (p : Reader) → Holds s p → text_says s ≡ reports (plain_unmarked p)
 text_says_lem s p h =
@@ -185,21 +187,21 @@ front-is : (out said : List ℕ) → take (length said) (written out 0 said) ≡
 unfolding written
 front-is out said = take-append_seam said _
 
-turn_says : {most : ℕ} {s after s' : State} {said out out' : List ℕ} {r : Turn} → Turns most s after said out r s' out' → most ≤ length out → ready s.load ≡ true → (s' ≡ after) × (take (went_count r) out' ≡ said)
+turn_says : {most : ℕ} {s after s' : State} {said out out' : List ℕ} {r : Result (Session × ℕ) Declined} → Turns most s after said out r s' out' → most ≤ length out → ready s.load ≡ true → (s' ≡ after) × (take (went_count r) out' ≡ said)
 turn_says {most = most} {said = said} {out = out} {out' = out'} turn room fine =
     let p = le-leb most (length out) room in
     let a = turn.answer in
     let b = turn.state in
     let c = turn.output in
-    (rw (p, fine) at b, ap (λ (t : Turn). take (went_count t) out') (rw (p, fine) at a) ∙ ap (λ (l : List ℕ). take (length said) l) (rw (p, fine) at c) ∙ front-is out said)
+    (rw (p, fine) at b, ap (λ (t : Result (Session × ℕ) Declined). take (went_count t) out') (rw (p, fine) at a) ∙ ap (λ (l : List ℕ). take (length said) l) (rw (p, fine) at c) ∙ front-is out said)
 
-pub feed_law : {s s' : State} {out out' : List ℕ} {r : Turn} (q : Phase) (input : List ℕ) → Turns (line_room * length input) s (take_input s input) (say_input s input) out r s' out' → line_room * length input ≤ length out → Stands s q → Kept s' (take (went_count r) out') (phase_on q input) (said_on q input)
+pub feed_law : {s s' : State} {out out' : List ℕ} {r : Result (Session × ℕ) Declined} (q : Phase) (input : List ℕ) → Turns (line_room * length input) s (take_input s input) (say_input s input) out r s' out' → line_room * length input ≤ length out → Stands s q → Kept s' (take (went_count r) out') (phase_on q input) (said_on q input)
 feed_law {s} q input turn room h =
     let t = turn_says turn room (stands-ready s q h) in
     let k = input_follows s q input h in
     record { stands = subst (λ (x : State). Stands x (phase_on q input)) (sym t.0) k.stands; says = t.1 ∙ k.says }
 
-pub finish_law : {s s' : State} {out out' : List ℕ} {r : Turn} (q : Phase) → Turns line_room s (take_last s) (say_last s) out r s' out' → line_room ≤ length out → Stands s q → take (went_count r) out' ≡ phase_last q
+pub finish_law : {s s' : State} {out out' : List ℕ} {r : Result (Session × ℕ) Declined} (q : Phase) → Turns line_room s (take_last s) (say_last s) out r s' out' → line_room ≤ length out → Stands s q → take (went_count r) out' ≡ phase_last q
 finish_law {s} q turn room h = (turn_says turn room (stands-ready s q h)).1 ∙ last_follows s q h
 
 pub begun : (st : Store) (line : List ℕ) → Sizes st.labels st.entries st.words → length line ≡ line_limit → Stands (state (fresh_store st) line fresh_session) (loads (start_on fresh))

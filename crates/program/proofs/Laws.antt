@@ -18,14 +18,14 @@ use Rattle.access.specs.Access.{question_of}
 use Rattle.access.specs.declared.Answer.TheVariants.{Refused}
 use Rattle.reports.specs.declared.Loader.{Loader}
 use Rattle.reports.specs.declared.Report.{Report}
-use Rattle.reports.specs.Report.{with_kept, fresh_loader}
-use Rattle.load.specs.declared.Fed.{Fed}
-use Rattle.load.specs.declared.Fed.TheVariants as f
-use Rattle.load.specs.declared.Ended.{Ended}
-use Rattle.load.specs.declared.Ended.TheVariants as e
+use Rattle.reports.specs.Report.{with_kept}
+use Rattle.std.proofs.Common.{Result, Ok, Err}
+use Rattle.refusals.specs.declared.Refusal.{Refusal}
+use Rattle.program.specs.declared.Declined.{Declined}
+use Rattle.program.specs.declared.Declined.TheVariants.{NoRoom, Damaged}
 use Rattle.text_lines.specs.Within.{before_newline}
 use Rattle.text_lines.proofs.Laws.{run-last, end-within}
-use Rattle.load.specs.Loader.{Load, load, ready, step_byte, step_piece, piece_answer, piece_after, step_end, end_answer, end_after}
+use Rattle.load.specs.Loader.{Load, load, ready, step_byte, step_piece, piece_answer, piece_after, end_answer, end_after}
 use Rattle.load.specs.Within.{fed_loader, ended_loader}
 use Rattle.load.proofs.Laws.{Ready, ready-is, is-ready, ready_step, ready-piece, joins, too_long_lem, byte_empties}
 use Rattle.replies.specs.Replies.{line_room, report_text}
@@ -34,8 +34,6 @@ use Rattle.replies.proofs.Laws.{written_none, put-length, put-said, put-none, pu
 use Rattle.program.specs.Program.{mark, asked}
 use Rattle.program.specs.Turns.{went_session, went_count}
 use Rattle.program.specs.declared.Session.{Session}
-use Rattle.program.specs.declared.Turn.{Turn}
-use Rattle.program.specs.declared.Turn.TheVariants as t
 use Rattle.program.specs.Steps.{State, state, session_of, reading, asking, at_mark, emptied, unmarked, answer_of, answer_text, ended_text, without_mark, text_after, text_says, take_input_byte, say_input_byte, take_input, say_input, last_by, say_last_by, take_last, say_last, turn_of, Front, Turns}
 use Rattle.program.specs.Within.{text_end}
 
@@ -48,12 +46,12 @@ none_written : (out : List ℕ) → out ≡ written out 0 []
 none_written out = sym (written_none out 0)
 
 module _ {most : ℕ} {s after : State} {said : List ℕ} where
-  pub no_room : (out : List ℕ) → length out < most → Turns most s after said out t.NoRoom s out
+  pub no_room : (out : List ℕ) → length out < most → Turns most s after said out (Err NoRoom) s out
   no_room out h =
       let p = lt-leb most (length out) h in
       record { answer = rw p; state = rw p; output = rw p (none_written out); front = front 0 out (omega arith) }
 
-  pub damaged : (out : List ℕ) → most ≤ length out → ready s.load ≡ false → Turns most s after said out t.Damaged s out
+  pub damaged : (out : List ℕ) → most ≤ length out → ready s.load ≡ false → Turns most s after said out (Err Damaged) s out
   damaged out h q =
       let p = le-leb most (length out) h in
       record { answer = rw (p, q); state = rw (p, q); output = rw (p, q) (none_written out); front = front 0 out (omega arith) }
@@ -64,32 +62,32 @@ module _ {most : ℕ} {s after : State} {said : List ℕ} where
       ready s.load ≡ true →
       state st line x ≡ after →
       Put most out 0 said out' n →
-      Turns most s after said out (t.Went x n) (state st line x) out'
+      Turns most s after said out (Ok (x, n)) (state st line x) out'
   went {n = n} {x = x} {out = out} {out' = out'} h q a w =
       let p = le-leb most (length out) h in
       let size = put-length w (omega (arith, w.short, h)) in
       let counts : n ≡ length said = omega (arith, w.ends) in
       record {
-        answer = rw (p, q) (ap (λ (y : Session). t.Went y n) (ap session_of a) ∙ ap (λ (k : ℕ). t.Went (session_of after) k) counts);
+        answer = rw (p, q) (ap (λ (y : Session). Ok (y, n)) (ap session_of a) ∙ ap (λ (k : ℕ). Ok (session_of after, k)) counts);
         state = rw (p, q) a;
         output = rw (p, q) w.bytes;
         front = front n out' (omega (arith, counts, w.short, size, h));
       }
 
 -- a call that hands on what another did, of the same output
-module _ {m n : ℕ} {z s after after' : State} {said said' out : List ℕ} {r : Turn} {s' : State} {out' : List ℕ} (turn : Turns m z after said out r s' out') (h : m ≤ n) (k : n ≤ length out) where
+module _ {m n : ℕ} {z s after after' : State} {said said' out : List ℕ} {r : Result (Session × ℕ) Declined} {s' : State} {out' : List ℕ} (turn : Turns m z after said out r s' out') (h : m ≤ n) (k : n ≤ length out) where
   pub hands_on : ready z.load ≡ true → ready s.load ≡ true → after ≡ after' → said ≡ said' → Turns n s after' said' out r s' out'
   hands_on fine fine' a b =
       let p = le-leb n (length out) k in
       let q = le-leb m (length out) (omega (arith, h, k)) in
       record {
-        answer = rw (p, fine') (handed q ∙ ap (λ (x : State). t.Went (session_of x) (length said)) a ∙ ap (λ (l : List ℕ). t.Went (session_of after') (length l)) b);
+        answer = rw (p, fine') (handed q ∙ ap (λ (x : State). Ok (session_of x, length said)) a ∙ ap (λ (l : List ℕ). Ok (session_of after', length l)) b);
         state = rw (p, fine') (state-is q ∙ a);
         output = rw (p, fine') (output-is q ∙ ap (λ (l : List ℕ). written out 0 l) b);
         front = turn.front;
       }
     where
-      handed : leb m (length out) ≡ true → r ≡ t.Went (session_of after) (length said)
+      handed : leb m (length out) ≡ true → r ≡ Ok (session_of after, length said)
       handed q = let z = turn.answer in rw (q, fine) at z
 
       state-is : leb m (length out) ≡ true → s' ≡ after
@@ -290,33 +288,34 @@ module _ (most : ℕ) (st : Store) (line : List ℕ) (x : Session) (after : Stat
   pub some_turn : Turns most given after said out (turn_of (leb most (length out)) given after said) (state goes.load.store goes.load.line (went_session x (turn_of (leb most (length out)) given after said))) (written out 0 (cond (leb most (length out) && ready given.load) said []))
   some_turn = record { answer = refl; state = by_state (leb most (length out)) (ready given.load); output = refl; front = by_front (leb most (length out)) (ready given.load) }
     where
-      by_state : (a b : Bool) → state (cond (a && b) after given).load.store (cond (a && b) after given).load.line (went_session x (cond a (cond b (t.Went (session_of after) (length said)) t.Damaged) t.NoRoom)) ≡ cond (a && b) after given
+      by_state : (a b : Bool) → state (cond (a && b) after given).load.store (cond (a && b) after given).load.line (went_session x (cond a (cond b (Ok (session_of after, length said)) (Err Damaged)) (Err NoRoom))) ≡ cond (a && b) after given
       by_state true true = refl
       by_state true false = refl
       by_state false b = refl
 
-      by_front : (a b : Bool) → Front (went_count (cond a (cond b (t.Went (session_of after) (length said)) t.Damaged) t.NoRoom)) (written out 0 (cond (a && b) said []))
+      by_front : (a b : Bool) → Front (went_count (cond a (cond b (Ok (session_of after, length said)) (Err Damaged)) (Err NoRoom))) (written out 0 (cond (a && b) said []))
       by_front true true = front_there out said
       by_front true false = front_there out []
       by_front false b = front_there out []
 
 -- ---- what the loader's calls answer says whether the state is damaged
 
-end_refused : {n : ℕ} (s : Load) → e.Refused n ≡ end_answer s → ready s ≡ false
-unfolding end_answer
-end_refused {n} s q = by-test (ready s) refl q
-  where
-    by-test : (b : Bool) → ready s ≡ b → e.Refused n ≡ cond b (e.Report (step_end s).loader.report fresh_loader) (e.Refused 0) → ready s ≡ false
-    by-test true p q = let z : ◌≡◌ {A = ℕ} 0 1 = cc in absurd (omega arith)
-    by-test false p q = p
+-- of a test that decides between an answer and a refusal
+refused-where : {A : Type 0} {n : Refusal} (b : Bool) (a : A) (m : Refusal) → Err n ≡ cond b (Ok a) (Err m) → b ≡ false
+refused-where true a m q = cc
+refused-where false a m q = refl
 
-end_reported : {a : Report} {l : Loader} (s : Load) → e.Report a l ≡ end_answer s → ready s ≡ true
+answered-where : {A : Type 0} {x : A} (b : Bool) (a : A) (m : Refusal) → Ok x ≡ cond b (Ok a) (Err m) → b ≡ true
+answered-where true a m q = refl
+answered-where false a m q = cc
+
+end_refused : {n : Refusal} (s : Load) → Err n ≡ end_answer s → ready s ≡ false
 unfolding end_answer
-end_reported {a} {l} s q = by-test (ready s) refl q
-  where
-    by-test : (b : Bool) → ready s ≡ b → e.Report a l ≡ cond b (e.Report (step_end s).loader.report fresh_loader) (e.Refused 0) → ready s ≡ true
-    by-test true p q = p
-    by-test false p q = let z : ◌≡◌ {A = ℕ} 0 1 = cc in absurd (omega arith)
+end_refused s q = refused-where (ready s) _ _ q
+
+end_reported : {a : Report} {l : Loader} (s : Load) → Ok (a, l) ≡ end_answer s → ready s ≡ true
+unfolding end_answer
+end_reported s q = answered-where (ready s) _ _ q
 
 end_stays : (s : Load) → ready s ≡ false → end_after s ≡ s
 unfolding end_after
@@ -324,24 +323,24 @@ end_stays s p = rw p
 
 -- ---- the end of the rule text, by what the end call answers and leaves
 
-module _ (s : State) {last : Loader} (p : last ≡ unmarked s.load.line s.load.loader) {r : Ended} (answer : r ≡ end_answer (load s.load.store s.load.line last)) {st : Store} {line : List ℕ} (after : load st line (ended_loader last r) ≡ end_after (load s.load.store s.load.line last)) where
+module _ (s : State) {last : Loader} (p : last ≡ unmarked s.load.line s.load.loader) {r : Result (Report × Loader) Refusal} (answer : r ≡ end_answer (load s.load.store s.load.line last)) {st : Store} {line : List ℕ} (after : load st line (ended_loader last r) ≡ end_after (load s.load.store s.load.line last)) where
   ended : r ≡ end_answer (without_mark s.load)
   ended = answer ∙ ap (λ (x : Loader). end_answer (load s.load.store s.load.line x)) p
 
-  pub text-damaged : {n : ℕ} (out : List ℕ) → r ≡ e.Refused n → line_room ≤ length out → Turns line_room s (text_after s.load) (text_says s.load) out t.Damaged (state st line (session_of s)) out
+  pub text-damaged : {n : Refusal} (out : List ℕ) → r ≡ Err n → line_room ≤ length out → Turns line_room s (text_after s.load) (text_says s.load) out (Err Damaged) (state st line (session_of s)) out
   text-damaged out told room =
       let q = end_refused (without_mark s.load) (sym told ∙ ended) in
       let stays = end_stays (load s.load.store s.load.line last) (ap (λ (x : Loader). ready (load s.load.store s.load.line x)) p ∙ q) in
-      subst (λ (x : State). Turns line_room s (text_after s.load) (text_says s.load) out t.Damaged x out)
+      subst (λ (x : State). Turns line_room s (text_after s.load) (text_says s.load) out (Err Damaged) x out)
       (sym (same_slices s (ap (λ (x : Loader). load st line x) (sym (ap (ended_loader last) told)) ∙ after ∙ stays)))
       (damaged out room (sym (ready-unmarked s.load) ∙ q))
 
   pub text_went :
       {a : Report} {next : Loader} {n : ℕ} {out out' : List ℕ} →
-      r ≡ e.Report a next →
+      r ≡ Ok (a, next) →
       line_room ≤ length out →
       Put line_room out 0 (report_text a) out' n →
-      Turns line_room s (text_after s.load) (text_says s.load) out (t.Went (record { loading = false; loader = next }) n) (state st line (record { loading = false; loader = next })) out'
+      Turns line_room s (text_after s.load) (text_says s.load) out (Ok (record { loading = false; loader = next }, n)) (state st line (record { loading = false; loader = next })) out'
   text_went told room w =
       went room
       (sym (ready-unmarked s.load) ∙ end_reported (without_mark s.load) (sym told ∙ ended))
@@ -350,11 +349,11 @@ module _ (s : State) {last : Loader} (p : last ≡ unmarked s.load.line s.load.l
 
 -- ---- and the question lines behind it
 
-module _ (s : State) {out out₁ : List ℕ} {r : Turn} {st : Store} {line : List ℕ} (turn : Turns line_room s (text_after s.load) (text_says s.load) out r (state st line (went_session (session_of s) r)) out₁) (room : line_room ≤ length out) (small : went_count r ≤ line_room) where
-  answered : {b : Bool} → ready s.load ≡ b → r ≡ cond b (t.Went (session_of (text_after s.load)) (length (text_says s.load))) t.Damaged
+module _ (s : State) {out out₁ : List ℕ} {r : Result (Session × ℕ) Declined} {st : Store} {line : List ℕ} (turn : Turns line_room s (text_after s.load) (text_says s.load) out r (state st line (went_session (session_of s) r)) out₁) (room : line_room ≤ length out) (small : went_count r ≤ line_room) where
+  answered : {b : Bool} → ready s.load ≡ b → r ≡ cond b (Ok (session_of (text_after s.load), length (text_says s.load))) (Err Damaged)
   answered q = let z = turn.answer in rw (le-leb line_room (length out) room, q) at z
 
-  module _ {x : Session} {n : ℕ} (told : r ≡ t.Went x n) where
+  module _ {x : Session} {n : ℕ} (told : r ≡ Ok (x, n)) where
     pub undamaged : ready s.load ≡ true
     undamaged = by-test (ready s.load) refl
       where
@@ -386,28 +385,20 @@ module _ (s : State) {out out₁ : List ℕ} {r : Turn} {st : Store} {line : Lis
         line_room * suc (length input) ≤ length out →
         asking (load st line₂ last) ≡ take_input (asking (load st line x.loader)) input →
         Put (line_room * length input) out₁ n (say_input (asking (load st line x.loader)) input) out₂ m →
-        Turns (line_room * suc (length input)) s (take_input (text_after s.load) input) (text_says s.load ++ say_input (text_after s.load) input) out (t.Went (record { loading = false; loader = last }) m) (state st line₂ (record { loading = false; loader = last })) out₂
+        Turns (line_room * suc (length input)) s (take_input (text_after s.load) input) (text_says s.load ++ say_input (text_after s.load) input) out (Ok (record { loading = false; loader = last }, m)) (state st line₂ (record { loading = false; loader = last })) out₂
     over-went input space a w =
         went space undamaged (a ∙ ap (λ (y : State). take_input y input) begins)
         (put-said (line_room * suc (length input)) (put_next (line_room * suc (length input)) reported w (omega (arith, room)) (omega arith)) (ap (λ (y : State). text_says s.load ++ say_input y input) begins) (omega arith))
 
 -- ---- a piece of rule text, by what the loader answers and leaves
 
-piece-refused : {n : ℕ} (s : Load) (text : List ℕ) → f.Refused n ≡ piece_answer s text → ready s ≡ false
+piece-refused : {n : Refusal} (s : Load) (text : List ℕ) → Err n ≡ piece_answer s text → ready s ≡ false
 unfolding piece_answer
-piece-refused {n} s text q = by-test (ready s) refl q
-  where
-    by-test : (b : Bool) → ready s ≡ b → f.Refused n ≡ cond b (f.Done (step_piece s text).loader) (f.Refused 0) → ready s ≡ false
-    by-test true p q = let z : ◌≡◌ {A = ℕ} 0 1 = cc in absurd (omega arith)
-    by-test false p q = p
+piece-refused s text q = refused-where (ready s) _ _ q
 
-piece-done : {l : Loader} (s : Load) (text : List ℕ) → f.Done l ≡ piece_answer s text → ready s ≡ true
+piece-done : {l : Loader} (s : Load) (text : List ℕ) → Ok l ≡ piece_answer s text → ready s ≡ true
 unfolding piece_answer
-piece-done {l} s text q = by-test (ready s) refl q
-  where
-    by-test : (b : Bool) → ready s ≡ b → f.Done l ≡ cond b (f.Done (step_piece s text).loader) (f.Refused 0) → ready s ≡ true
-    by-test true p q = p
-    by-test false p q = let z : ◌≡◌ {A = ℕ} 0 1 = cc in absurd (omega arith)
+piece-done s text q = answered-where (ready s) _ _ q
 
 piece_stays : (s : Load) (text : List ℕ) → ready s ≡ false → piece_after s text ≡ s
 unfolding piece_after
@@ -429,15 +420,15 @@ is-asking s p = ap (λ (b : Bool). phased b s.load) (sym p)
     phased : Bool → Load → State
     phased b l = record { loading = b; load = l }
 
-module _ (s : State) (p : s.loading ≡ true) (input : List ℕ) (end : ℕ) (e : end ≡ text_end (eqb s.load.loader.kept 0) (at_mark s.load.line s.load.loader) input) {r : Fed} (answer : r ≡ piece_answer s.load (take end input)) {st : Store} {line : List ℕ} (after : load st line (fed_loader s.load.loader r) ≡ piece_after s.load (take end input)) where
-  pub feed_damaged : {n : ℕ} (out : List ℕ) → r ≡ f.Refused n → line_room * length input ≤ length out → Turns (line_room * length input) s (take_input s input) (say_input s input) out t.Damaged (state st line (session_of s)) out
+module _ (s : State) (p : s.loading ≡ true) (input : List ℕ) (end : ℕ) (e : end ≡ text_end (eqb s.load.loader.kept 0) (at_mark s.load.line s.load.loader) input) {r : Result Loader Refusal} (answer : r ≡ piece_answer s.load (take end input)) {st : Store} {line : List ℕ} (after : load st line (fed_loader s.load.loader r) ≡ piece_after s.load (take end input)) where
+  pub feed_damaged : {n : Refusal} (out : List ℕ) → r ≡ Err n → line_room * length input ≤ length out → Turns (line_room * length input) s (take_input s input) (say_input s input) out (Err Damaged) (state st line (session_of s)) out
   feed_damaged out told room =
       let q = piece-refused s.load (take end input) (sym told ∙ answer) in
-      subst (λ (x : State). Turns (line_room * length input) s (take_input s input) (say_input s input) out t.Damaged x out)
+      subst (λ (x : State). Turns (line_room * length input) s (take_input s input) (say_input s input) out (Err Damaged) x out)
       (sym (same_slices s (ap (λ (x : Loader). load st line x) (sym (ap (fed_loader s.load.loader) told)) ∙ after ∙ piece_stays s.load (take end input) q)))
       (damaged out room q)
 
-  module _ {next : Loader} (told : r ≡ f.Done next) where
+  module _ {next : Loader} (told : r ≡ Ok next) where
     fine : ready s.load ≡ true
     fine = piece-done s.load (take end input) (sym told ∙ answer)
 
@@ -455,7 +446,7 @@ module _ (s : State) (p : s.loading ≡ true) (input : List ℕ) (end : ℕ) (e 
         (out : List ℕ) →
         line_room * length input ≤ length out →
         end ≡ length input →
-        Turns (line_room * length input) s (take_input s input) (say_input s input) out (t.Went (record { loading = true; loader = next }) 0) (state st line (record { loading = true; loader = next })) out
+        Turns (line_room * length input) s (take_input s input) (say_input s input) out (Ok (record { loading = true; loader = next }, 0)) (state st line (record { loading = true; loader = next })) out
     feed-all out room q =
         let a = split.all q in
         went room fine
@@ -464,7 +455,7 @@ module _ (s : State) (p : s.loading ≡ true) (input : List ℕ) (end : ℕ) (e 
 
     -- the line `?` ends it
     pub feed-rest :
-        {out out' rest line₂ : List ℕ} {st₂ : Store} {r₂ : Turn} →
+        {out out' rest line₂ : List ℕ} {st₂ : Store} {r₂ : Result (Session × ℕ) Declined} →
         rest ≡ drop (end + 1) input →
         line_room * length input ≤ length out →
         (end ≡ length input → ⊥) →
@@ -492,7 +483,7 @@ module _ (s : State) (p : s.loading ≡ true) (input : List ℕ) (end : ℕ) (e 
 -- ---- question lines, and the end of the input
 
 module _ (s : State) (p : s.loading ≡ false) where
-  pub finish-none : (out : List ℕ) → line_room ≤ length out → ready s.load ≡ true → s.load.loader.kept ≡ 0 → Turns line_room s (take_last s) (say_last s) out (t.Went (session_of s) 0) s out
+  pub finish-none : (out : List ℕ) → line_room ≤ length out → ready s.load ≡ true → s.load.loader.kept ≡ 0 → Turns line_room s (take_last s) (say_last s) out (Ok (session_of s, 0)) s out
   finish-none out room fine k =
       went room fine
       (sym (is-asking s p) ∙ ap (λ (n : ℕ). asking (load s.load.store s.load.line (with_kept s.load.loader n))) k ∙ sym (ap (λ (b : Bool). last_by b s.load) p))

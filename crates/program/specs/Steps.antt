@@ -1,25 +1,25 @@
 -- The program's input in lent memory: the exact step of the state, byte by byte, and what each step says. The line under way is the loader's, also
 -- a question's, once the rule text has ended. The contracts of `begin`, `feed` and `finish` cite these. Assumes nothing.
-use Rattle.std.specs.Prelude.{ℕ, ◌*◌, ◌≤◌, ◌≡◌, Bool, true, false, cond, ◌&&◌, length, take, get_or, ltb, leb, eqb}
+use Rattle.std.specs.Prelude.{ℕ, ◌*◌, ◌≤◌, ◌≡◌, Bool, true, false, cond, ◌&&◌, length, take, get_or, ltb, leb, eqb, Result, Ok, Err}
 use mathlib.Core.List.{List, [], ◌∷◌, ◌++◌, foldl}
 use Rattle.search.specs.Bytes.{written}
 use Rattle.refusals.specs.Refusals.{too_long}
 use Rattle.alphabet.specs.Alphabet.{newline, line_limit, fields}
-use Rattle.store.specs.Layout.{store, Store}
+use Rattle.store.specs.Layout.{Store}
 use Rattle.access.specs.Access.{question_of}
 use Rattle.access.specs.declared.Answer.{Answer}
 use Rattle.access.specs.declared.Answer.TheVariants.{Refused}
 use Rattle.reports.specs.declared.Loader.{Loader}
 use Rattle.reports.specs.Report.{fresh_loader, with_kept}
-use Rattle.load.specs.declared.Ended.{Ended}
-use Rattle.load.specs.declared.Ended.TheVariants as e
+use Rattle.refusals.specs.declared.Refusal.{Refusal}
+use Rattle.reports.specs.declared.Report.{Report}
+use Rattle.program.specs.declared.Declined.{Declined}
+use Rattle.program.specs.declared.Declined.TheVariants.{NoRoom, Damaged}
 use Rattle.load.specs.Loader.{Load, load, ready, step_byte, end_after, end_answer}
 use Rattle.replies.specs.Replies.{line_room, report_text, answer_line}
 use Rattle.program.specs.Program.{mark, asked}
 use Rattle.program.specs.Turns.{went_session, went_count}
 use Rattle.program.specs.declared.Session.{Session}
-use Rattle.program.specs.declared.Turn.{Turn}
-use Rattle.program.specs.declared.Turn.TheVariants.{Went, NoRoom, Damaged}
 
 -- the lent memory and the session: whether rule text is still read, and the loader's state
 pub record State : Type 0 where
@@ -64,9 +64,9 @@ answer_text s = answer_line (answer_of s.store s.line s.loader.kept)
 
 -- ---- the rule text ends: the end call, without the line `?`; its report is written
 
-abbrev pub ended_text : Ended → List ℕ
-ended_text (e.Report r l) = report_text r
-ended_text (e.Refused n) = []
+abbrev pub ended_text : Result (Report × Loader) Refusal → List ℕ
+ended_text (Ok (r, l)) = report_text r
+ended_text (Err n) = []
 
 abbrev pub without_mark : Load → Load
 without_mark s = load s.store s.line (unmarked s.line s.loader)
@@ -123,30 +123,27 @@ say_last s = say_last_by s.loading s.load
 -- ---- a call: where the output has room for the most that it may say, and the state is undamaged, it leaves a state and puts what is said at the front
 -- of the output; otherwise it does nothing
 
-abbrev pub turn_of : Bool → State → State → List ℕ → Turn
-turn_of room s after said = cond room (cond (ready s.load) (Went (session_of after) (length said)) Damaged) NoRoom
+abbrev pub turn_of : Bool → State → State → List ℕ → Result (Session × ℕ) Declined
+turn_of room s after said = cond room (cond (ready s.load) (Ok (session_of after, length said)) (Err Damaged)) (Err NoRoom)
 
 -- so many bytes stand at the front of an output. (The second part follows from the first: lending that part asks for both.)
 abbrev pub Front : ℕ → List ℕ → Type 0
 Front n out = (n ≤ length out) × (n ≡ length (take n out))
 
-pub record Turns (most : ℕ) (s after : State) (said out : List ℕ) (r : Turn) (s' : State) (out' : List ℕ) : Type 0 where
+pub record Turns (most : ℕ) (s after : State) (said out : List ℕ) (r : Result (Session × ℕ) Declined) (s' : State) (out' : List ℕ) : Type 0 where
   pub answer : r ≡ turn_of (leb most (length out)) s after said
   pub state : s' ≡ cond (leb most (length out) && ready s.load) after s
   pub output : out' ≡ written out 0 (cond (leb most (length out) && ready s.load) said [])
   pub front : Front (went_count r) out'
 
--- the state with the slices that a function is lent; and that which a turn leaves, of the slices as it leaves them
-abbrev pub enters : List ℕ → List ℕ → List ℕ → List ℕ → Session → State
-enters l e w line s = state (store l e w) line s
-
-abbrev pub leaves : List ℕ → List ℕ → List ℕ → List ℕ → Session → Turn → State
-leaves l e w line s r = state (store l e w) line (went_session s r)
+-- the state that a turn leaves, of the lent memory as it leaves it
+abbrev pub leaves : Store → List ℕ → Session → Result (Session × ℕ) Declined → State
+leaves st line s r = state st line (went_session s r)
 
 -- ---- what the two calls ensure, of the state and the output that they are lent and those that they leave
 
-abbrev pub Feeds : State → List ℕ → List ℕ → Turn → State → List ℕ → Type 0
+abbrev pub Feeds : State → List ℕ → List ℕ → Result (Session × ℕ) Declined → State → List ℕ → Type 0
 Feeds s input out r s' out' = Turns (line_room * length input) s (take_input s input) (say_input s input) out r s' out'
 
-abbrev pub Finishes : State → List ℕ → Turn → State → List ℕ → Type 0
+abbrev pub Finishes : State → List ℕ → Result (Session × ℕ) Declined → State → List ℕ → Type 0
 Finishes s out r s' out' = Turns line_room s (take_last s) (say_last s) out r s' out'

@@ -1,135 +1,92 @@
-// The refusals (01, The refusal numbers; 02), each under one name. specs/Refusals.antt has the same names for the definitions.
+// The refusals (01, The refusal numbers; 02), each a case. specs/Refusals.antt has the same names for the definitions, and each case's number and place.
 #![tactic(auto)]
 
-// A refusal: its number, and the place of the first bad byte beside 3 (02, Three). Beside any other number the place is 0.
-#[derive(Clone, Copy)]
-pub struct Refusal {
-    pub number: u8,
-    pub place: usize,
+ghost use Rattle.std.specs.Prelude.{◌≡◌};
+ghost use Rattle.refusals.specs.Refusals.{number_of, place_of};
+
+#[derive(Clone, Copy, Debug, PartialEq, Eq)]
+pub enum Refusal {
+    // The lent state is damaged: it comes before every other.
+    Damaged,
+    // A line or a write has too many bytes.
+    TooLong,
+    // Wrong number of fields.
+    WrongFields,
+    // A label is not well formed, and this is the place of its first bad byte (02, Three), or 0 for calls that tell none.
+    BadLabel { place: usize },
+    // An access field has a byte not allowed there.
+    BadAccess,
+    // Subject equals object.
+    SameLabels,
+    // More new labels than free label places.
+    LabelsFull,
+    // The pair has no rule, and the table of rules is full.
+    RulesFull,
+    // The request is empty or has another byte.
+    BadRequest,
+    // A level is not as 01 says, or is 250 in a mapping write (02, Five); or a category is not as 02, Four, says.
+    BadLevelOrCategory,
+    // The label has no mapping, and the table of mappings is full.
+    MappingsFull,
+    // Too many different labels in an override list.
+    TooManyOverrides,
+    // The lent output is too short.
+    OutputTooShort,
+    // No rule or label of that number.
+    NoSuchNumber,
+    // No record of the fixed load form (02, One).
+    BadRecord,
+    // What a line says has no place in such a record.
+    NotInARecord,
+    // Bytes that are no packet option of the layout (02, Five).
+    BadOption,
+    // An option of another DOI.
+    OtherDoi,
+    // An option with category 0 or above 184.
+    BadOptionCategory,
+    // An unmapped label is too long for an option.
+    NotInAnOption,
+    // No mapping matches an option.
+    NoSuchMapping,
 }
 
-// The lent state is damaged: it comes before every other.
-pub const DAMAGED: Refusal = Refusal {
-    number: 0,
-    place: 0,
-};
+impl Refusal {
+    // The number that a host gets.
+    pub fn number(self) -> u8
+        ensures { result ≡ number_of self }
+    {
+        match self {
+            Refusal::Damaged => 0,
+            Refusal::TooLong => 1,
+            Refusal::WrongFields => 2,
+            Refusal::BadLabel { place: _ } => 3,
+            Refusal::BadAccess => 4,
+            Refusal::SameLabels => 5,
+            Refusal::LabelsFull => 6,
+            Refusal::RulesFull => 7,
+            Refusal::BadRequest => 8,
+            Refusal::BadLevelOrCategory => 9,
+            Refusal::MappingsFull => 10,
+            Refusal::TooManyOverrides => 11,
+            Refusal::OutputTooShort => 12,
+            Refusal::NoSuchNumber => 13,
+            Refusal::BadRecord => 14,
+            Refusal::NotInARecord => 15,
+            Refusal::BadOption => 16,
+            Refusal::OtherDoi => 17,
+            Refusal::BadOptionCategory => 18,
+            Refusal::NotInAnOption => 19,
+            Refusal::NoSuchMapping => 21,
+        }
+    }
 
-// A line or a write has too many bytes.
-pub const TOO_LONG: Refusal = Refusal {
-    number: 1,
-    place: 0,
-};
-
-// Wrong number of fields.
-pub const WRONG_FIELDS: Refusal = Refusal {
-    number: 2,
-    place: 0,
-};
-
-// A label is not well formed. `alphabet::bad_label` gives it with its place; as it stands here it is for calls that tell none.
-pub const BAD_LABEL: Refusal = Refusal {
-    number: 3,
-    place: 0,
-};
-
-// An access field has a byte not allowed there.
-pub const BAD_ACCESS: Refusal = Refusal {
-    number: 4,
-    place: 0,
-};
-
-// Subject equals object.
-pub const SAME_LABELS: Refusal = Refusal {
-    number: 5,
-    place: 0,
-};
-
-// More new labels than free label places.
-pub const LABELS_FULL: Refusal = Refusal {
-    number: 6,
-    place: 0,
-};
-
-// The pair has no rule, and the table of rules is full.
-pub const RULES_FULL: Refusal = Refusal {
-    number: 7,
-    place: 0,
-};
-
-// The request is empty or has another byte.
-pub const BAD_REQUEST: Refusal = Refusal {
-    number: 8,
-    place: 0,
-};
-
-// A level is not as 01 says, or is 250 in a mapping write (02, Five); or a category is not as 02, Four, says.
-pub const BAD_LEVEL_OR_CATEGORY: Refusal = Refusal {
-    number: 9,
-    place: 0,
-};
-
-// The label has no mapping, and the table of mappings is full.
-pub const MAPPINGS_FULL: Refusal = Refusal {
-    number: 10,
-    place: 0,
-};
-
-// Too many different labels in an override list.
-pub const TOO_MANY_OVERRIDES: Refusal = Refusal {
-    number: 11,
-    place: 0,
-};
-
-// The lent output is too short.
-pub const OUTPUT_TOO_SHORT: Refusal = Refusal {
-    number: 12,
-    place: 0,
-};
-
-// No rule or label of that number.
-pub const NO_SUCH_NUMBER: Refusal = Refusal {
-    number: 13,
-    place: 0,
-};
-
-// No record of the fixed load form (02, One).
-pub const BAD_RECORD: Refusal = Refusal {
-    number: 14,
-    place: 0,
-};
-
-// What a line says has no place in such a record.
-pub const NOT_IN_A_RECORD: Refusal = Refusal {
-    number: 15,
-    place: 0,
-};
-
-// Bytes that are no packet option of the layout (02, Five).
-pub const BAD_OPTION: Refusal = Refusal {
-    number: 16,
-    place: 0,
-};
-
-// An option of another DOI.
-pub const OTHER_DOI: Refusal = Refusal {
-    number: 17,
-    place: 0,
-};
-
-// An option with category 0 or above 184.
-pub const BAD_OPTION_CATEGORY: Refusal = Refusal {
-    number: 18,
-    place: 0,
-};
-
-// An unmapped label is too long for an option.
-pub const NOT_IN_AN_OPTION: Refusal = Refusal {
-    number: 19,
-    place: 0,
-};
-
-// No mapping matches an option.
-pub const NO_SUCH_MAPPING: Refusal = Refusal {
-    number: 21,
-    place: 0,
-};
+    // The place beside the number: beside any number but 3 it is 0.
+    pub fn place(self) -> usize
+        ensures { result ≡ place_of self }
+    {
+        match self {
+            Refusal::BadLabel { place } => place,
+            _ => 0,
+        }
+    }
+}

@@ -6,6 +6,7 @@ ghost use Rattle.replies.specs.Replies.{line_room, decimal, DecimalReadsBack, re
 ghost use Rattle.replies.specs.Within.{Put};
 
 use access::Answer;
+use answers::Shown;
 use reports::Report;
 
 // The most bytes of a line that is written.
@@ -84,7 +85,7 @@ pub fn write_answer(out: &mut [u8], at: usize, answer: Answer) -> usize
     requires { at + line_room ≤ length out.old }
     ensures { Put line_room out.old at (answer_line answer) out.new result }
 {
-    let shown = answers::show(answer);
+    let shown = Shown::from(answer);
     let word = write_word(out, at, answer);
     write_field(out, word, shown.number as u32, alphabet::NEWLINE)
 }

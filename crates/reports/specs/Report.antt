@@ -1,6 +1,8 @@
+use Rattle.refusals.specs.declared.Refusal.{Refusal}
 -- 01, Rule text, the report, and 02, Six: the loader's numbers. A fresh loader has an empty kept line and a report of zeros; a line that was judged is
 -- counted; each number stops at its limit. Assumes nothing.
-use Rattle.std.specs.Prelude.{ℕ, ◌+◌, cond, ltb, eqb}
+use Rattle.std.specs.Prelude.{ℕ, ◌+◌, cond, ltb, eqb, Result, Ok, Err}
+use Rattle.refusals.specs.Refusals.{number_of, place_of}
 use Rattle.writes.specs.declared.Outcome.{Outcome}
 use Rattle.writes.specs.declared.Outcome.TheVariants as v
 use Rattle.reports.specs.declared.Loader.{Loader}
@@ -23,8 +25,8 @@ more n = cond (ltb n count_limit) (n + 1) n
 
 -- a line more. Of the first refused one the number, the reason and the place are kept (02, Three: its place, which is 0 where the reason is not 3). An
 -- accepted line that held b is also one more of `bringup` (02, Six)
-abbrev pub with_line : Report → Outcome → Report
-with_line r v.Skipped =
+abbrev pub with_line : Report → Result Outcome Refusal → Report
+with_line r (Ok v.Skipped) =
     record {
       lines = more r.lines;
       accepted = r.accepted;
@@ -35,7 +37,7 @@ with_line r v.Skipped =
       place = r.place;
       bringup = r.bringup;
     }
-with_line r (v.Accepted held) =
+with_line r (Ok (v.Accepted held)) =
     record {
       lines = more r.lines;
       accepted = more r.accepted;
@@ -46,20 +48,20 @@ with_line r (v.Accepted held) =
       place = r.place;
       bringup = cond held (more r.bringup) r.bringup;
     }
-with_line r (v.Refused why) =
+with_line r (Err why) =
     record {
       lines = more r.lines;
       accepted = r.accepted;
       skipped = r.skipped;
       refused = more r.refused;
       first = cond (eqb r.refused 0) (more r.lines) r.first;
-      reason = cond (eqb r.refused 0) why.number r.reason;
-      place = cond (eqb r.refused 0) why.place r.place;
+      reason = cond (eqb r.refused 0) (number_of why) r.reason;
+      place = cond (eqb r.refused 0) (place_of why) r.place;
       bringup = r.bringup;
     }
 
 -- the loader with that, and the next line begins empty
-abbrev pub count : Loader → Outcome → Loader
+abbrev pub count : Loader → Result Outcome Refusal → Loader
 count l outcome = record { kept = 0; report = with_line l.report outcome }
 
 -- the loader with another length of the kept line

@@ -4,13 +4,14 @@
 ghost use Rattle.std.specs.Prelude.{◌≡◌};
 ghost use Rattle.reports.specs.Report.{fresh_loader, more, with_line, count, with_kept};
 
+use refusals::Refusal;
 use writes::Outcome;
 
 // The report: how many lines, accepted, skipped and refused, and the number (from 1), the reason and the place of the first refused line, 0 where
 // none. The place is that of the first bad byte where the reason is 3, and 0 for any other reason (02, Three). The last is how many accepted lines held
 // the retired letter b (02, Six).
 #[repr(C)]
-#[derive(Clone, Copy)]
+#[derive(Clone, Copy, Debug, PartialEq, Eq)]
 pub struct Report {
     pub lines: u32,
     pub accepted: u32,
@@ -24,7 +25,7 @@ pub struct Report {
 
 // The loader between two calls: how many bytes of the line under way are kept (601: it has more than 600), and the report so far.
 #[repr(C)]
-#[derive(Clone, Copy)]
+#[derive(Clone, Copy, Debug, PartialEq, Eq)]
 pub struct Loader {
     pub kept: usize,
     pub report: Report,
@@ -60,17 +61,17 @@ fn one_more(n: u32) -> u32
 }
 
 // The report with a line more, which was judged. The first refused one is kept.
-fn with_line(report: Report, outcome: Outcome) -> Report
+fn with_line(report: Report, outcome: Result<Outcome, Refusal>) -> Report
     ensures { result ≡ with_line report outcome }
 {
     let lines = one_more(report.lines);
     match outcome {
-        Outcome::Skipped => Report {
+        Ok(Outcome::Skipped) => Report {
             lines,
             skipped: one_more(report.skipped),
             ..report
         },
-        Outcome::Accepted(held) => {
+        Ok(Outcome::Accepted(held)) => {
             let accepted = one_more(report.accepted);
             if held {
                 return Report {
@@ -86,15 +87,15 @@ fn with_line(report: Report, outcome: Outcome) -> Report
                 ..report
             }
         }
-        Outcome::Refused(refusal) => {
+        Err(refusal) => {
             let refused = one_more(report.refused);
             if report.refused == 0 {
                 return Report {
                     lines,
                     refused,
                     first: lines,
-                    reason: refusal.number,
-                    place: refusal.place,
+                    reason: refusal.number(),
+                    place: refusal.place(),
                     ..report
                 };
             }
@@ -108,7 +109,7 @@ fn with_line(report: Report, outcome: Outcome) -> Report
 }
 
 // Counts a line that was judged; the next begins empty.
-pub fn count_line(l: Loader, outcome: Outcome) -> Loader
+pub fn count_line(l: Loader, outcome: Result<Outcome, Refusal>) -> Loader
     ensures { result ≡ count l outcome }
 {
     let report = with_line(l.report, outcome);

@@ -6,6 +6,7 @@ use Prim.Native.Nat.{ℕ, ◌+◌, ◌<◌, ◌≤◌}
 use native.Mathlib.Omega.{arith}
 use borrow.Author.Tests.{ne_eqb, le-ltb, not-true}
 use lib.ListN.{length, get_or, set, length-append}
+use Rattle.refusals.specs.Refusals.{output_too_short}
 use Rattle.search.specs.Search.{all, those}
 use Rattle.search.specs.Bytes.{written}
 use Rattle.search.proofs.Laws.{and_both, all_append, all-by}
@@ -17,7 +18,7 @@ use Rattle.modes.proofs.Laws as modes
 use Rattle.lines.specs.Lines.{rule, rule_by, rule_of, bring_up_in}
 use Rattle.lines.proofs.Laws.{Taken}
 use Rattle.output.specs.Output.{put_answer, put_out}
-use Rattle.output.specs.declared.Output.TheVariants as output
+use Rattle.std.proofs.Common.{Ok, Err}
 use Rattle.output.proofs.Laws.{fits-answer, fits_out, short-answer, short-out, Front, front-more, front-one}
 use Rattle.rule_text.specs.RuleText.{line_of, text_of}
 
@@ -28,7 +29,7 @@ unfolding text_of
 text-length s o m = simp length-append (omega arith)
 
 module _ (out s o m : List ℕ) where
-  pub put-short : length out < length s + 1 + length o + 1 + length m + 1 → (output.Refused 12 ≡ put_answer (text_of s o m) out) × (out ≡ put_out (text_of s o m) out)
+  pub put-short : length out < length s + 1 + length o + 1 + length m + 1 → (Err output_too_short ≡ put_answer (text_of s o m) out) × (out ≡ put_out (text_of s o m) out)
   put-short h =
       let i : length out < length (text_of s o m) = omega (arith, text-length s o m) in
       (sym (short-answer (text_of s o m) out i), sym (short-out (text_of s o m) out i))
@@ -37,8 +38,8 @@ module _ (out s o m : List ℕ) where
     fits : length (text_of s o m) ≤ length out
     fits = omega (arith, text-length s o m)
 
-    pub put-answer : output.Length (length s + 1 + length o + 1 + length m + 1) ≡ put_answer (text_of s o m) out
-    put-answer = ap output.Length (sym (text-length s o m)) ∙ sym (fits-answer (text_of s o m) out fits)
+    pub put-answer : Ok (length s + 1 + length o + 1 + length m + 1) ≡ put_answer (text_of s o m) out
+    put-answer = ap Ok (sym (text-length s o m)) ∙ sym (fits-answer (text_of s o m) out fits)
 
     text-is : (((((s ++ (32 ∷ [])) ++ o) ++ (32 ∷ [])) ++ m) ++ (10 ∷ [])) ≡ text_of s o m
     unfolding text_of

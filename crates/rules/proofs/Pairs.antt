@@ -7,8 +7,7 @@ use lib.Dec.{ltb}
 use lib.ListN.{length}
 use Rattle.search.specs.Search.{first}
 use Rattle.search.specs.Bytes.{same_bytes}
-use Rattle.search.specs.declared.Found.{Found}
-use Rattle.search.specs.declared.Found.TheVariants.{At, Nothing}
+use Rattle.std.proofs.Common.{Option, Some, None, Ok, Err}
 use Rattle.search.proofs.Laws.{same_sym}
 use Rattle.refusals.specs.Refusals.{labels_full, rules_full}
 use Rattle.store.specs.Table.{Table, label_in, enter, no_place, sound_table}
@@ -17,17 +16,16 @@ use Rattle.store.specs.Judged.{is_refused, is_accepted}
 use Rattle.store.proofs.Pairs.{enter-number, enter-other, enter-length, between_read}
 use Rattle.rules.specs.Rules.{pair_labels, pair_rule, with_pair, pair_judged}
 use Rattle.rules.specs.Within.{subject_number_of, object_number_of, labels_after, rule_of_pair, modes_of_rule, placing, with_pair_at, judged_at}
-use Rattle.rules.specs.declared.Place.TheVariants as p
 use Rattle.rules.specs.declared.Spot.{Spot}
 
 module _ (t : Table) (s o : List ℕ) (different : same_bytes s o ≡ false) where
   apart : same_bytes o s ≡ false
   apart = same_sym o s ∙ different
 
-  pub subject_number : first (same_bytes s) (pair_labels t s o) ≡ At (subject_number_of t (label_in t s))
+  pub subject_number : first (same_bytes s) (pair_labels t s o) ≡ Some (subject_number_of t (label_in t s))
   subject_number = enter-other (enter t.labels s) o s different ∙ enter-number t.labels s
 
-  pub object_number : first (same_bytes o) (pair_labels t s o) ≡ At (object_number_of t (label_in t s) (label_in t o))
+  pub object_number : first (same_bytes o) (pair_labels t s o) ≡ Some (object_number_of t (label_in t s) (label_in t o))
   object_number = enter-number (enter t.labels s) o ∙ rw (enter-other t.labels s o apart, enter-length t.labels s)
 
   pub pair-length : length (pair_labels t s o) ≡ labels_after t (label_in t s) (label_in t o)
@@ -52,7 +50,7 @@ module _ (t : Table) (s o : List ℕ) (different : same_bytes s o ≡ false) whe
         by_tests :
             (a b : Bool) →
             cond a (is_refused labels_full) (cond b (is_refused rules_full) (is_accepted (with_pair_at t s o here m)))
-            ≡ judged_at t s o m (cond a (p.Refused labels_full) (cond b (p.Refused rules_full) (p.At here)))
+            ≡ judged_at t s o m (cond a (Err labels_full) (cond b (Err rules_full) (Ok here)))
         by_tests true b = refl
         by_tests false true = refl
         by_tests false false = refl
@@ -60,8 +58,8 @@ module _ (t : Table) (s o : List ℕ) (different : same_bytes s o ≡ false) whe
     -- the modes that a change starts from
     pub modes-read : modes_of_rule (rule_of_pair t (label_in t s) (label_in t o)) t.rules ≡ modes_or_none (modes_between t s o)
     unfolding modes_between
-    modes-read = ap (λ (f : Found). modes_of_rule f t.rules) (sym rule-read) ∙ by_case (pair_rule t s o)
+    modes-read = ap (λ (f : Option ℕ). modes_of_rule f t.rules) (sym rule-read) ∙ by_case (pair_rule t s o)
       where
-        by_case : (f : Found) → modes_of_rule f t.rules ≡ modes_or_none (modes_found t.rules f)
-        by_case (At k) = refl
-        by_case Nothing = refl
+        by_case : (f : Option ℕ) → modes_of_rule f t.rules ≡ modes_or_none (modes_found t.rules f)
+        by_case (Some k) = refl
+        by_case None = refl

@@ -12,33 +12,33 @@ use lib.Dec.{eqb, ltb}
 use lib.ListN.{length, drop, get_or, drop_of_length-le}
 use lib.Seq.{drop-cons}
 use borrow.Author.Tests.{ltb-true, ltb-false}
+use Rattle.refusals.specs.Refusals.{bad_level_or_category}
+use Rattle.refusals.specs.declared.Refusal.{Refusal}
 use Rattle.search.proofs.Laws.{no, and_both, not_so}
 use Rattle.numbers.specs.Categories.{is_level, no_categories, same_set, known_set}
 use Rattle.numbers.specs.declared.CategorySet.{CategorySet}
 use Rattle.numbers.proofs.Sets.{category_sets}
 use Rattle.lookups.specs.Lookups.{sought}
-use Rattle.lookups.specs.declared.Label.TheVariants as label
+use Rattle.std.proofs.Common.{Option, Some, None, Ok, Err}
 use Rattle.run.specs.declared.Record.{Record}
-use Rattle.run.specs.declared.Best.{Best}
-use Rattle.run.specs.declared.Best.TheVariants as best
-use Rattle.run.specs.Run.{matches, lower_label, lower_of, lowest_of, said, settled_of, run_of, records_of}
+use Rattle.run.specs.Run.{matches, lower_label, lower_of, lowest_of, settled_of, run_of, records_of}
 use Rattle.run.specs.Lowest.{LowestInRun, Unmatched}
 use Rattle.run.specs.Within.{searched, Shortest}
 
 -- ---- the lowest label of a run
 
 module _ (level : ℕ) (s : CategorySet) where
-  abbrev from : Best → List Record → Best
+  abbrev from : Option ℕ → List Record → Option ℕ
   from b run = foldl (lower_of level s) b run
 
   -- what a fold from the best so far finds
-  record Finds (b : Best) (run : List Record) (n : ℕ) : Type 0 where
-    found : (b ≡ best.Label n) ⊎ ((r : Record) × Memᴰ r run × (matches level s r ≡ true) × (r.label ≡ n))
-    before : (k : ℕ) → b ≡ best.Label k → n ≤ k
+  record Finds (b : Option ℕ) (run : List Record) (n : ℕ) : Type 0 where
+    found : (b ≡ Some n) ⊎ ((r : Record) × Memᴰ r run × (matches level s r ≡ true) × (r.label ≡ n))
+    before : (k : ℕ) → b ≡ Some k → n ≤ k
     least : (r : Record) → Memᴰ r run → matches level s r ≡ true → n ≤ r.label
 
   finds_more :
-      (b : Best) (x : Record) (xs : List Record) (n : ℕ) →
+      (b : Option ℕ) (x : Record) (xs : List Record) (n : ℕ) →
       Finds (lower_of level s b x) xs n →
       Finds b (x ∷ xs) n
   unfolding lower_of
@@ -58,10 +58,10 @@ module _ (level : ℕ) (s : CategorySet) where
           (λ t. rest r t q)
           (Memᴰ.cases_cons m)
 
-      by-best : (b : Best) → matches level s x ≡ true → Finds (lower_label x.label b) xs n → Finds b (x ∷ xs) n
-      by-best (best.Label k) q f = by_less (ltb x.label k) refl f
+      by-best : (b : Option ℕ) → matches level s x ≡ true → Finds (lower_label x.label b) xs n → Finds b (x ∷ xs) n
+      by-best (Some k) q f = by_less (ltb x.label k) refl f
         where
-          by_less : (t : Bool) → ltb x.label k ≡ t → Finds (best.Label (cond t x.label k)) xs n → Finds (best.Label k) (x ∷ xs) n
+          by_less : (t : Bool) → ltb x.label k ≡ t → Finds (Some (cond t x.label k)) xs n → Finds (Some k) (x ∷ xs) n
           by_less true e f =
               let h = ltb-true x.label k e in
               let le : n ≤ x.label = f.before x.label refl in
@@ -78,7 +78,7 @@ module _ (level : ℕ) (s : CategorySet) where
                 before = f.before;
                 least = no_lower (λ y. omega arith) f.least;
               }
-      by-best best.Nothing q f =
+      by-best None q f =
           let le : n ≤ x.label = f.before x.label refl in
           record {
             found = ⊎_elim (λ z. inr (here q (let y : x.label ≡ n = cc in y))) (λ g. inr (later g)) f.found;
@@ -95,7 +95,7 @@ module _ (level : ℕ) (s : CategorySet) where
             least = no_lower (λ y. absurd (no (sym q ∙ y))) f.least;
           }
 
-  finds : (run : List Record) (b : Best) (n : ℕ) → from b run ≡ best.Label n → Finds b run n
+  finds : (run : List Record) (b : Option ℕ) (n : ℕ) → from b run ≡ Some n → Finds b run n
   finds [] b n e =
       record {
         found = inl e;
@@ -105,40 +105,40 @@ module _ (level : ℕ) (s : CategorySet) where
   finds (x ∷ xs) b n e = finds_more b x xs n (finds xs (lower_of level s b x) n e)
 
   -- THE LOWEST: what the fold answers is the lowest label of the records that match
-  pub lowest-found : (run : List Record) (n : ℕ) → lowest_of run level s ≡ best.Label n → LowestInRun run level s n
+  pub lowest-found : (run : List Record) (n : ℕ) → lowest_of run level s ≡ Some n → LowestInRun run level s n
   unfolding lowest_of
   lowest-found run n e =
-      let f = finds run best.Nothing n e in
+      let f = finds run None n e in
       record {
         found = ⊎_elim (λ z. let y : ◌≡◌ {A = ℕ} 0 1 = cc in absurd (omega arith)) (λ g. g) f.found;
         least = f.least;
       }
 
   -- and it answers none exactly where none matches
-  kept : (run : List Record) (b : Best) → Unmatched run level s → from b run ≡ b
+  kept : (run : List Record) (b : Option ℕ) → Unmatched run level s → from b run ≡ b
   unfolding lower_of
   kept [] b u = refl
   kept (x ∷ xs) b u = rw (u x (Memᴰ.head refl)) (kept xs b (λ r m. u r (Memᴰ.tail m)))
 
-  pub lowest-none : (run : List Record) → Unmatched run level s → lowest_of run level s ≡ best.Nothing
+  pub lowest-none : (run : List Record) → Unmatched run level s → lowest_of run level s ≡ None
   unfolding lowest_of
-  lowest-none run u = kept run best.Nothing u
+  lowest-none run u = kept run None u
 
-  gone : (run : List Record) (k : ℕ) → from (best.Label k) run ≡ best.Nothing → ⊥
+  gone : (run : List Record) (k : ℕ) → from (Some k) run ≡ None → ⊥
   unfolding lower_of
   gone [] k e = let z : ◌≡◌ {A = ℕ} 0 1 = cc in omega arith
   gone (x ∷ xs) k e = by-test (matches level s x) (gone xs k) (gone xs (cond (ltb x.label k) x.label k)) e
     where
-      by-test : (t : Bool) → (from (best.Label k) xs ≡ best.Nothing → ⊥) → (from (best.Label (cond (ltb x.label k) x.label k)) xs ≡ best.Nothing → ⊥) → from (cond t (lower_label x.label (best.Label k)) (best.Label k)) xs ≡ best.Nothing → ⊥
+      by-test : (t : Bool) → (from (Some k) xs ≡ None → ⊥) → (from (Some (cond (ltb x.label k) x.label k)) xs ≡ None → ⊥) → from (cond t (lower_label x.label (Some k)) (Some k)) xs ≡ None → ⊥
       by-test true one other e = other e
       by-test false one other e = one e
 
-  pub none-lowest : (run : List Record) → lowest_of run level s ≡ best.Nothing → Unmatched run level s
+  pub none-lowest : (run : List Record) → lowest_of run level s ≡ None → Unmatched run level s
   unfolding lowest_of lower_of
   none-lowest [] e = λ r m. absurd (Memᴰ.not-nil m)
   none-lowest (x ∷ xs) e = by-test (matches level s x) refl (none-lowest xs) (gone xs x.label) e
     where
-      by-test : (t : Bool) → matches level s x ≡ t → (from best.Nothing xs ≡ best.Nothing → Unmatched xs level s) → (from (best.Label x.label) xs ≡ best.Nothing → ⊥) → from (cond t (lower_label x.label best.Nothing) best.Nothing) xs ≡ best.Nothing → Unmatched (x ∷ xs) level s
+      by-test : (t : Bool) → matches level s x ≡ t → (from None xs ≡ None → Unmatched xs level s) → (from (Some x.label) xs ≡ None → ⊥) → from (cond t (lower_label x.label None) None) xs ≡ None → Unmatched (x ∷ xs) level s
       by-test true q more out e = λ r m. absurd (out e)
       by-test false q more out e = λ r m. ⊎_elim (λ z. ap (matches level s) z ∙ q) (λ t. more e r t) (Memᴰ.cases_cons m)
 
@@ -162,13 +162,13 @@ module _ (level : ℕ) (s : CategorySet) where
   unfolding searched
   searched-all count h = ap (λ (t : Bool). cond t count 0) h
 
-  pub settled_refused : (b : Best) → sought level s ≡ false → settled_of b level s ≡ label.Refused 9
+  pub settled_refused : (b : Option ℕ) → sought level s ≡ false → settled_of b level s ≡ Err bad_level_or_category
   unfolding settled_of
-  settled_refused b h = ap (λ (t : Bool). cond t (said b) (label.Refused 9)) h
+  settled_refused b h = ap (λ (t : Bool). cond t (Ok b) (Err bad_level_or_category)) h
 
-  pub settled_said : (b : Best) → sought level s ≡ true → settled_of b level s ≡ said b
+  pub settled_said : (b : Option ℕ) → sought level s ≡ true → settled_of b level s ≡ Ok b
   unfolding settled_of
-  settled_said b h = ap (λ (t : Bool). cond t (said b) (label.Refused 9)) h
+  settled_said b h = ap (λ (t : Bool). cond t (Ok b) (Err bad_level_or_category)) h
 
   -- no more records are looked at than there are
   pub searched-within : (count : ℕ) → searched count level s ≤ count
@@ -183,22 +183,22 @@ module _ (level : ℕ) (s : CategorySet) where
 
 module _ (run : List Record) (level : ℕ) (s : CategorySet) where
   -- b is the best of the first i records: with those that are left it makes the best of the run
-  abbrev pub Left : Best → ℕ → Type 0
+  abbrev pub Left : Option ℕ → ℕ → Type 0
   Left b i = foldl (lower_of level s) b (drop i run) ≡ lowest_of run level s
 
-  pub left_start : Left best.Nothing 0
+  pub left_start : Left None 0
   unfolding lowest_of
   left_start = refl
 
-  pub left_next : (z : Record) (b r : Best) (i : ℕ) → i < length run → r ≡ lower_of level s b (get_or run i z) → Left b i → Left r (i + 1)
+  pub left_next : (z : Record) (b r : Option ℕ) (i : ℕ) → i < length run → r ≡ lower_of level s b (get_or run i z) → Left b i → Left r (i + 1)
   left_next z b r i h e l = rw (e, add-one) (sym (rw (drop-cons run i z h)) ∙ l)
 
   -- what is answered at the end: either all records were looked at, or the level or the set is refused
-  pub left_settled : (b : Best) (i : ℕ) → searched (length run) level s ≤ i → Left b i → settled_of b level s ≡ run_of run level s
+  pub left_settled : (b : Option ℕ) (i : ℕ) → searched (length run) level s ≤ i → Left b i → settled_of b level s ≡ run_of run level s
   unfolding settled_of run_of searched
   left_settled b i h l = by-test (sought level s) h
     where
-      by-test : (t : Bool) → cond t (length run) 0 ≤ i → cond t (said b) (label.Refused 9) ≡ cond t (said (lowest_of run level s)) (label.Refused 9)
+      by-test : (t : Bool) → cond t (length run) 0 ≤ i → cond t (Ok b) (Err bad_level_or_category) ≡ cond t (Ok (lowest_of run level s)) (Err bad_level_or_category)
       by-test true h = let e : b ≡ lowest_of run level s = sym (rw (drop_of_length-le run {i = i} h)) ∙ l in rw e
       by-test false h = refl
 
@@ -206,42 +206,39 @@ module _ (run : List Record) (level : ℕ) (s : CategorySet) where
 
 module _ (run : List Record) (level : ℕ) (s : CategorySet) where
   -- 9 is answered wherever the level or the set cannot be searched for
-  pub run-refused : sought level s ≡ false → run_of run level s ≡ label.Refused 9
+  pub run-refused : sought level s ≡ false → run_of run level s ≡ Err bad_level_or_category
   unfolding run_of
   run-refused h = settled_refused level s (lowest_of run level s) h
 
   -- and nothing else is ever refused: a run never gets 0
-  pub run-refused_9 : (k : ℕ) → run_of run level s ≡ label.Refused k → (k ≡ 9) × (sought level s ≡ false)
+  pub run-refused_9 : (why : Refusal) → run_of run level s ≡ Err why → (why ≡ bad_level_or_category) × (sought level s ≡ false)
   unfolding run_of settled_of
-  run-refused_9 k e = by-test (sought level s) refl (lowest_of run level s) e
+  run-refused_9 why e = by-test (sought level s) refl (lowest_of run level s) e
     where
-      by-test : (t : Bool) → sought level s ≡ t → (b : Best) → cond t (said b) (label.Refused 9) ≡ label.Refused k → (k ≡ 9) × (sought level s ≡ false)
-      by-test true h (best.Label n) e = let z : ◌≡◌ {A = ℕ} 0 1 = cc in absurd (omega arith)
-      by-test true h best.Nothing e = let z : ◌≡◌ {A = ℕ} 0 1 = cc in absurd (omega arith)
+      by-test : (t : Bool) → sought level s ≡ t → (b : Option ℕ) → cond t (Ok b) (Err bad_level_or_category) ≡ Err why → (why ≡ bad_level_or_category) × (sought level s ≡ false)
+      by-test true h b e = let z : ◌≡◌ {A = ℕ} 0 1 = cc in absurd (omega arith)
       by-test false h b e = (cc, h)
 
   -- a label number that is answered is the lowest of those whose level and set both match
-  pub run-found : (n : ℕ) → run_of run level s ≡ label.Number n → LowestInRun run level s n
+  pub run-found : (n : ℕ) → run_of run level s ≡ Ok (Some n) → LowestInRun run level s n
   unfolding run_of settled_of
   run-found n e = lowest-found level s run n (by-test (sought level s) (lowest_of run level s) e)
     where
-      by-test : (t : Bool) (b : Best) → cond t (said b) (label.Refused 9) ≡ label.Number n → b ≡ best.Label n
-      by-test true (best.Label k) e = let z : k ≡ n = cc in rw z
-      by-test true best.Nothing e = let z : ◌≡◌ {A = ℕ} 0 1 = cc in absurd (omega arith)
+      by-test : (t : Bool) (b : Option ℕ) → cond t (Ok b) (Err bad_level_or_category) ≡ Ok (Some n) → b ≡ Some n
+      by-test true b e = cc
       by-test false b e = let z : ◌≡◌ {A = ℕ} 0 1 = cc in absurd (omega arith)
 
   -- none is answered exactly where none matches
-  pub run_none : sought level s ≡ true → Unmatched run level s → run_of run level s ≡ label.Nothing
+  pub run_none : sought level s ≡ true → Unmatched run level s → run_of run level s ≡ Ok None
   unfolding run_of
-  run_none h u = settled_said level s (lowest_of run level s) h ∙ ap said (lowest-none level s run u)
+  run_none h u = settled_said level s (lowest_of run level s) h ∙ ap Ok (lowest-none level s run u)
 
-  pub none-run : run_of run level s ≡ label.Nothing → Unmatched run level s
+  pub none-run : run_of run level s ≡ Ok None → Unmatched run level s
   unfolding run_of settled_of
   none-run e = none-lowest level s run (by-test (sought level s) (lowest_of run level s) e)
     where
-      by-test : (t : Bool) (b : Best) → cond t (said b) (label.Refused 9) ≡ label.Nothing → b ≡ best.Nothing
-      by-test true (best.Label k) e = let z : ◌≡◌ {A = ℕ} 0 1 = cc in absurd (omega arith)
-      by-test true best.Nothing e = refl
+      by-test : (t : Bool) (b : Option ℕ) → cond t (Ok b) (Err bad_level_or_category) ≡ Ok None → b ≡ None
+      by-test true b e = cc
       by-test false b e = let z : ◌≡◌ {A = ℕ} 0 1 = cc in absurd (omega arith)
 
 -- ---- the records of three lists
@@ -303,7 +300,7 @@ records_at (u ∷ a) (v ∷ b) (x ∷ y ∷ z ∷ c) (suc i) d h =
 
 -- one record more is looked at
 pub records_next :
-    (a b c : List ℕ) (level : ℕ) (s : CategorySet) (m r : Best) (i : ℕ) →
+    (a b c : List ℕ) (level : ℕ) (s : CategorySet) (m r : Option ℕ) (i : ℕ) →
     i < length (records_of a b c) →
     r ≡ lower_of level s m (record_at a b c i) →
     Left (records_of a b c) level s m i →

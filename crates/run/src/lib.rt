@@ -6,27 +6,20 @@ ghost use Rattle.std.specs.Prelude.{◌≡◌};
 ghost use Rattle.run.specs.Run.{lower_of, settled_of, run_of, records_of};
 ghost use Rattle.run.specs.Within.{searched, Shortest};
 
-use lookups::Label;
 use numbers::CategorySet;
+use refusals::Refusal;
 
 // A record of a run: a label number, a level and a set, of any content.
 #[repr(C)]
-#[derive(Clone, Copy)]
+#[derive(Clone, Copy, Debug, PartialEq, Eq)]
 pub struct Record {
     pub label: u64,
     pub level: u64,
     pub set: CategorySet,
 }
 
-// The lowest label number of the records so far that match, or none.
-#[derive(Drop)]
-pub enum Best {
-    Label(u64),
-    Nothing,
-}
-
-// The lower of the best label so far and a record's, where the record's level and set both match.
-fn lower(best: Best, entry: Record, level: u64, set: CategorySet) -> Best
+// The lower of the best label so far, where there is one, and a record's, where the record's level and set both match.
+fn lower(best: Option<u64>, entry: Record, level: u64, set: CategorySet) -> Option<u64>
     ensures { result ≡ lower_of level set best entry }
 {
     if entry.level != level {
@@ -37,14 +30,8 @@ fn lower(best: Best, entry: Record, level: u64, set: CategorySet) -> Best
         return best;
     }
     match best {
-        Best::Label(n) => {
-            if entry.label < n {
-                Best::Label(entry.label)
-            } else {
-                Best::Label(n)
-            }
-        }
-        Best::Nothing => Best::Label(entry.label),
+        Some(n) => Some(entry.label.min(n)),
+        None => Some(entry.label),
     }
 }
 
@@ -60,15 +47,15 @@ fn reach(count: usize, level: u64, set: CategorySet) -> usize
 }
 
 // What a search answers by the best that it found.
-fn settled(best: Best, level: u64, set: CategorySet) -> Label
+fn settled(best: Option<u64>, level: u64, set: CategorySet) -> Result<Option<usize>, Refusal>
     ensures { result ≡ settled_of best level set }
 {
     if !lookups::can_be_sought(level, set) {
-        return Label::Refused(refusals::BAD_LEVEL_OR_CATEGORY.number);
+        return Err(Refusal::BadLevelOrCategory);
     }
     match best {
-        Best::Label(n) => Label::Number(n as usize),
-        Best::Nothing => Label::Nothing,
+        Some(n) => Ok(Some(n as usize)),
+        None => Ok(None),
     }
 }
 
@@ -76,8 +63,7 @@ fn settled(best: Best, level: u64, set: CategorySet) -> Label
 fn shortest(a: usize, b: usize, c: usize) -> usize
     ensures { Shortest a b c result }
 {
-    let d = if b < a { b } else { a };
-    if c < d { c } else { d }
+    a.min(b).min(c)
 }
 
 // The search by plain values: each field of the records stands in a slice of its own, a set as its three words one after another. There are as many
@@ -88,14 +74,13 @@ pub fn lowest_of(
     sets: &[u64],
     level: u64,
     set: CategorySet,
-) -> Label
+) -> Result<Option<usize>, Refusal>
     ensures { result ≡ run_of (records_of labels.now levels.now sets.now) level set }
 {
     let all = shortest(labels.len(), levels.len(), sets.len() / 3);
     let count = reach(all, level, set);
-    let mut best = Best::Nothing;
-    let mut i = 0;
-    while i < count {
+    let mut best = None;
+    for i in 0..count {
         let entry = Record {
             label: labels[i],
             level: levels[i],
@@ -106,21 +91,18 @@ pub fn lowest_of(
             },
         };
         best = lower(best, entry, level, set);
-        i += 1;
     }
     settled(best, level, set)
 }
 
 // The search of a run of records. It reads a record whole, and `lower` compares it by value.
-pub fn lowest(run: &[Record], level: u64, set: CategorySet) -> Label
+pub fn lowest(run: &[Record], level: u64, set: CategorySet) -> Result<Option<usize>, Refusal>
     ensures { result ≡ run_of run.now level set }
 {
     let count = reach(run.len(), level, set);
-    let mut best = Best::Nothing;
-    let mut i = 0;
-    while i < count {
-        best = lower(best, run[i], level, set);
-        i += 1;
+    let mut best = None;
+    for record in &run[..count] {
+        best = lower(best, *record, level, set);
     }
     settled(best, level, set)
 }

@@ -14,8 +14,7 @@ use lib.Seq.{drop-cons, drop-drop, drop-append-add, take_at, set_split, get_or_a
 use Rattle.search.specs.Within.{count_after, word_at, words_differ, second_four, third_four}
 use Rattle.search.specs.Search.{first, all, put, place_of, entries, later}
 use Rattle.search.specs.Bytes.{same_bytes, written}
-use Rattle.search.specs.declared.Found.{Found}
-use Rattle.search.specs.declared.Found.TheVariants.{At, Nothing}
+use Rattle.std.proofs.Common.{Option, Some, None}
 
 -- ---- tests
 
@@ -267,20 +266,20 @@ all_weaker p q h (x ∷ xs) e =
     rw (h x b.0, all_weaker p q h xs b.1)
 
 -- an entry that passes, put into a list that passes
-pub all-put : {A : Type 0} (p : A → Bool) (r : Found) (l : List A) (v : A) → all p l ≡ true → p v ≡ true → all p (put r l v) ≡ true
+pub all-put : {A : Type 0} (p : A → Bool) (r : Option ℕ) (l : List A) (v : A) → all p l ≡ true → p v ≡ true → all p (put r l v) ≡ true
 unfolding put all
-all-put {A = A} p (At i) l v e h = all_set l i e
+all-put {A = A} p (Some i) l v e h = all_set l i e
   where
     all_set : (l : List A) (i : ℕ) → all p l ≡ true → all p (set l i v) ≡ true
     all_set [] i e = e
     all_set (x ∷ xs) zero e = rw h (and_both (p x) (all p xs) e).1
     all_set (x ∷ xs) (suc i) e = let b = and_both (p x) (all p xs) e in rw (b.0, all_set xs i b.1)
-all-put p Nothing l v e h = all_snoc p l v ∙ rw (e, h)
+all-put p None l v e h = all_snoc p l v ∙ rw (e, h)
 
 -- ---- the first entry that passes a test
 
 module _ {A : Type 0} (p : A → Bool) (d : A) where
-  pub first-at : (l : List A) (i : ℕ) → i < length l → ((k : ℕ) → k < i → p (get_or l k d) ≡ false) → p (get_or l i d) ≡ true → first p l ≡ At i
+  pub first-at : (l : List A) (i : ℕ) → i < length l → ((k : ℕ) → k < i → p (get_or l k d) ≡ false) → p (get_or l i d) ≡ true → first p l ≡ Some i
   unfolding first
   first-at [] i h before here = absurd (omega arith)
   first-at (x ∷ xs) zero h before here = rw here
@@ -288,7 +287,7 @@ module _ {A : Type 0} (p : A → Bool) (d : A) where
       let ih = first-at xs i (le_of_suc-le-suc h) (λ k kh. before (suc k) (suc-le-suc kh)) here in
       rw (before zero (omega arith), ih)
 
-  pub first-none : (l : List A) → ((k : ℕ) → k < length l → p (get_or l k d) ≡ false) → first p l ≡ Nothing
+  pub first-none : (l : List A) → ((k : ℕ) → k < length l → p (get_or l k d) ≡ false) → first p l ≡ None
   unfolding first
   first-none [] none = refl
   first-none (x ∷ xs) none =
@@ -296,18 +295,18 @@ module _ {A : Type 0} (p : A → Bool) (d : A) where
       rw (none zero (omega arith), ih)
 
   -- what is found is an entry of the list, and it passes
-  pub first-is : (l : List A) (i : ℕ) → first p l ≡ At i → (i < length l) × (p (get_or l i d) ≡ true)
+  pub first-is : (l : List A) (i : ℕ) → first p l ≡ Some i → (i < length l) × (p (get_or l i d) ≡ true)
   unfolding first
   first-is [] i e = let z : ◌≡◌ {A = ℕ} 0 1 = cc in absurd (omega arith)
   first-is (x ∷ xs) i e = by-test (p x) refl (first p xs) (first-is xs) i e
     where
-      by-test : (b : Bool) → p x ≡ b → (f : Found) → ((j : ℕ) → f ≡ At j → (j < length xs) × (p (get_or xs j d) ≡ true)) → (i : ℕ) → cond b (At zero) (later f) ≡ At i → (i < suc (length xs)) × (p (get_or (x ∷ xs) i d) ≡ true)
+      by-test : (b : Bool) → p x ≡ b → (f : Option ℕ) → ((j : ℕ) → f ≡ Some j → (j < length xs) × (p (get_or xs j d) ≡ true)) → (i : ℕ) → cond b (Some zero) (later f) ≡ Some i → (i < suc (length xs)) × (p (get_or (x ∷ xs) i d) ≡ true)
       by-test true e f ih i q = let z : i ≡ 0 = cc in rw z (omega arith, e)
-      by-test false e (At j) ih i q = let z : i ≡ suc j = cc in let h = ih j refl in rw z (suc-le-suc h.0, h.1)
-      by-test false e Nothing ih i q = let z : ◌≡◌ {A = ℕ} 0 1 = cc in absurd (omega arith)
+      by-test false e (Some j) ih i q = let z : i ≡ suc j = cc in let h = ih j refl in rw z (suc-le-suc h.0, h.1)
+      by-test false e None ih i q = let z : ◌≡◌ {A = ℕ} 0 1 = cc in absurd (omega arith)
 
 -- what stands before the entry that is found fails
-pub first-before : {A : Type 0} (p : A → Bool) (d : A) (l : List A) (i : ℕ) → first p l ≡ At i → (k : ℕ) → k < i → p (get_or l k d) ≡ false
+pub first-before : {A : Type 0} (p : A → Bool) (d : A) (l : List A) (i : ℕ) → first p l ≡ Some i → (k : ℕ) → k < i → p (get_or l k d) ≡ false
 unfolding first
 first-before p d [] i e k h = let z : ◌≡◌ {A = ℕ} 0 1 = cc in absurd (omega arith)
 first-before p d (x ∷ xs) i e k h = by-test (p x) refl (first p xs) (first-before p d xs) i e k h
@@ -315,20 +314,20 @@ first-before p d (x ∷ xs) i e k h = by-test (p x) refl (first p xs) (first-bef
     by-test :
         (b : Bool) →
         p x ≡ b →
-        (f : Found) →
-        ((j : ℕ) → f ≡ At j → (k : ℕ) → k < j → p (get_or xs k d) ≡ false) →
+        (f : Option ℕ) →
+        ((j : ℕ) → f ≡ Some j → (k : ℕ) → k < j → p (get_or xs k d) ≡ false) →
         (i : ℕ) →
-        cond b (At zero) (later f) ≡ At i →
+        cond b (Some zero) (later f) ≡ Some i →
         (k : ℕ) →
         k < i →
         p (get_or (x ∷ xs) k d) ≡ false
     by-test true q f ih i e k h = let z : i ≡ 0 = cc in absurd (omega arith)
     by-test false q f ih i e zero h = q
-    by-test false q (At j) ih i e (suc k) h = let z : i ≡ suc j = cc in ih j refl k (omega arith)
-    by-test false q Nothing ih i e (suc k) h = let z : ◌≡◌ {A = ℕ} 0 1 = cc in absurd (omega arith)
+    by-test false q (Some j) ih i e (suc k) h = let z : i ≡ suc j = cc in ih j refl k (omega arith)
+    by-test false q None ih i e (suc k) h = let z : ◌≡◌ {A = ℕ} 0 1 = cc in absurd (omega arith)
 
 -- where nothing is found every entry fails
-pub first_fails : {A : Type 0} (p : A → Bool) (d : A) (l : List A) → first p l ≡ Nothing → (k : ℕ) → k < length l → p (get_or l k d) ≡ false
+pub first_fails : {A : Type 0} (p : A → Bool) (d : A) (l : List A) → first p l ≡ None → (k : ℕ) → k < length l → p (get_or l k d) ≡ false
 unfolding first
 first_fails p d [] e k h = absurd (omega arith)
 first_fails p d (x ∷ xs) e k h = by-test (p x) refl (first p xs) (first_fails p d xs) e k h
@@ -336,16 +335,16 @@ first_fails p d (x ∷ xs) e k h = by-test (p x) refl (first p xs) (first_fails 
     by-test :
         (b : Bool) →
         p x ≡ b →
-        (f : Found) →
-        (f ≡ Nothing → (k : ℕ) → k < length xs → p (get_or xs k d) ≡ false) →
-        cond b (At zero) (later f) ≡ Nothing →
+        (f : Option ℕ) →
+        (f ≡ None → (k : ℕ) → k < length xs → p (get_or xs k d) ≡ false) →
+        cond b (Some zero) (later f) ≡ None →
         (k : ℕ) →
         k < suc (length xs) →
         p (get_or (x ∷ xs) k d) ≡ false
     by-test true q f ih e k h = let z : ◌≡◌ {A = ℕ} 0 1 = cc in absurd (omega arith)
-    by-test false q (At j) ih e k h = let z : ◌≡◌ {A = ℕ} 0 1 = cc in absurd (omega arith)
-    by-test false q Nothing ih e zero h = q
-    by-test false q Nothing ih e (suc k) h = ih refl k (le_of_suc-le-suc h)
+    by-test false q (Some j) ih e k h = let z : ◌≡◌ {A = ℕ} 0 1 = cc in absurd (omega arith)
+    by-test false q None ih e zero h = q
+    by-test false q None ih e (suc k) h = ih refl k (le_of_suc-le-suc h)
 
 -- an entry that fails the test, put last, changes no search
 pub first_snoc : {A : Type 0} (p : A → Bool) (l : List A) (x : A) → p x ≡ false → first p (l ++ (x ∷ [])) ≡ first p l
@@ -354,21 +353,21 @@ first_snoc p [] x e = rw e
 first_snoc p (y ∷ ys) x e = rw (first_snoc p ys x e)
 
 -- what was found is found in a longer list too
-pub first-append : {A : Type 0} (p : A → Bool) (l m : List A) (i : ℕ) → first p l ≡ At i → first p (l ++ m) ≡ At i
+pub first-append : {A : Type 0} (p : A → Bool) (l m : List A) (i : ℕ) → first p l ≡ Some i → first p (l ++ m) ≡ Some i
 unfolding first
 first-append p [] m i e = let z : ◌≡◌ {A = ℕ} 0 1 = cc in absurd (omega arith)
 first-append p (y ∷ ys) m i e = by-test (p y) (first p ys) (first p (ys ++ m)) (first-append p ys m) i e
   where
-    by-test : (b : Bool) (f g : Found) → ((j : ℕ) → f ≡ At j → g ≡ At j) → (i : ℕ) → cond b (At zero) (later f) ≡ At i → cond b (At zero) (later g) ≡ At i
+    by-test : (b : Bool) (f g : Option ℕ) → ((j : ℕ) → f ≡ Some j → g ≡ Some j) → (i : ℕ) → cond b (Some zero) (later f) ≡ Some i → cond b (Some zero) (later g) ≡ Some i
     by-test true f g ih i q = q
-    by-test false (At j) g ih i q = rw (ih j refl) q
-    by-test false Nothing g ih i q = let z : ◌≡◌ {A = ℕ} 0 1 = cc in absurd (omega arith)
+    by-test false (Some j) g ih i q = rw (ih j refl) q
+    by-test false None g ih i q = let z : ◌≡◌ {A = ℕ} 0 1 = cc in absurd (omega arith)
 
 -- ---- the place and the count of a table with n entries
 
-pub count_le : (f : Found) (n : ℕ) → (n ≤ count_after f n) × (count_after f n ≤ n + 1)
-count_le (At i) n = omega arith
-count_le Nothing n = omega arith
+pub count_le : (f : Option ℕ) (n : ℕ) → (n ≤ count_after f n) × (count_after f n ≤ n + 1)
+count_le (Some i) n = omega arith
+count_le None n = omega arith
 
 -- ---- a table as the list of its entries
 
@@ -399,13 +398,13 @@ entries-same f g (suc n) h =
     rw (ih, h n (omega arith))
 
 -- what a search of a table shows
-pub found-at : {A : Type 0} (p : A → Bool) (f : ℕ → A) (n i : ℕ) → i < n → ((k : ℕ) → k < i → p (f k) ≡ false) → p (f i) ≡ true → first p (entries f n) ≡ At i
+pub found-at : {A : Type 0} (p : A → Bool) (f : ℕ → A) (n i : ℕ) → i < n → ((k : ℕ) → k < i → p (f k) ≡ false) → p (f i) ≡ true → first p (entries f n) ≡ Some i
 found-at p f n i hi before here =
     first-at p (f i) (entries f n) i (rw entries-length hi)
     (λ k hk. let h : k < n = omega arith in rw (entries_at f (f i) n k h) (before k hk))
     (rw (entries_at f (f i) n i hi) here)
 
-pub found_none : {A : Type 0} (p : A → Bool) (f : ℕ → A) (n : ℕ) → ((k : ℕ) → k < n → p (f k) ≡ false) → first p (entries f n) ≡ Nothing
+pub found_none : {A : Type 0} (p : A → Bool) (f : ℕ → A) (n : ℕ) → ((k : ℕ) → k < n → p (f k) ≡ false) → first p (entries f n) ≡ None
 found_none p f n none =
     first-none p (f 0) (entries f n)
     (λ k hk. let h : k < n = rw entries-length at hk in rw (entries_at f (f 0) n k h) (none k h))
@@ -414,9 +413,9 @@ found_none p f n none =
 pub found-place : {A : Type 0} (p : A → Bool) (f : ℕ → A) (n m : ℕ) → n ≤ m → place_of (first p (entries f n)) m < count_after (first p (entries f n)) m
 found-place p f n m h = by_case (first p (entries f n)) (λ i e. omega (arith, (first-is p (f 0) (entries f n) i e).0, entries-length f n))
   where
-    by_case : (r : Found) → ((i : ℕ) → r ≡ At i → i < m) → place_of r m < count_after r m
-    by_case (At i) ih = ih i refl
-    by_case Nothing ih = omega arith
+    by_case : (r : Option ℕ) → ((i : ℕ) → r ≡ Some i → i < m) → place_of r m < count_after r m
+    by_case (Some i) ih = ih i refl
+    by_case None ih = omega arith
 
 pub last_entry : {A : Type 0} (f g : ℕ → A) (n : ℕ) (v : A) → ((k : ℕ) → k < n → f k ≡ g k) → g n ≡ v → entries g (suc n) ≡ entries f n ++ (v ∷ [])
 unfolding entries
@@ -425,42 +424,42 @@ last_entry f g n v other here = rw (entries-same g f n (λ k kh. sym (other k kh
 -- ---- an entry put where a search says
 
 -- how long the list then is
-pub length-put : {A : Type 0} (f : Found) (l : List A) (v : A) → length (put f l v) ≡ count_after f (length l)
+pub length-put : {A : Type 0} (f : Option ℕ) (l : List A) (v : A) → length (put f l v) ≡ count_after f (length l)
 unfolding put
-length-put (At i) l v = length-set l i v
-length-put Nothing l v = length-append l (v ∷ [])
+length-put (Some i) l v = length-set l i v
+length-put None l v = length-append l (v ∷ [])
 
 -- the entry stands in its place, and every other where it was
-pub put-at : {A : Type 0} (d : A) (f : Found) (l : List A) (v : A) → place_of f (length l) < count_after f (length l) → get_or (put f l v) (place_of f (length l)) d ≡ v
+pub put-at : {A : Type 0} (d : A) (f : Option ℕ) (l : List A) (v : A) → place_of f (length l) < count_after f (length l) → get_or (put f l v) (place_of f (length l)) d ≡ v
 unfolding put
-put-at d (At i) l v h = get_or-set_same l i v d h
-put-at d Nothing l v h = get_or_at l v [] d (length l) refl
+put-at d (Some i) l v h = get_or-set_same l i v d h
+put-at d None l v h = get_or_at l v [] d (length l) refl
 
-pub put_other : {A : Type 0} (d : A) (f : Found) (l : List A) (v : A) (k : ℕ) → k < length l → (k ≡ place_of f (length l) → ⊥) → get_or (put f l v) k d ≡ get_or l k d
+pub put_other : {A : Type 0} (d : A) (f : Option ℕ) (l : List A) (v : A) (k : ℕ) → k < length l → (k ≡ place_of f (length l) → ⊥) → get_or (put f l v) k d ≡ get_or l k d
 unfolding put
-put_other d (At i) l v k h apart = get_or-set_other l i k v d apart
-put_other d Nothing l v k h apart = get_or-append l (v ∷ []) d k h
+put_other d (Some i) l v k h apart = get_or-set_other l i k v d apart
+put_other d None l v k h apart = get_or-append l (v ∷ []) d k h
 
 -- a place that a search found is an entry's
 pub first-place : {A : Type 0} (p : A → Bool) (d : A) (l : List A) → place_of (first p l) (length l) < count_after (first p l) (length l)
 first-place p d l = by_case (first p l) (first-is p d l)
   where
-    by_case : (f : Found) → ((i : ℕ) → f ≡ At i → (i < length l) × (p (get_or l i d) ≡ true)) → place_of f (length l) < count_after f (length l)
-    by_case (At i) ih = (ih i refl).0
-    by_case Nothing ih = omega arith
+    by_case : (f : Option ℕ) → ((i : ℕ) → f ≡ Some i → (i < length l) × (p (get_or l i d) ≡ true)) → place_of f (length l) < count_after f (length l)
+    by_case (Some i) ih = (ih i refl).0
+    by_case None ih = omega arith
 
 -- a search goes on past an entry that fails
 put_first : {A : Type 0} (q : A → Bool) (x : A) (xs : List A) (v : A) → put (first q (x ∷ xs)) (x ∷ xs) v ≡ cond (q x) (v ∷ xs) (x ∷ put (first q xs) xs v)
 unfolding first put
 put_first q x xs v = by-test (q x) (first q xs)
   where
-    by-test : (b : Bool) (f : Found) → put (cond b (At zero) (later f)) (x ∷ xs) v ≡ cond b (v ∷ xs) (x ∷ put f xs v)
+    by-test : (b : Bool) (f : Option ℕ) → put (cond b (Some zero) (later f)) (x ∷ xs) v ≡ cond b (v ∷ xs) (x ∷ put f xs v)
     by-test true f = refl
-    by-test false (At i) = refl
-    by-test false Nothing = refl
+    by-test false (Some i) = refl
+    by-test false None = refl
 
 -- what is put is found
-pub first-put : {A : Type 0} (q : A → Bool) (l : List A) (v : A) → q v ≡ true → first q (put (first q l) l v) ≡ At (place_of (first q l) (length l))
+pub first-put : {A : Type 0} (q : A → Bool) (l : List A) (v : A) → q v ≡ true → first q (put (first q l) l v) ≡ Some (place_of (first q l) (length l))
 unfolding first put
 first-put q [] v e = rw e
 first-put q (x ∷ xs) v e = ap (λ l. first q l) (put_first q x xs v) ∙ by-test (q x) refl (first q xs) (first-put q xs v e)
@@ -468,12 +467,12 @@ first-put q (x ∷ xs) v e = ap (λ l. first q l) (put_first q x xs v) ∙ by-te
     by-test :
         (b : Bool) →
         q x ≡ b →
-        (f : Found) →
-        first q (put (first q xs) xs v) ≡ At (place_of f (length xs)) →
-        first q (cond b (v ∷ xs) (x ∷ put (first q xs) xs v)) ≡ At (place_of (cond b (At zero) (later f)) (suc (length xs)))
+        (f : Option ℕ) →
+        first q (put (first q xs) xs v) ≡ Some (place_of f (length xs)) →
+        first q (cond b (v ∷ xs) (x ∷ put (first q xs) xs v)) ≡ Some (place_of (cond b (Some zero) (later f)) (suc (length xs)))
     by-test true i f ih = rw e
-    by-test false i (At j) ih = rw (i, ih)
-    by-test false i Nothing ih = rw (i, ih)
+    by-test false i (Some j) ih = rw (i, ih)
+    by-test false i None ih = rw (i, ih)
 
 -- a search that passes over the new entry, and over the one that it replaces, finds what it found
 pub first-put-other : {A : Type 0} (p q : A → Bool) (l : List A) (v : A) → p v ≡ false → ((y : A) → q y ≡ true → p y ≡ false) → first p (put (first q l) l v) ≡ first p l
@@ -490,15 +489,15 @@ pub found-put-other :
     {A : Type 0} (p q : A → Bool) (d : A) (l : List A) (v : A) →
     ((y : A) → q y ≡ true → p y ≡ false) →
     (k : ℕ) →
-    first p l ≡ At k →
+    first p l ≡ Some k →
     get_or (put (first q l) l v) k d ≡ get_or l k d
 found-put-other p q d l v apart k e = put_other d (first q l) l v k (first-is p d l k e).0 (by_case (first q l) (first-is q d l))
   where
-    by_case : (f : Found) → ((i : ℕ) → f ≡ At i → (i < length l) × (q (get_or l i d) ≡ true)) → k ≡ place_of f (length l) → ⊥
-    by_case (At i) h z =
+    by_case : (f : Option ℕ) → ((i : ℕ) → f ≡ Some i → (i < length l) × (q (get_or l i d) ≡ true)) → k ≡ place_of f (length l) → ⊥
+    by_case (Some i) h z =
         let here : q (get_or l k d) ≡ true = rw z (h i refl).1 in
         no (sym (apart (get_or l k d) here) ∙ (first-is p d l k e).1)
-    by_case Nothing h z = omega (arith, (first-is p d l k e).0)
+    by_case None h z = omega (arith, (first-is p d l k e).0)
 
 -- equal tests find the same
 pub first-same : {A : Type 0} (p q : A → Bool) (l : List A) → ((x : A) → p x ≡ q x) → first p l ≡ first q l
@@ -507,9 +506,9 @@ first-same p q [] h = refl
 first-same p q (x ∷ xs) h = rw (h x, first-same p q xs h)
 
 -- what is put last is found, where nothing else is
-pub first-last : {A : Type 0} (p : A → Bool) (l : List A) (x : A) → first p l ≡ Nothing → p x ≡ true → first p (l ++ (x ∷ [])) ≡ At (length l)
+pub first-last : {A : Type 0} (p : A → Bool) (l : List A) (x : A) → first p l ≡ None → p x ≡ true → first p (l ++ (x ∷ [])) ≡ Some (length l)
 unfolding put
-first-last p l x e h = ap (λ f. first p (put f l x)) (sym e) ∙ first-put p l x h ∙ ap (λ f. At (place_of f (length l))) e
+first-last p l x e h = ap (λ f. first p (put f l x)) (sym e) ∙ first-put p l x h ∙ ap (λ f. Some (place_of f (length l))) e
 
 -- ---- a test that tells entries apart
 
@@ -524,7 +523,7 @@ pub record Same {A : Type 0} (p : A → A → Bool) : Type 0 where
 
 -- no two entries count as the same: each is found at its own place
 abbrev pub Distinct : {A : Type 0} → (A → A → Bool) → A → List A → Type 0
-Distinct p d l = (k : ℕ) → k < length l → first (p (get_or l k d)) l ≡ At k
+Distinct p d l = (k : ℕ) → k < length l → first (p (get_or l k d)) l ≡ Some k
 
 -- and so it stays when an entry is put in the place of the one that counts as the same, or last
 pub distinct_put : {A : Type 0} (p : A → A → Bool) (d : A) (l : List A) (v : A) → Same p → Distinct p d l → Distinct p d (put (first (p v) l) l v)
@@ -536,22 +535,22 @@ distinct_put {A = A} p d l v same apart k h = by_place (eqb k (place_of (first (
         not_so (p (get_or l k d) v)
         (λ e. n (found (first (p v) l) (sym (first-same (p (get_or l k d)) (p v) l (same.alike (get_or l k d) v e)) ∙ apart k hk)))
       where
-        found : (f : Found) → f ≡ At k → k ≡ place_of f (length l)
-        found (At i) e = cc
-        found Nothing e = let z : ◌≡◌ {A = ℕ} 0 1 = cc in absurd (omega arith)
+        found : (f : Option ℕ) → f ≡ Some k → k ≡ place_of f (length l)
+        found (Some i) e = cc
+        found None e = let z : ◌≡◌ {A = ℕ} 0 1 = cc in absurd (omega arith)
 
     passes_over : (x y : A) → p x v ≡ false → p v y ≡ true → p x y ≡ false
     passes_over x y n e = not_so (p x y) (λ q. no (sym n ∙ same.alike x y q v ∙ sym (same.alike v y e v) ∙ same.itself v))
 
-    place-below : (f : Found) → k < count_after f (length l) → (k ≡ place_of f (length l) → ⊥) → k < length l
-    place-below (At i) hk n = hk
-    place-below Nothing hk n = ⊎_elim (λ e. absurd (n e)) (λ q. q) (eq-or-lt_of_le (le_of_suc-le-suc (rw add-one at hk)))
+    place-below : (f : Option ℕ) → k < count_after f (length l) → (k ≡ place_of f (length l) → ⊥) → k < length l
+    place-below (Some i) hk n = hk
+    place-below None hk n = ⊎_elim (λ e. absurd (n e)) (λ q. q) (eq-or-lt_of_le (le_of_suc-le-suc (rw add-one at hk)))
 
-    by_place : (b : Bool) → eqb k (place_of (first (p v) l) (length l)) ≡ b → first (p (get_or (put (first (p v) l) l v) k d)) (put (first (p v) l) l v) ≡ At k
+    by_place : (b : Bool) → eqb k (place_of (first (p v) l) (length l)) ≡ b → first (p (get_or (put (first (p v) l) l v) k d)) (put (first (p v) l) l v) ≡ Some k
     by_place true e =
         let z = eqb-true k (place_of (first (p v) l) (length l)) e in
         let q : get_or (put (first (p v) l) l v) k d ≡ v = rw z (put-at d (first (p v) l) l v (first-place (p v) d l)) in
-        ap (λ (x : A). first (p x) (put (first (p v) l) l v)) q ∙ first-put (p v) l v (same.itself v) ∙ ap At (sym z)
+        ap (λ (x : A). first (p x) (put (first (p v) l) l v)) q ∙ first-put (p v) l v (same.itself v) ∙ ap Some (sym z)
     by_place false e =
         let n = eqb-false k (place_of (first (p v) l) (length l)) e in
         let hk : k < length l = place-below (first (p v) l) (rw length-put at h) n in
@@ -575,28 +574,28 @@ front-more {l = l} a b = record { rest = a.rest ++ b.rest; is = b.is ∙ rw a.is
 pub front_length : {A : Type 0} {l m : List A} → Front l m → length l ≤ length m
 front_length {l = l} a = rw (a.is, length-append) (omega arith)
 
-pub front-first : {A : Type 0} (p : A → Bool) {l m : List A} (i : ℕ) → Front l m → first p l ≡ At i → first p m ≡ At i
+pub front-first : {A : Type 0} (p : A → Bool) {l m : List A} (i : ℕ) → Front l m → first p l ≡ Some i → first p m ≡ Some i
 front-first p {l = l} i a e = rw a.is (first-append p l a.rest i e)
 
 -- what is found there and not in the front stands beyond it
-first_beyond : {A : Type 0} (p : A → Bool) (l m : List A) (i : ℕ) → first p l ≡ Nothing → first p (l ++ m) ≡ At i → length l ≤ i
+first_beyond : {A : Type 0} (p : A → Bool) (l m : List A) (i : ℕ) → first p l ≡ None → first p (l ++ m) ≡ Some i → length l ≤ i
 unfolding first
 first_beyond p [] m i e q = omega arith
 first_beyond p (x ∷ xs) m i e q = by-test (p x) (first p xs) (first p (xs ++ m)) (first_beyond p xs m) i e q
   where
     by-test :
-        (b : Bool) (f g : Found) →
-        ((j : ℕ) → f ≡ Nothing → g ≡ At j → length xs ≤ j) →
+        (b : Bool) (f g : Option ℕ) →
+        ((j : ℕ) → f ≡ None → g ≡ Some j → length xs ≤ j) →
         (i : ℕ) →
-        cond b (At zero) (later f) ≡ Nothing →
-        cond b (At zero) (later g) ≡ At i →
+        cond b (Some zero) (later f) ≡ None →
+        cond b (Some zero) (later g) ≡ Some i →
         suc (length xs) ≤ i
     by-test true f g ih i e q = let z : ◌≡◌ {A = ℕ} 0 1 = cc in absurd (omega arith)
-    by-test false (At j) g ih i e q = let z : ◌≡◌ {A = ℕ} 0 1 = cc in absurd (omega arith)
-    by-test false Nothing (At j) ih i e q = let z : i ≡ suc j = cc in rw z (suc-le-suc (ih j refl refl))
-    by-test false Nothing Nothing ih i e q = let z : ◌≡◌ {A = ℕ} 0 1 = cc in absurd (omega arith)
+    by-test false (Some j) g ih i e q = let z : ◌≡◌ {A = ℕ} 0 1 = cc in absurd (omega arith)
+    by-test false None (Some j) ih i e q = let z : i ≡ suc j = cc in rw z (suc-le-suc (ih j refl refl))
+    by-test false None None ih i e q = let z : ◌≡◌ {A = ℕ} 0 1 = cc in absurd (omega arith)
 
-pub front_beyond : {A : Type 0} (p : A → Bool) {l m : List A} (i : ℕ) → Front l m → first p l ≡ Nothing → first p m ≡ At i → length l ≤ i
+pub front_beyond : {A : Type 0} (p : A → Bool) {l m : List A} (i : ℕ) → Front l m → first p l ≡ None → first p m ≡ Some i → length l ≤ i
 front_beyond {A = A} p {l} i a e q = first_beyond p l a.rest i e (ap (λ (m : List A). first p m) (sym a.is) ∙ q)
 
 -- ---- a list of what another's entries make
@@ -677,7 +676,7 @@ pub distinct_fits :
     {A : Type 0} (p : A → A → Bool) (d : A) (l m : List A) →
     Same p →
     Distinct p d l →
-    ((k : ℕ) → k < length l → first (p (get_or l k d)) m ≡ Nothing → ⊥) →
+    ((k : ℕ) → k < length l → first (p (get_or l k d)) m ≡ None → ⊥) →
     length l ≤ length m
 distinct_fits {A} p d l m same apart there =
     no_more (length m) (length l) (λ (k : ℕ). place_of (first (p (get_or l k d)) m) 0) (λ k h. (found k h).0)
@@ -688,19 +687,19 @@ distinct_fits {A} p d l m same apart there =
     first-same (p (get_or l a d)) (p (get_or l b d)) l (λ w. x w ∙ ap (λ (i : ℕ). p (get_or m i d) w) e ∙ sym (y w)) in
     same_place (sym (apart a ha) ∙ z ∙ apart b hb))
   where
-    same_place : {a b : ℕ} → At a ≡ At b → a ≡ b
+    same_place : {a b : ℕ} → Some a ≡ Some b → a ≡ b
     same_place e = cc
 
     found : (k : ℕ) → k < length l → (place_of (first (p (get_or l k d)) m) 0 < length m) × (p (get_or l k d) (get_or m (place_of (first (p (get_or l k d)) m) 0) d) ≡ true)
     found k h = by_case (first (p (get_or l k d)) m) (first-is (p (get_or l k d)) d m) (there k h)
       where
         by_case :
-            (f : Found) →
-            ((i : ℕ) → f ≡ At i → (i < length m) × (p (get_or l k d) (get_or m i d) ≡ true)) →
-            (f ≡ Nothing → ⊥) →
+            (f : Option ℕ) →
+            ((i : ℕ) → f ≡ Some i → (i < length m) × (p (get_or l k d) (get_or m i d) ≡ true)) →
+            (f ≡ None → ⊥) →
             (place_of f 0 < length m) × (p (get_or l k d) (get_or m (place_of f 0) d) ≡ true)
-        by_case (At i) q n = q i refl
-        by_case Nothing q n = absurd (n refl)
+        by_case (Some i) q n = q i refl
+        by_case None q n = absurd (n refl)
 
 pub map_snoc : {A B : Type 0} (f : A → B) (l : List A) (x : A) → map f (l ++ (x ∷ [])) ≡ map f l ++ (f x ∷ [])
 map_snoc f [] x = refl

@@ -1,12 +1,10 @@
 -- What the functions within the library say of a place that was sought, and of bytes taken four at a time; nobody has to believe this. Assumes nothing.
-use Rattle.std.specs.Prelude.{ℕ, ◌+◌, ◌*◌, ◌-◌, Bool, not, ◌||◌, List, eqb, get_or}
-use Rattle.search.specs.declared.Found.{Found}
-use Rattle.search.specs.declared.Found.TheVariants.{At, Nothing}
+use Rattle.std.specs.Prelude.{ℕ, ◌+◌, ◌*◌, ◌-◌, Bool, not, ◌||◌, List, eqb, get_or, Option, Some, None}
 
 -- of a table with n entries: how many there are once the place that a search found, or the next one, is taken
-abbrev pub count_after : Found → ℕ → ℕ
-count_after (At i) n = n
-count_after Nothing n = n + 1
+abbrev pub count_after : Option ℕ → ℕ → ℕ
+count_after (Some i) n = n
+count_after None n = n + 1
 
 -- four bytes from an index on as one number, the lowest first
 unfoldable pub word_at : List ℕ → ℕ → ℕ

@@ -8,20 +8,12 @@ ghost use Rattle.search.specs.Search.{all};
 ghost use Rattle.search.specs.Bytes.{same_bytes, written};
 ghost use Rattle.search.specs.Within.{word_at, words_differ, second_four, third_four};
 
-// What a search answers: the number of the first entry that fits, or nothing.
-#[derive(Clone, Copy)]
-pub enum Found {
-    At(usize),
-    Nothing,
-}
-
 // Four bytes from an index on as one number, which the compiler reads at once. Who calls it has made sure that there are four.
 pub fn word_at(bytes: &[u8], at: usize) -> u32
     requires { at + 4 ≤ length bytes.now }
     ensures { result ≡ word_at bytes.now at }
 {
-    let low = bytes[at] as u32 + bytes[at + 1] as u32 * 256;
-    low + bytes[at + 2] as u32 * 65536 + bytes[at + 3] as u32 * 16777216
+    u32::from_le_bytes([bytes[at], bytes[at + 1], bytes[at + 2], bytes[at + 3]])
 }
 
 // Where the second begins of the four fours that cover a string of 4 to 16 bytes; the first and the last begin at 0 and
@@ -41,17 +33,15 @@ pub fn third_four(n: usize) -> usize
     if 8 < n { n - 8 } else { 0 }
 }
 
-// Whether two byte strings of the same length are equal. It reads all bytes, so that the compiler can take many at a time. `same_bytes` has
-// compared the lengths.
+// Whether two byte strings of the same length are equal. It reads all bytes, so that the compiler can take many at a time, and each once: what a
+// comparison reads is counted (tests/question_reads), and `==` may read a byte again where two differ. `same_bytes` has compared the lengths.
 fn all_same(a: &[u8], b: &[u8]) -> bool
     requires { length a.now ≡ length b.now }
     ensures { result ≡ same_bytes a.now b.now }
 {
     let mut same = true;
-    let mut i = 0;
-    while i < a.len() {
-        same = same & (a[i] == b[i]);
-        i += 1;
+    for i in 0..a.len() {
+        same &= a[i] == b[i];
     }
     same
 }
@@ -96,7 +86,7 @@ pub fn same_bytes(a: &[u8], b: &[u8]) -> bool
 pub fn smaller(a: u8, b: u8) -> u8
     ensures { result ≡ min a b }
 {
-    if a < b { a } else { b }
+    a.min(b)
 }
 
 // Writes `src` over `dst` from index `at`. Who calls it has made sure that it fits.
@@ -104,11 +94,8 @@ pub fn copy_at(dst: &mut [u8], at: usize, src: &[u8])
     requires { at + length src.now ≤ length dst.old }
     ensures { dst.new ≡ written dst.old at src.now }
 {
-    let mut i = 0;
-    while i < src.len() {
-        dst[at + i] = src[i];
-        i += 1;
-    }
+    let end = at + src.len();
+    dst[at..end].copy_from_slice(src);
 }
 
 // Whether the first `count` numbers of a run are all below `limit`. It reads all of them, so that the compiler can take many at a time.
@@ -118,10 +105,8 @@ pub fn all_below(run: &[u8], count: usize, limit: u8) -> bool
     ensures { result ≡ all (λ x. ltb x limit) (take count run.now) }
 {
     let mut ok = true;
-    let mut i = 0;
-    while i < count {
-        ok = ok & (run[i] < limit);
-        i += 1;
+    for x in &run[..count] {
+        ok &= *x < limit;
     }
     ok
 }

@@ -57,10 +57,8 @@ fn write_bytes(out: &mut [u8], at: usize, first: u64, second: u64, third: u64, c
     ensures { out.new ≡
         written out.old at (entries (byte_of (record { first = first; second = second; third = third })) count) }
 {
-    let mut i = 0;
-    while i < count {
+    for i in 0..count {
         out[at + i] = byte_of(first, second, third, i);
-        i += 1;
     }
 }
 
@@ -130,12 +128,10 @@ pub fn only_categories(bitmap: &[u8]) -> bool
     if byte_at(bitmap, 23) % 128 != 0 {
         return false;
     }
-    let mut i = 24;
-    while i < bitmap.len() {
+    for i in 24..bitmap.len() {
         if bitmap[i] != 0 {
             return false;
         }
-        i += 1;
     }
     true
 }

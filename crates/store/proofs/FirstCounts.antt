@@ -9,7 +9,7 @@ use lib.ListN.{length, get_or}
 use borrow.Author.Tests.{eq-eqb}
 use Rattle.search.specs.Search.{first}
 use Rattle.search.specs.Bytes.{same_bytes}
-use Rattle.search.specs.declared.Found.TheVariants.{At}
+use Rattle.std.proofs.Common.{Some}
 use Rattle.search.proofs.Laws.{no, and_both, eqb_is, same_refl, same-equal, not_so, first-at, first-is, first-before}
 use Rattle.numbers.specs.Categories.{no_categories}
 use Rattle.store.specs.declared.Rule.{Rule}
@@ -18,7 +18,7 @@ use Rattle.store.specs.Table.{Table, is_pair, names, FirstCounts}
 
 -- a test that says what an entry is: what is found is the first entry that is so
 module _ {A : Type 0} (p : A → Bool) (is : A → Type 0) (says : (x : A) → (p x ≡ true) ↔ is x) (d : A) (l : List A) (k : ℕ) where
-  the_first : (first p l ≡ At k) ↔ ((k < length l) × is (get_or l k d) × ((j : ℕ) → j < k → is (get_or l j d) → ⊥))
+  the_first : (first p l ≡ Some k) ↔ ((k < length l) × is (get_or l k d) × ((j : ℕ) → j < k → is (get_or l j d) → ⊥))
   the_first = (
     λ e.
         let f = first-is p d l k e in

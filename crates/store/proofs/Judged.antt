@@ -11,7 +11,7 @@ use Rattle.search.specs.Search.{all}
 use Rattle.search.proofs.Laws.{and_both}
 use Rattle.refusals.specs.Refusals.{damaged}
 use Rattle.refusals.specs.declared.Refusal.{Refusal}
-use Rattle.store.specs.declared.Done.TheVariants as d
+use Rattle.std.proofs.Common.{Ok, Err}
 use Rattle.store.specs.Table.{Table, fresh, sound_table}
 use Rattle.store.specs.Layout.{Store, store, table_of, undamaged_of, full_sizes, Sizes}
 use Rattle.store.specs.Laid.{laid}
@@ -33,7 +33,7 @@ module _ (st : Store) (write : Table → Judged) where
 
 -- ---- a refusal leaves every lent byte
 
-pub refused_stays : (st : Store) (j : Judged) (r : Refusal) → done_of j ≡ d.Refused r → store_after st j ≡ st
+pub refused_stays : (st : Store) (j : Judged) (r : Refusal) → done_of j ≡ Err r → store_after st j ≡ st
 refused_stays st is_skipped n e = refl
 refused_stays st (is_refused k) n e = refl
 refused_stays st (is_accepted t) n e = let z : ◌≡◌ {A = ℕ} 0 1 = cc in absurd (omega arith)
@@ -59,11 +59,11 @@ module _ (st : Store) (u : Undamaged st) where
 
 -- ---- a fresh table
 
-pub fresh-full : (st : Store) → fresh_answer st ≡ d.Done → Sizes st.labels st.entries st.words
+pub fresh-full : (st : Store) → fresh_answer st ≡ Ok tt → Sizes st.labels st.entries st.words
 unfolding fresh_answer fresh_write
 fresh-full st q = by-test (full_sizes st) refl q
   where
-    by-test : (b : Bool) → full_sizes st ≡ b → done_of (cond b (is_accepted fresh) (is_refused damaged)) ≡ d.Done → Sizes st.labels st.entries st.words
+    by-test : (b : Bool) → full_sizes st ≡ b → done_of (cond b (is_accepted fresh) (is_refused damaged)) ≡ Ok tt → Sizes st.labels st.entries st.words
     by-test true e q =
         let a = and_both (eqb (length st.labels) 16384) (eqb (length st.entries) 840 && eqb (length st.words) 100) e in
         let b = and_both (eqb (length st.entries) 840) (eqb (length st.words) 100) a.1 in

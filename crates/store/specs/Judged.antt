@@ -1,10 +1,8 @@
 -- What a write does: each is one definition, from the tables to what becomes of it and of them. The definitions here turn that into the
 -- tables afterwards, the lent slices and the answer, for every write in the same way. Assumes nothing.
-use Rattle.std.specs.Prelude.{cond}
+use Rattle.std.specs.Prelude.{cond, Result, Ok, Err}
 use Rattle.refusals.specs.Refusals.{damaged}
 use Rattle.refusals.specs.declared.Refusal.{Refusal}
-use Rattle.store.specs.declared.Done.{Done}
-use Rattle.store.specs.declared.Done.TheVariants as d
 use Rattle.store.specs.Table.{Table, fresh}
 use Rattle.store.specs.Layout.{Store, table_of, undamaged_of, full_sizes}
 use Rattle.store.specs.Laid.{laid}
@@ -28,10 +26,10 @@ store_after st (is_refused n) = st
 store_after st (is_accepted t) = laid st t
 
 -- what a single write answers: done, or a refusal (it is never skipped)
-abbrev pub done_of : Judged → Done
-done_of is_skipped = d.Done
-done_of (is_refused n) = d.Refused n
-done_of (is_accepted t) = d.Done
+abbrev pub done_of : Judged → Result (Unit {0}) Refusal
+done_of is_skipped = Ok tt
+done_of (is_refused n) = Err n
+done_of (is_accepted t) = Ok tt
 
 -- a write to a lent state: 0 before every other number where it is damaged
 unfoldable pub on_state : Store → (Table → Judged) → Judged
@@ -41,7 +39,7 @@ on_state st write = cond (undamaged_of st) (write (table_of st)) (is_refused dam
 unfoldable pub fresh_write : Store → Judged
 fresh_write st = cond (full_sizes st) (is_accepted fresh) (is_refused damaged)
 
-unfoldable pub fresh_answer : Store → Done
+unfoldable pub fresh_answer : Store → Result (Unit {0}) Refusal
 unfolding fresh_write
 fresh_answer st = done_of (fresh_write st)
 

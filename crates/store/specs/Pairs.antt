@@ -1,24 +1,22 @@
 -- 01, Questions, rule 6, and Single writes, Change: the rule of a pair of labels, and its modes. Assumes nothing.
-use Rattle.std.specs.Prelude.{ℕ, List, get_or}
-use Rattle.search.specs.declared.Found.{Found}
-use Rattle.search.specs.declared.Found.TheVariants.{At, Nothing}
+use Rattle.std.specs.Prelude.{ℕ, List, get_or, Option, Some, None}
 use Rattle.store.specs.declared.Rule.{Rule}
 use Rattle.store.specs.Table.{Table, label_in, pair_in}
 
 -- where the rule of a pair stands, by the numbers of its labels; a label that is not in the table has no rules
-abbrev pub rule_between : Table → Found → Found → Found
-rule_between t (At i) (At j) = pair_in t i j
-rule_between t (At i) Nothing = Nothing
-rule_between t Nothing o = Nothing
+abbrev pub rule_between : Table → Option ℕ → Option ℕ → Option ℕ
+rule_between t (Some i) (Some j) = pair_in t i j
+rule_between t (Some i) None = None
+rule_between t None o = None
 
 -- the modes of a pair: those of its rule, or that it has none
 pub data PairModes : Type 0 where
   has_modes : ℕ → PairModes
   no_rule : PairModes
 
-abbrev pub modes_found : List Rule → Found → PairModes
-modes_found rules (At k) = has_modes (get_or rules k (record { subject = 0; object = 0; modes = 0 })).modes
-modes_found rules Nothing = no_rule
+abbrev pub modes_found : List Rule → Option ℕ → PairModes
+modes_found rules (Some k) = has_modes (get_or rules k (record { subject = 0; object = 0; modes = 0 })).modes
+modes_found rules None = no_rule
 
 -- of two labels in a table: each by its first number, and the first rule that names both
 unfoldable pub modes_between : Table → List ℕ → List ℕ → PairModes

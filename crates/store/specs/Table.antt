@@ -1,12 +1,10 @@
 -- 01: the tables as they are spoken of, with no word of how they lie in memory: labels, rules, mappings and the onlycap list (01: the
 -- override list), in order. Assumes nothing.
-use Rattle.std.specs.Prelude.{ℕ, ◌<◌, Bool, false, ◌&&◌, List, [], ◌∷◌, ◌++◌, ◌↔◌, ◌≡◌, length, get_or, eqb, ltb, leb}
+use Rattle.std.specs.Prelude.{ℕ, ◌<◌, Bool, false, ◌&&◌, List, [], ◌∷◌, ◌++◌, ◌↔◌, ◌≡◌, length, get_or, eqb, ltb, leb, Option, Some, None}
 use Rattle.modes.specs.Modes.{known_modes}
 use Rattle.numbers.specs.Categories.{no_categories, known_set}
 use Rattle.search.specs.Search.{first, all, place_of}
 use Rattle.search.specs.Bytes.{ascii, same_bytes}
-use Rattle.search.specs.declared.Found.{Found}
-use Rattle.search.specs.declared.Found.TheVariants.{At, Nothing}
 use Rattle.store.specs.declared.Rule.{Rule}
 use Rattle.store.specs.declared.Mapping.{Mapping}
 
@@ -70,7 +68,7 @@ abbrev pub onlycap_limit : ℕ
 onlycap_limit = 8
 
 -- the number of a label: the first that has its bytes
-abbrev pub label_in : Table → List ℕ → Found
+abbrev pub label_in : Table → List ℕ → Option ℕ
 label_in t l = first (same_bytes l) t.labels
 
 -- the number that a label has among some that hold it: the first that has its bytes
@@ -78,23 +76,23 @@ abbrev pub number_in : List (List ℕ) → List ℕ → ℕ
 number_in ls l = place_of (first (same_bytes l) ls) 0
 
 -- a label enters: it goes last, where a search has not found it
-abbrev pub labels_entered : Found → List (List ℕ) → List ℕ → List (List ℕ)
-labels_entered (At i) ls l = ls
-labels_entered Nothing ls l = ls ++ (l ∷ [])
+abbrev pub labels_entered : Option ℕ → List (List ℕ) → List ℕ → List (List ℕ)
+labels_entered (Some i) ls l = ls
+labels_entered None ls l = ls ++ (l ∷ [])
 
 abbrev pub enter : List (List ℕ) → List ℕ → List (List ℕ)
 enter ls l = labels_entered (first (same_bytes l) ls) ls l
 
 -- whether an entry that was sought has no place: it is not among n entries, and there may be no more
-abbrev pub no_place : Found → ℕ → ℕ → Bool
-no_place (At i) n limit = false
-no_place Nothing n limit = leb limit n
+abbrev pub no_place : Option ℕ → ℕ → ℕ → Bool
+no_place (Some i) n limit = false
+no_place None n limit = leb limit n
 
 -- the rule of a pair of label numbers: the first that names both
 unfoldable pub is_pair : ℕ → ℕ → Rule → Bool
 is_pair s o r = eqb r.subject s && eqb r.object o
 
-abbrev pub pair_in : Table → ℕ → ℕ → Found
+abbrev pub pair_in : Table → ℕ → ℕ → Option ℕ
 pair_in t s o = first (is_pair s o) t.rules
 
 -- whether a mapping is that of label number n
@@ -102,7 +100,7 @@ unfoldable pub names : ℕ → Mapping → Bool
 names n m = eqb m.label n
 
 -- the mapping of label number n: the first that names it
-abbrev pub mapping_in : Table → ℕ → Found
+abbrev pub mapping_in : Table → ℕ → Option ℕ
 mapping_in t n = first (names n) t.mappings
 
 -- label k, rule k and mapping k, from 0, in table order
@@ -120,15 +118,15 @@ mapping_numbered t k = get_or t.mappings k (record { label = 0; level = 0; set =
 pub record FirstCounts (t : Table) : Type 0 where
   pub label :
       (l : List ℕ) (k : ℕ) →
-      (label_in t l ≡ At k) ↔ ((k < length t.labels) × (label_numbered t k ≡ l) × ((j : ℕ) → j < k → label_numbered t j ≡ l → ⊥))
+      (label_in t l ≡ Some k) ↔ ((k < length t.labels) × (label_numbered t k ≡ l) × ((j : ℕ) → j < k → label_numbered t j ≡ l → ⊥))
   pub pair :
       (s o k : ℕ) →
-      (pair_in t s o ≡ At k) ↔ (
+      (pair_in t s o ≡ Some k) ↔ (
       (k < length t.rules) × ((rule_numbered t k).subject ≡ s) × ((rule_numbered t k).object ≡ o)
       × ((j : ℕ) → j < k → (rule_numbered t j).subject ≡ s → (rule_numbered t j).object ≡ o → ⊥))
   pub mapping :
       (n k : ℕ) →
-      (mapping_in t n ≡ At k) ↔ ((k < length t.mappings) × ((mapping_numbered t k).label ≡ n) × ((j : ℕ) → j < k → (mapping_numbered t j).label ≡ n → ⊥))
+      (mapping_in t n ≡ Some k) ↔ ((k < length t.mappings) × ((mapping_numbered t k).label ≡ n) × ((j : ℕ) → j < k → (mapping_numbered t j).label ≡ n → ⊥))
 
 -- ---- refusal 0, of what is stored: each number names a stored label (of which there are n), no unknown mode bit (02, Six: 1, which stored b, is
 -- one), no unknown category bit

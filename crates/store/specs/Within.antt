@@ -1,9 +1,7 @@
 -- What the code writes into the lent slices, and what it knows of a tested store. Nobody has to believe this: contracts inside the library cite it.
 -- Assumes nothing.
-use Rattle.std.specs.Prelude.{ℕ, ◌+◌, ◌*◌, ◌≤◌, List, ◌∷◌, length, get_or, set}
+use Rattle.std.specs.Prelude.{ℕ, ◌+◌, ◌*◌, ◌≤◌, List, ◌∷◌, length, get_or, set, Option, Some, None}
 use Rattle.search.specs.Bytes.{written}
-use Rattle.search.specs.declared.Found.{Found}
-use Rattle.search.specs.declared.Found.TheVariants.{At, Nothing}
 use Rattle.store.specs.declared.Rule.{Rule}
 use Rattle.store.specs.declared.Mapping.{Mapping}
 use Rattle.store.specs.Table.{floor, hat, star, huh, web, label_limit, rule_limit, mapping_limit, onlycap_limit}
@@ -17,9 +15,9 @@ unfoldable pub with_rule : List ℕ → ℕ → Rule → List ℕ
 with_rule e k r = set (set (set e k r.subject) (objects_from + k) r.object) (modes_from + k) r.modes
 
 -- a label that a search has not found written into the next place
-abbrev pub entered : Found → List ℕ → ℕ → List ℕ → List ℕ
-entered (At i) labels n l = labels
-entered Nothing labels n l = with_label labels n l
+abbrev pub entered : Option ℕ → List ℕ → ℕ → List ℕ → List ℕ
+entered (Some i) labels n l = labels
+entered None labels n l = with_label labels n l
 
 -- a mapping's label and level written into place k
 unfoldable pub with_numbers : List ℕ → ℕ → Mapping → List ℕ

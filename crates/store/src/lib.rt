@@ -4,8 +4,8 @@
 
 ghost use Rattle.std.specs.Prelude.{◌≡◌, ◌+◌, ◌<◌, ◌≤◌, length};
 ghost use Rattle.store.specs.Table.{Table, FirstCounts, label_limit, rule_limit, mapping_limit};
-ghost use Rattle.store.specs.Layout.{store, labels_size, modes_from, levels_from, thirds_from, set_at};
-ghost use Rattle.store.specs.Within.{with_label, with_rule, with_numbers, with_words};
+ghost use Rattle.store.specs.Layout.{store, Sizes, labels_size, modes_from, levels_from, thirds_from, set_at};
+ghost use Rattle.store.specs.Within.{Counts, with_label, with_rule, with_numbers, with_words};
 ghost use Rattle.store.specs.Judged.{fresh_answer, fresh_store};
 
 use numbers::CategorySet;
@@ -56,23 +56,76 @@ pub const SECONDS_FROM: usize = 36;
 
 pub const THIRDS_FROM: usize = 68;
 
-// A rule: the numbers of its subject and its object, and its modes.
+// What a host lends of a state: its three slices, of any size and any content.
+#[derive(Clone, Copy)]
+pub struct Lent<'a> {
+    pub labels: &'a [u8],
+    pub entries: &'a [u8],
+    pub words: &'a [u64],
+}
+
+// The same, where a call may change what they hold.
 #[derive(Drop)]
+pub struct LentMut<'a> {
+    pub labels: &'a mut [u8],
+    pub entries: &'a mut [u8],
+    pub words: &'a mut [u64],
+}
+
+// The slices of a state that was tested: each has its full size, and no count is over its limit.
+#[derive(Clone, Copy)]
+pub struct Tables<'a> {
+    pub labels: &'a [u8],
+    pub entries: &'a [u8],
+    pub words: &'a [u64],
+    ghost sizes: { Sizes labels.now entries.now words.now },
+    ghost counts: { Counts words.now },
+}
+
+impl<'a> LentMut<'a> {
+    ghost use Rattle.store.specs.Lent.{lent_mut};
+    ghost use Rattle.store.specs.LentWithin.{lent, tested};
+
+    // The slices, to be read.
+    pub fn shared(&self) -> Lent<'_>
+        ensures { lent result ≡ lent_mut self.now }
+    {
+        Lent {
+            labels: &self.labels[..],
+            entries: &self.entries[..],
+            words: &self.words[..],
+        }
+    }
+
+    // The slices, to be read, of a state that who calls it has tested.
+    pub fn tables(&self) -> Tables<'_>
+        requires sizes { Sizes self.now.labels.now self.now.entries.now self.now.words.now }
+        requires counts { Counts self.now.words.now }
+        ensures { tested result ≡ lent_mut self.now }
+    {
+        let Lent {
+            labels,
+            entries,
+            words,
+        } = self.shared();
+        Tables {
+            labels,
+            entries,
+            words,
+        }
+    }
+}
+
+// A rule: the numbers of its subject and its object, and its modes.
+#[derive(Clone, Copy, Debug, PartialEq, Eq)]
 pub struct Rule {
     pub subject: u8,
     pub object: u8,
     pub modes: u8,
 }
 
-// What a write answers: done, or a refusal.
-#[derive(Drop)]
-pub enum Done {
-    Done,
-    Refused(Refusal),
-}
-
 // A CIPSO mapping: the label's number, its level and its category set.
-#[derive(Drop)]
+#[derive(Clone, Copy, Debug, PartialEq, Eq)]
 pub struct Mapping {
     pub label: u8,
     pub level: u8,
@@ -132,18 +185,18 @@ pub fn set_at(words: &[u64], k: usize) -> CategorySet
 
 // Makes a fresh table of lent memory, whatever it holds: the five labels alone. Refused with 0 where a part has not its full size. What no
 // entry holds stays as it was.
-pub fn fresh_table(labels: &mut [u8], entries: &[u8], words: &mut [u64]) -> Done
+pub fn fresh_table(labels: &mut [u8], entries: &[u8], words: &mut [u64]) -> Result<(), Refusal>
     ensures value { result ≡ fresh_answer (store labels.old entries.now words.old) }
     ensures stored { store labels.new entries.now words.new ≡ fresh_store (store labels.old entries.now words.old) }
 {
     if labels.len() != LABELS_SIZE {
-        return Done::Refused(refusals::DAMAGED);
+        return Err(Refusal::Damaged);
     }
     if entries.len() != ENTRIES_SIZE {
-        return Done::Refused(refusals::DAMAGED);
+        return Err(Refusal::Damaged);
     }
     if words.len() != WORDS_SIZE {
-        return Done::Refused(refusals::DAMAGED);
+        return Err(Refusal::Damaged);
     }
     let floor = [b'_'];
     let hat = [b'^'];
@@ -159,5 +212,5 @@ pub fn fresh_table(labels: &mut [u8], entries: &[u8], words: &mut [u64]) -> Done
     words[RULE_COUNT] = 0;
     words[MAPPING_COUNT] = 0;
     words[ONLYCAP_COUNT] = 0;
-    Done::Done
+    Ok(())
 }

@@ -12,11 +12,11 @@ unfolding onlycap_at
 returns-then-s-entries c =
     let a = c.args in
     let l = c.loop-i in
-    rw c.in-At.is (sym (listed_at _ _ _ (found-at (eqb c.in-At.s) (onlycap_at a.entries.now) (get_or a.words.now 3 0) l.i (omega arith) l.invariant.1 (eq-eqb _ _ c.if-s-entries.true))))
+    rw c.in-Some.is (sym (listed_at _ _ _ (found-at (eqb c.in-Some.s) (onlycap_at a.entries.now) (get_or a.words.now 3 0) l.i (omega arith) l.invariant (eq-eqb _ _ c.if-s-entries.true))))
 
 pub returns : goal.returns
 unfolding onlycap_at
 returns c =
     let a = c.args in
     let l = c.loop-i in
-    rw c.in-At.is (sym (listed-none _ _ (found_none (eqb c.in-At.s) (onlycap_at a.entries.now) (get_or a.words.now 3 0) (λ k h. l.invariant.1 k (omega arith)))))
+    rw c.in-Some.is (sym (listed-none _ _ (found_none (eqb c.in-Some.s) (onlycap_at a.entries.now) (get_or a.words.now 3 0) (λ k h. l.invariant k (omega arith)))))

@@ -14,9 +14,9 @@ pub loop-i-preserved : goal.loop-i-preserved
 loop-i-preserved c =
     let told = blank_told (get_or c.args.line.now c.loop-i.i 0) c.class.result c.class.ensures in
     let more = run_more c.args.blanks c.args.line.now c.loop-i.i (omega arith) (sym told ∙ bools_agree (eqb c.class.result 1) c.args.blanks c.if-class-blanks.false) in
-    omega arith
+    (omega arith, omega arith)
 
 pub returns : goal.returns
 returns c =
     let past = run_past c.args.blanks c.args.line.now c.loop-i.i (omega arith) in
-    omega arith
+    omega (arith, c.max.ensures)

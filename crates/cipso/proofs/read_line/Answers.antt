@@ -23,19 +23,19 @@ pub returns-in_default-next_field-clause-said : goal.returns-in_default-next_fie
 returns-in_default-next_field-clause-said c =
     sym (said-one (one c.if-text-gt-MAPPING_LONGEST.false (sym c.next_field.ensures ∙ c.in-Part.is)) (sym c.next_field-2.ensures ∙ c.in_default-next_field.is))
 
-pub slice_bounds-label_fault-count : goal.slice_bounds-label_fault-count
-slice_bounds-label_fault-count c = let f = in_one (one c.if-text-gt-MAPPING_LONGEST.false (sym c.next_field.ensures ∙ c.in-Part.is)) in omega (arith, f.starts)
+pub slice_bounds-well_formed-count : goal.slice_bounds-well_formed-count
+slice_bounds-well_formed-count c = let f = in_one (one c.if-text-gt-MAPPING_LONGEST.false (sym c.next_field.ensures ∙ c.in-Part.is)) in omega (arith, f.starts)
 
-pub slice_bounds-label_fault-start : goal.slice_bounds-label_fault-start
-slice_bounds-label_fault-start c = let f = in_one (one c.if-text-gt-MAPPING_LONGEST.false (sym c.next_field.ensures ∙ c.in-Part.is)) in omega (arith, f.starts)
+pub slice_bounds-well_formed-start : goal.slice_bounds-well_formed-start
+slice_bounds-well_formed-start c = let f = in_one (one c.if-text-gt-MAPPING_LONGEST.false (sym c.next_field.ensures ∙ c.in-Part.is)) in omega (arith, f.starts)
 
-pub slice_bounds-label_fault-end : goal.slice_bounds-label_fault-end
-slice_bounds-label_fault-end c = let f = in_one (one c.if-text-gt-MAPPING_LONGEST.false (sym c.next_field.ensures ∙ c.in-Part.is)) in f.ends
+pub slice_bounds-well_formed-end : goal.slice_bounds-well_formed-end
+slice_bounds-well_formed-end c = let f = in_one (one c.if-text-gt-MAPPING_LONGEST.false (sym c.next_field.ensures ∙ c.in-Part.is)) in f.ends
 
-pub returns-in_default-label_fault-clause-said : goal.returns-in_default-label_fault-clause-said
-returns-in_default-label_fault-clause-said c =
+pub returns-then-not-well_formed-clause-said : goal.returns-then-not-well_formed-clause-said
+returns-then-not-well_formed-clause-said c =
     let w = two c.if-text-gt-MAPPING_LONGEST.false (sym c.next_field.ensures ∙ c.in-Part.is) (sym c.next_field-2.ensures ∙ c.in-Part-next_field.is) in
-    ap refused c.bad_label_in.ensures ∙ sym (said_unformed w (sym c.label_fault.ensures ∙ c.in_default-label_fault.is))
+    ap refused c.bad_label_in.ensures ∙ sym (said_unformed w (sym c.well_formed-2.ensures ∙ c.if-not-well_formed.true))
 
 pub slice_bounds-read_number-count : goal.slice_bounds-read_number-count
 slice_bounds-read_number-count c =
@@ -55,29 +55,29 @@ slice_bounds-read_number-end c =
 pub returns-in_default-read_number-clause-said : goal.returns-in_default-read_number-clause-said
 returns-in_default-read_number-clause-said c =
     let w = two c.if-text-gt-MAPPING_LONGEST.false (sym c.next_field.ensures ∙ c.in-Part.is) (sym c.next_field-2.ensures ∙ c.in-Part-next_field.is) in
-    sym (said-unread w (sym c.label_fault.ensures ∙ c.in-Nothing.is) (sym c.read_number.ensures ∙ c.in_default-read_number.is))
+    sym (said-unread w (sym c.well_formed-2.ensures ∙ c.if-not-well_formed.false) (sym c.read_number.ensures ∙ c.in_default-read_number.is))
 
 pub returns-then-not-is_mapping_level-clause-said : goal.returns-then-not-is_mapping_level-clause-said
 returns-then-not-is_mapping_level-clause-said c =
     let w = two c.if-text-gt-MAPPING_LONGEST.false (sym c.next_field.ensures ∙ c.in-Part.is) (sym c.next_field-2.ensures ∙ c.in-Part-next_field.is) in
-    sym (said-no-level w (sym c.label_fault.ensures ∙ c.in-Nothing.is) (sym c.read_number.ensures ∙ c.in-Value.is) (sym c.is_mapping_level.ensures ∙ c.if-not-is_mapping_level.true))
+    sym (said-no-level w (sym c.well_formed-2.ensures ∙ c.if-not-well_formed.false) (sym c.read_number.ensures ∙ c.in-Some.is) (sym c.is_mapping_level.ensures ∙ c.if-not-is_mapping_level.true))
 
 pub returns-in_default-read_categories-clause-said : goal.returns-in_default-read_categories-clause-said
 returns-in_default-read_categories-clause-said c =
     let w = two c.if-text-gt-MAPPING_LONGEST.false (sym c.next_field.ensures ∙ c.in-Part.is) (sym c.next_field-2.ensures ∙ c.in-Part-next_field.is) in
     sym
-    (said-set w (sym c.label_fault.ensures ∙ c.in-Nothing.is) (sym c.read_number.ensures ∙ c.in-Value.is) (sym c.is_mapping_level.ensures ∙ c.if-not-is_mapping_level.false)
+    (said-set w (sym c.well_formed-2.ensures ∙ c.if-not-well_formed.false) (sym c.read_number.ensures ∙ c.in-Some.is) (sym c.is_mapping_level.ensures ∙ c.if-not-is_mapping_level.false)
     (sym c.read_categories.ensures ∙ c.in_default-read_categories.is))
 
 pub returns-clause-said : goal.returns-clause-said
 returns-clause-said c =
     let w = two c.if-text-gt-MAPPING_LONGEST.false (sym c.next_field.ensures ∙ c.in-Part.is) (sym c.next_field-2.ensures ∙ c.in-Part-next_field.is) in
     sym
-    (said-set w (sym c.label_fault.ensures ∙ c.in-Nothing.is) (sym c.read_number.ensures ∙ c.in-Value.is) (sym c.is_mapping_level.ensures ∙ c.if-not-is_mapping_level.false)
-    (sym c.read_categories.ensures ∙ c.in-Set.is))
+    (said-set w (sym c.well_formed-2.ensures ∙ c.if-not-well_formed.false) (sym c.read_number.ensures ∙ c.in-Some.is) (sym c.is_mapping_level.ensures ∙ c.if-not-is_mapping_level.false)
+    (sym c.read_categories.ensures ∙ c.in-Some-read_categories.is))
 
 pub returns-clause-line_inside : goal.returns-clause-line_inside
 returns-clause-line_inside c =
     let w = two c.if-text-gt-MAPPING_LONGEST.false (sym c.next_field.ensures ∙ c.in-Part.is) (sym c.next_field-2.ensures ∙ c.in-Part-next_field.is) in
     let f = in_one w.label in
-    (f.starts, f.ends, label-fits w (sym c.label_fault.ensures ∙ c.in-Nothing.is))
+    (f.starts, f.ends, label-fits w (sym c.well_formed-2.ensures ∙ c.if-not-well_formed.false))

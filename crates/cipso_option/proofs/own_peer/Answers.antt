@@ -2,8 +2,7 @@
 use Rattle.std.proofs.Common.{List, ℕ, ◌≡◌, ◌≤◌, ◌-◌, length, take, refl, sym, ap, ◌∙◌, arith}
 use Rattle.search.specs.Bytes.{written}
 use Rattle.numbers.specs.declared.CategorySet.{CategorySet}
-use Rattle.alphabet.specs.Alphabet.{fault_of}
-use Rattle.alphabet.proofs.Laws.{fault-formed, fault_unformed}
+use Rattle.alphabet.specs.Alphabet.{well_formed}
 use Rattle.set_bytes.specs.SetBytes.{own_bytes}
 use Rattle.set_bytes.proofs.Laws.{own-length}
 use Rattle.cipso_option.specs.Option.{trimmed, peer_shown, label}
@@ -24,18 +23,17 @@ module _ (d b : List ℕ) (s : CategorySet) (n : ℕ) (w : b ≡ written d 0 (ow
   long : length b ≡ 23
   long = ap length bytes ∙ own-length s
 
-pub slice_bounds-label_fault-end : goal.slice_bounds-label_fault-end
-slice_bounds-label_fault-end c =
+pub slice_bounds-well_formed-end : goal.slice_bounds-well_formed-end
+slice_bounds-well_formed-end c =
     omega (arith, few _ _ _ _ c.write_own.ensures refl c.trimmed_length-n.ensures, long _ _ _ _ c.write_own.ensures refl c.trimmed_length-n.ensures)
 
-pub returns-in_default : goal.returns-in_default
-returns-in_default c =
+pub returns-then-not-well_formed : goal.returns-then-not-well_formed
+returns-then-not-well_formed c =
     let p = part _ _ _ _ c.write_own.ensures refl c.trimmed_length-n.ensures in
-    let unformed = fault_unformed (trimmed (own_bytes c.args.set)) _ (ap fault_of (sym p) ∙ sym c.label_fault.ensures ∙ c.in_default.is) in
-    c.refused.ensures ∙ rw unformed
+    c.refused.ensures ∙ rw (ap well_formed (sym p) ∙ sym c.well_formed-2.ensures ∙ c.if-not-well_formed.true)
 
 pub returns : goal.returns
 returns c =
     let p = part _ _ _ _ c.write_own.ensures refl c.trimmed_length-n.ensures in
-    let formed = fault-formed (trimmed (own_bytes c.args.set)) (ap fault_of (sym p) ∙ sym c.label_fault.ensures ∙ c.in-Nothing.is) in
+    let formed = ap well_formed (sym p) ∙ sym c.well_formed-2.ensures ∙ c.if-not-well_formed.false in
     c.shown.ensures ∙ ap (λ (l : List ℕ). peer_shown (label l)) p ∙ rw formed

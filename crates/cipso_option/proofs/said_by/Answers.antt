@@ -14,7 +14,8 @@ is_ours-requires c = (option_sized c.args.option.now (sym c.is_option.ensures �
 
 pub returns-then-not-is_ours : goal.returns-then-not-is_ours
 unfolding said_of
-returns-then-not-is_ours c = rw (sym c.is_option.ensures ∙ c.if-not-is_option.false, sym c.is_ours.ensures ∙ c.if-not-is_ours.true)
+returns-then-not-is_ours c =
+    rw (sym c.is_option.ensures ∙ c.if-not-is_option.false, sym c.is_ours.ensures ∙ c.if-not-is_ours.true)
 
 pub slice_bounds-bitmap-count : goal.slice_bounds-bitmap-count
 slice_bounds-bitmap-count c = (option_sized c.args.option.now (sym c.is_option.ensures ∙ c.if-not-is_option.false)).0

@@ -1,23 +1,24 @@
 -- One of the words more.
 use Rattle.std.proofs.Common.{◌≡◌, ◌<◌, length, take, get_or, refl, sym, ◌∙◌, add-one, arith}
-use lib.Seq.{take-suc}
+use lib.Seq.{take-suc, take-length}
 use Rattle.search.specs.Search.{all}
 use Rattle.search.proofs.Laws.{all_snoc}
 use Rattle.numbers.specs.Categories.{known_third}
 use Rattle.damage.proofs.all_known.Goals as goal
 
-pub loop-i-init : goal.loop-i-init
+pub loop-word-init : goal.loop-word-init
 unfolding all
-loop-i-init c = (omega arith, refl)
+loop-word-init c = refl
 
-pub loop-i-preserved : goal.loop-i-preserved
-loop-i-preserved c =
-    let i = c.loop-i.i in
-    let run = c.args.run.now in
+pub loop-word-preserved : goal.loop-word-preserved
+loop-word-preserved c =
+    let i = c.loop-word.word-index in
+    let run = take c.args.count c.args.run.now in
     let h : i < length run = omega arith in
-    (omega arith, rw (c.loop-i.invariant.1, add-one, take-suc run i 0 h) (sym (all_snoc known_third (take i run) (get_or run i 0))))
+    rw (c.loop-word.invariant, add-one, take-suc run i 0 h) (sym (all_snoc known_third (take i run) (get_or run i 0)))
 
 pub returns : goal.returns
 returns c =
-    let e : c.loop-i.i ≡ c.args.count = omega arith in
-    c.loop-i.invariant.1 ∙ rw e
+    let run = take c.args.count c.args.run.now in
+    let e : c.loop-word.word-index ≡ length run = omega arith in
+    c.loop-word.invariant ∙ rw (e, take-length)

@@ -19,25 +19,25 @@ pub returns-in_default-label_length : goal.returns-in_default-label_length
 returns-in_default-label_length c =
     let e =
     as_answered _ _ c.args.out.now
-    (no_object c.args.bytes.now c.if-bytes-ne-RECORD_SIZE.false c.in-At.s (sym c.in-At.ensures) (sym c.label_length-2.ensures ∙ c.in_default-label_length.is)) in
+    (no_object c.args.bytes.now c.if-bytes-ne-RECORD_SIZE.false c.in-Some.s (sym c.in-Some.ensures) (sym c.label_length-2.ensures ∙ c.in_default-label_length.is)) in
     record { value = e.0; out_after = e.1 }
 
 pub slice_bounds-put_line-end : goal.slice_bounds-put_line-end
 slice_bounds-put_line-end c =
-    let s = subject-short c.args.bytes.now c.if-bytes-ne-RECORD_SIZE.false c.in-At.s (sym c.in-At.ensures) in
+    let s = subject-short c.args.bytes.now c.if-bytes-ne-RECORD_SIZE.false c.in-Some.s (sym c.in-Some.ensures) in
     let size = c.if-bytes-ne-RECORD_SIZE.false in
     omega (arith, s, size)
 
 pub overflow_add-o : goal.overflow_add-o
 overflow_add-o c =
     let o =
-    object-short c.args.bytes.now c.if-bytes-ne-RECORD_SIZE.false c.in-At.s (sym c.in-At.ensures) c.in-At-label_length.o (sym c.in-At-label_length.ensures) in
+    object-short c.args.bytes.now c.if-bytes-ne-RECORD_SIZE.false c.in-Some.s (sym c.in-Some.ensures) c.in-Some-label_length.o (sym c.in-Some-label_length.ensures) in
     record { fits = omega (arith, o) }
 
 pub slice_bounds-put_line-end-2 : goal.slice_bounds-put_line-end-2
 slice_bounds-put_line-end-2 c =
     let o =
-    object-short c.args.bytes.now c.if-bytes-ne-RECORD_SIZE.false c.in-At.s (sym c.in-At.ensures) c.in-At-label_length.o (sym c.in-At-label_length.ensures) in
+    object-short c.args.bytes.now c.if-bytes-ne-RECORD_SIZE.false c.in-Some.s (sym c.in-Some.ensures) c.in-Some-label_length.o (sym c.in-Some-label_length.ensures) in
     let size = c.if-bytes-ne-RECORD_SIZE.false in
     omega (arith, o, size)
 
@@ -45,13 +45,13 @@ pub returns : goal.returns
 returns c =
     let r = c.args.bytes.now in
     let size = c.if-bytes-ne-RECORD_SIZE.false in
-    let n = c.in-At.s in
-    let k = c.in-At-label_length.o in
+    let n = c.in-Some.s in
+    let k = c.in-Some-label_length.o in
     let n-is : n - 0 ≡ n = omega arith in
     let k-is : label_place + k - label_place ≡ k = omega arith in
     let rest : length (drop access_from r) ≤ 5 = omega (arith, length-drop access_from r, size) in
     let f =
-    from_places r size n (sym c.in-At.ensures) k (sym c.in-At-label_length.ensures) _ _ _ (ap (λ (j : ℕ). take j r) n-is)
+    from_places r size n (sym c.in-Some.ensures) k (sym c.in-Some-label_length.ensures) _ _ _ (ap (λ (j : ℕ). take j r) n-is)
     (ap (λ (j : ℕ). take j (drop label_place r)) k-is) (take_all 5 (drop access_from r) rest) in
     let e = as_answered _ _ c.args.out.now f in
     record { value = c.put_line.ensures.value ∙ e.0; out_after = c.put_line.ensures.out_after ∙ e.1 }

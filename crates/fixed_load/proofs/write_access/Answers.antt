@@ -6,13 +6,12 @@ use Rattle.fixed_load.proofs.write_access.Goals as goal
 pub loop-i-preserved : goal.loop-i-preserved
 loop-i-preserved c =
     let l = c.loop-i in (
-      omega arith,
-      rw l.invariant.1 (half_bit l.i (omega arith)),
+      rw l.invariant.0 (half_bit l.i (omega arith)),
       c.write_modes.ensures.out_after
-          ∙ rw l.invariant.1 (placed-more c.args.out.now c.args.at c.args.modes l.out l.i (omega arith) c.requires.0 c.requires.1 l.invariant.2),
+          ∙ rw l.invariant.0 (placed-more c.args.out.now c.args.at c.args.modes l.out l.i (omega arith) c.requires.0 c.requires.1 l.invariant.1),
     )
 
 pub returns : goal.returns
 returns c =
     let l = c.loop-i in
-    placed-all c.args.out.now c.args.at c.args.modes l.out l.i (omega arith) l.invariant.0 l.invariant.2
+    placed-all c.args.out.now c.args.at c.args.modes l.out l.i (omega arith) (omega arith) l.invariant.1

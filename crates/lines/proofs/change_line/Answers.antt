@@ -1,237 +1,92 @@
 -- Each answer is that of the definition, by the tests that led to it.
-use Rattle.std.proofs.Common.{ap, sym, ◌∙◌, arith}
+use Rattle.std.proofs.Common.{Err, ap, sym, ◌∙◌, arith}
+use Rattle.std.proofs.lemmas.Result.{err_from_is_err_and}
 use Rattle.lines.specs.Within.{change_kind}
-use Rattle.lines.specs.declared.ChangeLine.TheVariants as changed
 use Rattle.lines.proofs.Laws.{change_meets}
-use Rattle.lines.proofs.Answers.{one_of, two_of, three_of, four_of, in_one, in_two, in_three, in_four, too_long_lem, no_field, only_one, change-two, change-three, change-five, change-subject, change-object, change-bad-allow, change-bad-deny, change-judged}
+use Rattle.lines.proofs.Answers.{two_of, labels_give, in_line, change-two, change-three, change-five, change-labels, change-bad-allow, change-bad-deny, change-judged}
 use Rattle.lines.proofs.change_line.Goals as goal
 
-pub returns-then-line-gt-LINE_LIMIT : goal.returns-then-line-gt-LINE_LIMIT
-returns-then-line-gt-LINE_LIMIT c =
-    let w = change_meets _ _ (too_long_lem change_kind c.args.line.now c.if-line-gt-LINE_LIMIT.true) in
+pub returns-in_err-labels : goal.returns-in_err-labels
+returns-in_err-labels c =
+    let p = err_from_is_err_and c.from_residual.result c.from_residual.ensures.1 in
+    let w = change_meets _ _ (labels_give change_kind _ c.in_err-labels.ensures ∙ sym (p.1 ∙ ap Err p.2)) in
     record { value = w.0; said = w.1.0; change_inside = w.1.1 }
 
 pub returns-in_default : goal.returns-in_default
 returns-in_default c =
-    let w = change_meets _ _ (no_field change_kind c.args.line.now c.if-line-gt-LINE_LIMIT.false (sym c.next_label_field.ensures ∙ c.in_default.is)) in
-    record { value = w.0; said = w.1.0; change_inside = w.1.1 }
-
-pub returns-in_default-next_label_field : goal.returns-in_default-next_label_field
-returns-in_default-next_label_field c =
-    let one = one_of c.if-line-gt-LINE_LIMIT.false (sym c.in-Part.ensures) in
-    let w = change_meets _ _ (only_one change_kind one (sym c.next_label_field-2.ensures ∙ c.in_default-next_label_field.is)) in
+    let w = change_meets _ _ (labels_give change_kind _ (rw c.in_default.is at c.in_ok-labels.ensures)) in
     record { value = w.0; said = w.1.0; change_inside = w.1.1 }
 
 pub returns-in_default-next_field_in : goal.returns-in_default-next_field_in
 returns-in_default-next_field_in c =
-    let one = one_of c.if-line-gt-LINE_LIMIT.false (sym c.in-Part.ensures) in
-    let two = two_of one (sym c.in-Part-next_label_field.ensures) in
-    let w = change_meets _ _ (change-two two (sym c.next_field_in.ensures ∙ c.in_default-next_field_in.is)) in
+    let labels = sym (rw c.in-Some.is at c.in_ok-labels.ensures) in
+    let w = change_meets _ _ (change-two _ _ labels (sym c.next_field_in.ensures ∙ c.in_default-next_field_in.is)) in
     record { value = w.0; said = w.1.0; change_inside = w.1.1 }
 
 pub returns-in_default-next_field_in-2 : goal.returns-in_default-next_field_in-2
 returns-in_default-next_field_in-2 c =
-    let one = one_of c.if-line-gt-LINE_LIMIT.false (sym c.in-Part.ensures) in
-    let two = two_of one (sym c.in-Part-next_label_field.ensures) in
-    let three = three_of two (sym c.in-Part-next_field_in.ensures) in
-    let w = change_meets _ _ (change-three three (sym c.next_field_in-2.ensures ∙ c.in_default-next_field_in-2.is)) in
+    let labels = sym (rw c.in-Some.is at c.in_ok-labels.ensures) in
+    let w = change_meets _ _ (change-three _ _ labels (sym c.in-Part.ensures) (sym c.next_field_in-2.ensures ∙ c.in_default-next_field_in-2.is)) in
     record { value = w.0; said = w.1.0; change_inside = w.1.1 }
 
 pub returns-in_default-next_field_in-3 : goal.returns-in_default-next_field_in-3
 returns-in_default-next_field_in-3 c =
-    let one = one_of c.if-line-gt-LINE_LIMIT.false (sym c.in-Part.ensures) in
-    let two = two_of one (sym c.in-Part-next_label_field.ensures) in
-    let three = three_of two (sym c.in-Part-next_field_in.ensures) in
-    let four = four_of three (sym c.in-Part-next_field_in-2.ensures) in
-    let w = change_meets _ _ (change-five four (sym c.next_field_in-3.ensures ∙ c.in_default-next_field_in-3.is)) in
+    let labels = sym (rw c.in-Some.is at c.in_ok-labels.ensures) in
+    let w = change_meets _ _ (change-five _ _ labels (sym c.in-Part.ensures) (sym c.in-Part-next_field_in.ensures) (sym c.next_field_in-3.ensures ∙ c.in_default-next_field_in-3.is)) in
     record { value = w.0; said = w.1.0; change_inside = w.1.1 }
 
-pub slice_bounds-bad_label_at-count : goal.slice_bounds-bad_label_at-count
-slice_bounds-bad_label_at-count c =
-    let one = one_of c.if-line-gt-LINE_LIMIT.false (sym c.in-Part.ensures) in
-    let i = in_one one in
-    omega (arith, i.starts)
+pub check_formed-requires : goal.check_formed-requires
+check_formed-requires c = two_of _ _ (sym (rw c.in-Some.is at c.in_ok-labels.ensures))
 
-pub slice_bounds-bad_label_at-start : goal.slice_bounds-bad_label_at-start
-slice_bounds-bad_label_at-start c =
-    let one = one_of c.if-line-gt-LINE_LIMIT.false (sym c.in-Part.ensures) in
-    let i = in_one one in
-    omega (arith, i.starts)
-
-pub slice_bounds-bad_label_at-end : goal.slice_bounds-bad_label_at-end
-slice_bounds-bad_label_at-end c =
-    let one = one_of c.if-line-gt-LINE_LIMIT.false (sym c.in-Part.ensures) in
-    (in_one one).ends
-
-pub bad_label_at-requires : goal.bad_label_at-requires
-bad_label_at-requires c =
-    let one = one_of c.if-line-gt-LINE_LIMIT.false (sym c.in-Part.ensures) in
-    let i = in_one one in
-    omega (arith, i.starts, i.ends, one.short)
-
-pub returns-then-not-subject_formed : goal.returns-then-not-subject_formed
-returns-then-not-subject_formed c =
-    let one = one_of c.if-line-gt-LINE_LIMIT.false (sym c.in-Part.ensures) in
-    let two = two_of one (sym c.in-Part-next_label_field.ensures) in
-    let three = three_of two (sym c.in-Part-next_field_in.ensures) in
-    let four = four_of three (sym c.in-Part-next_field_in-2.ensures) in
-    let w = change_meets _ _ (change-subject four (sym c.in-End.ensures) c.if-not-subject_formed.true ∙ ap changed.Refused (sym c.bad_label_at.ensures)) in
-    record { value = w.0; said = w.1.0; change_inside = w.1.1 }
-
-pub slice_bounds-bad_label_at-count-then-not-object_formed : goal.slice_bounds-bad_label_at-count-then-not-object_formed
-slice_bounds-bad_label_at-count-then-not-object_formed c =
-    let one = one_of c.if-line-gt-LINE_LIMIT.false (sym c.in-Part.ensures) in
-    let two = two_of one (sym c.in-Part-next_label_field.ensures) in
-    let i = in_two two in
-    omega (arith, i.starts)
-
-pub slice_bounds-bad_label_at-start-then-not-object_formed : goal.slice_bounds-bad_label_at-start-then-not-object_formed
-slice_bounds-bad_label_at-start-then-not-object_formed c =
-    let one = one_of c.if-line-gt-LINE_LIMIT.false (sym c.in-Part.ensures) in
-    let two = two_of one (sym c.in-Part-next_label_field.ensures) in
-    let i = in_two two in
-    omega (arith, i.starts)
-
-pub slice_bounds-bad_label_at-end-then-not-object_formed : goal.slice_bounds-bad_label_at-end-then-not-object_formed
-slice_bounds-bad_label_at-end-then-not-object_formed c =
-    let one = one_of c.if-line-gt-LINE_LIMIT.false (sym c.in-Part.ensures) in
-    let two = two_of one (sym c.in-Part-next_label_field.ensures) in
-    (in_two two).ends
-
-pub bad_label_at-requires-then-not-object_formed : goal.bad_label_at-requires-then-not-object_formed
-bad_label_at-requires-then-not-object_formed c =
-    let one = one_of c.if-line-gt-LINE_LIMIT.false (sym c.in-Part.ensures) in
-    let two = two_of one (sym c.in-Part-next_label_field.ensures) in
-    let i = in_two two in
-    omega (arith, i.starts, i.ends, one.short)
-
-pub returns-then-not-object_formed : goal.returns-then-not-object_formed
-returns-then-not-object_formed c =
-    let one = one_of c.if-line-gt-LINE_LIMIT.false (sym c.in-Part.ensures) in
-    let two = two_of one (sym c.in-Part-next_label_field.ensures) in
-    let three = three_of two (sym c.in-Part-next_field_in.ensures) in
-    let four = four_of three (sym c.in-Part-next_field_in-2.ensures) in
-    let w = change_meets _ _ (change-object four (sym c.in-End.ensures) c.if-not-subject_formed.false c.if-not-object_formed.true ∙ ap changed.Refused (sym c.bad_label_at-then-not-object_formed.ensures)) in
+pub returns-in_err-check_formed : goal.returns-in_err-check_formed
+returns-in_err-check_formed c =
+    let labels = sym (rw c.in-Some.is at c.in_ok-labels.ensures) in
+    let p = err_from_is_err_and c.from_residual-in_err-check_formed.result c.from_residual-in_err-check_formed.ensures.1 in
+    let w = change_meets _ _ (change-labels _ _ labels (sym c.in-Part.ensures) (sym c.in-Part-next_field_in.ensures) (sym c.in-End.ensures) c.in_err-check_formed.ensures.err.1 ∙ ap Err (sym c.in_err-check_formed.ensures.err.0) ∙ sym (p.1 ∙ ap Err p.2)) in
     record { value = w.0; said = w.1.0; change_inside = w.1.1 }
 
 pub slice_bounds-read_modes-count : goal.slice_bounds-read_modes-count
-slice_bounds-read_modes-count c =
-    let one = one_of c.if-line-gt-LINE_LIMIT.false (sym c.in-Part.ensures) in
-    let two = two_of one (sym c.in-Part-next_label_field.ensures) in
-    let three = three_of two (sym c.in-Part-next_field_in.ensures) in
-    let i = in_three three in
-    omega (arith, i.starts)
+slice_bounds-read_modes-count c = let i = in_line _ c.in-Some.labels.pair.object.end (sym c.in-Part.ensures) in omega (arith, i.starts)
 
 pub slice_bounds-read_modes-start : goal.slice_bounds-read_modes-start
-slice_bounds-read_modes-start c =
-    let one = one_of c.if-line-gt-LINE_LIMIT.false (sym c.in-Part.ensures) in
-    let two = two_of one (sym c.in-Part-next_label_field.ensures) in
-    let three = three_of two (sym c.in-Part-next_field_in.ensures) in
-    let i = in_three three in
-    omega (arith, i.starts)
+slice_bounds-read_modes-start c = let i = in_line _ c.in-Some.labels.pair.object.end (sym c.in-Part.ensures) in omega (arith, i.starts)
 
 pub slice_bounds-read_modes-end : goal.slice_bounds-read_modes-end
-slice_bounds-read_modes-end c =
-    let one = one_of c.if-line-gt-LINE_LIMIT.false (sym c.in-Part.ensures) in
-    let two = two_of one (sym c.in-Part-next_label_field.ensures) in
-    let three = three_of two (sym c.in-Part-next_field_in.ensures) in
-    (in_three three).ends
+slice_bounds-read_modes-end c = (in_line _ c.in-Some.labels.pair.object.end (sym c.in-Part.ensures)).ends
 
 pub returns-in_default-read_modes : goal.returns-in_default-read_modes
 returns-in_default-read_modes c =
-    let one = one_of c.if-line-gt-LINE_LIMIT.false (sym c.in-Part.ensures) in
-    let two = two_of one (sym c.in-Part-next_label_field.ensures) in
-    let three = three_of two (sym c.in-Part-next_field_in.ensures) in
-    let four = four_of three (sym c.in-Part-next_field_in-2.ensures) in
-    let w = change_meets _ _ (change-bad-allow four (sym c.in-End.ensures) c.if-not-subject_formed.false c.if-not-object_formed.false (sym c.read_modes.ensures ∙ c.in_default-read_modes.is)) in
+    let labels = sym (rw c.in-Some.is at c.in_ok-labels.ensures) in
+    let w = change_meets _ _ (change-bad-allow _ _ labels (sym c.in-Part.ensures) (sym c.in-Part-next_field_in.ensures) (sym c.in-End.ensures) c.in_ok-check_formed.ensures.ok (sym c.read_modes.ensures ∙ c.in_default-read_modes.is)) in
     record { value = w.0; said = w.1.0; change_inside = w.1.1 }
 
 pub slice_bounds-read_modes-count-2 : goal.slice_bounds-read_modes-count-2
-slice_bounds-read_modes-count-2 c =
-    let one = one_of c.if-line-gt-LINE_LIMIT.false (sym c.in-Part.ensures) in
-    let two = two_of one (sym c.in-Part-next_label_field.ensures) in
-    let three = three_of two (sym c.in-Part-next_field_in.ensures) in
-    let four = four_of three (sym c.in-Part-next_field_in-2.ensures) in
-    let i = in_four four in
-    omega (arith, i.starts)
+slice_bounds-read_modes-count-2 c = let i = in_line _ c.in-Part.allow_to (sym c.in-Part-next_field_in.ensures) in omega (arith, i.starts)
 
 pub slice_bounds-read_modes-start-2 : goal.slice_bounds-read_modes-start-2
-slice_bounds-read_modes-start-2 c =
-    let one = one_of c.if-line-gt-LINE_LIMIT.false (sym c.in-Part.ensures) in
-    let two = two_of one (sym c.in-Part-next_label_field.ensures) in
-    let three = three_of two (sym c.in-Part-next_field_in.ensures) in
-    let four = four_of three (sym c.in-Part-next_field_in-2.ensures) in
-    let i = in_four four in
-    omega (arith, i.starts)
+slice_bounds-read_modes-start-2 c = let i = in_line _ c.in-Part.allow_to (sym c.in-Part-next_field_in.ensures) in omega (arith, i.starts)
 
 pub slice_bounds-read_modes-end-2 : goal.slice_bounds-read_modes-end-2
-slice_bounds-read_modes-end-2 c =
-    let one = one_of c.if-line-gt-LINE_LIMIT.false (sym c.in-Part.ensures) in
-    let two = two_of one (sym c.in-Part-next_label_field.ensures) in
-    let three = three_of two (sym c.in-Part-next_field_in.ensures) in
-    let four = four_of three (sym c.in-Part-next_field_in-2.ensures) in
-    (in_four four).ends
+slice_bounds-read_modes-end-2 c = (in_line _ c.in-Part.allow_to (sym c.in-Part-next_field_in.ensures)).ends
 
 pub returns-in_default-read_modes-2 : goal.returns-in_default-read_modes-2
 returns-in_default-read_modes-2 c =
-    let one = one_of c.if-line-gt-LINE_LIMIT.false (sym c.in-Part.ensures) in
-    let two = two_of one (sym c.in-Part-next_label_field.ensures) in
-    let three = three_of two (sym c.in-Part-next_field_in.ensures) in
-    let four = four_of three (sym c.in-Part-next_field_in-2.ensures) in
-    let w = change_meets _ _ (change-bad-deny four (sym c.in-End.ensures) c.if-not-subject_formed.false c.if-not-object_formed.false (sym c.in-Modes.ensures) (sym c.read_modes-2.ensures ∙ c.in_default-read_modes-2.is)) in
+    let labels = sym (rw c.in-Some.is at c.in_ok-labels.ensures) in
+    let w = change_meets _ _ (change-bad-deny _ _ labels (sym c.in-Part.ensures) (sym c.in-Part-next_field_in.ensures) (sym c.in-End.ensures) c.in_ok-check_formed.ensures.ok (sym c.in-Some-read_modes.ensures) (sym c.read_modes-2.ensures ∙ c.in_default-read_modes-2.is)) in
     record { value = w.0; said = w.1.0; change_inside = w.1.1 }
 
-pub slice_bounds-same_bytes-count : goal.slice_bounds-same_bytes-count
-slice_bounds-same_bytes-count c =
-    let one = one_of c.if-line-gt-LINE_LIMIT.false (sym c.in-Part.ensures) in
-    let i = in_one one in
-    omega (arith, i.starts)
+pub check_apart-requires : goal.check_apart-requires
+check_apart-requires c = let w = two_of _ _ (sym (rw c.in-Some.is at c.in_ok-labels.ensures)) in (w.subject, w.object)
 
-pub slice_bounds-same_bytes-start : goal.slice_bounds-same_bytes-start
-slice_bounds-same_bytes-start c =
-    let one = one_of c.if-line-gt-LINE_LIMIT.false (sym c.in-Part.ensures) in
-    let i = in_one one in
-    omega (arith, i.starts)
-
-pub slice_bounds-same_bytes-end : goal.slice_bounds-same_bytes-end
-slice_bounds-same_bytes-end c =
-    let one = one_of c.if-line-gt-LINE_LIMIT.false (sym c.in-Part.ensures) in
-    (in_one one).ends
-
-pub slice_bounds-same_bytes-count-2 : goal.slice_bounds-same_bytes-count-2
-slice_bounds-same_bytes-count-2 c =
-    let one = one_of c.if-line-gt-LINE_LIMIT.false (sym c.in-Part.ensures) in
-    let two = two_of one (sym c.in-Part-next_label_field.ensures) in
-    let i = in_two two in
-    omega (arith, i.starts)
-
-pub slice_bounds-same_bytes-start-2 : goal.slice_bounds-same_bytes-start-2
-slice_bounds-same_bytes-start-2 c =
-    let one = one_of c.if-line-gt-LINE_LIMIT.false (sym c.in-Part.ensures) in
-    let two = two_of one (sym c.in-Part-next_label_field.ensures) in
-    let i = in_two two in
-    omega (arith, i.starts)
-
-pub slice_bounds-same_bytes-end-2 : goal.slice_bounds-same_bytes-end-2
-slice_bounds-same_bytes-end-2 c =
-    let one = one_of c.if-line-gt-LINE_LIMIT.false (sym c.in-Part.ensures) in
-    let two = two_of one (sym c.in-Part-next_label_field.ensures) in
-    (in_two two).ends
-
-pub returns-then-same_bytes : goal.returns-then-same_bytes
-returns-then-same_bytes c =
-    let one = one_of c.if-line-gt-LINE_LIMIT.false (sym c.in-Part.ensures) in
-    let two = two_of one (sym c.in-Part-next_label_field.ensures) in
-    let three = three_of two (sym c.in-Part-next_field_in.ensures) in
-    let four = four_of three (sym c.in-Part-next_field_in-2.ensures) in
-    let w = change_meets _ _ (change-judged four (sym c.in-End.ensures) c.if-not-subject_formed.false c.if-not-object_formed.false (sym c.in-Modes.ensures) (sym c.in-Modes-read_modes.ensures) (sym c.same_bytes.ensures ∙ c.if-same_bytes.true)) in
+pub returns-in_err-check_apart : goal.returns-in_err-check_apart
+returns-in_err-check_apart c =
+    let labels = sym (rw c.in-Some.is at c.in_ok-labels.ensures) in
+    let p = err_from_is_err_and c.from_residual-in_err-check_apart.result c.from_residual-in_err-check_apart.ensures.1 in
+    let w = change_meets _ _ (change-judged _ _ labels (sym c.in-Part.ensures) (sym c.in-Part-next_field_in.ensures) (sym c.in-End.ensures) c.in_ok-check_formed.ensures.ok (sym c.in-Some-read_modes.ensures) (sym c.in-Some-read_modes-2.ensures) c.in_err-check_apart.ensures.err.1 ∙ ap Err (sym c.in_err-check_apart.ensures.err.0) ∙ sym (p.1 ∙ ap Err p.2)) in
     record { value = w.0; said = w.1.0; change_inside = w.1.1 }
 
 pub returns : goal.returns
 returns c =
-    let one = one_of c.if-line-gt-LINE_LIMIT.false (sym c.in-Part.ensures) in
-    let two = two_of one (sym c.in-Part-next_label_field.ensures) in
-    let three = three_of two (sym c.in-Part-next_field_in.ensures) in
-    let four = four_of three (sym c.in-Part-next_field_in-2.ensures) in
-    let w = change_meets _ _ (change-judged four (sym c.in-End.ensures) c.if-not-subject_formed.false c.if-not-object_formed.false (sym c.in-Modes.ensures) (sym c.in-Modes-read_modes.ensures) (sym c.same_bytes.ensures ∙ c.if-same_bytes.false)) in
+    let labels = sym (rw c.in-Some.is at c.in_ok-labels.ensures) in
+    let w = change_meets _ _ (change-judged _ _ labels (sym c.in-Part.ensures) (sym c.in-Part-next_field_in.ensures) (sym c.in-End.ensures) c.in_ok-check_formed.ensures.ok (sym c.in-Some-read_modes.ensures) (sym c.in-Some-read_modes-2.ensures) c.in_ok-check_apart.ensures.ok) in
     record { value = w.0; said = w.1.0; change_inside = w.1.1 }

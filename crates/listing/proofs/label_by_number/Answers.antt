@@ -7,17 +7,17 @@ use Rattle.listing.proofs.label_by_number.Goals as goal
 pub label_at-requires : goal.label_at-requires
 label_at-requires c =
     let a = c.args in
-    let h = label-done (store a.labels.now a.entries.now a.words.now) a.k (sym c.label_check-answer.ensures ∙ c.in-Done.is) in
+    let h = label-done (store a.labels.now a.entries.now a.words.now) a.k (sym c.label_check-answer.ensures ∙ c.in-Ok.is) in
     (h.0.sizes.labels, omega (arith, h.0.counts.labels, h.1))
 
-pub returns-in-Refused-clause-bytes : goal.returns-in-Refused-clause-bytes
-returns-in-Refused-clause-bytes c =
+pub returns-in-Err-clause-bytes : goal.returns-in-Err-clause-bytes
+returns-in-Err-clause-bytes c =
     let a = c.args in
-    label-refused (store a.labels.now a.entries.now a.words.now) a.k _ (sym c.label_check-answer.ensures ∙ c.in-Refused.is)
+    label-refused (store a.labels.now a.entries.now a.words.now) a.k _ (sym c.label_check-answer.ensures ∙ c.in-Err.is)
 
-pub returns-in-Done-clause-bytes : goal.returns-in-Done-clause-bytes
-returns-in-Done-clause-bytes c =
+pub returns-in-Ok-clause-bytes : goal.returns-in-Ok-clause-bytes
+returns-in-Ok-clause-bytes c =
     let a = c.args in
     let s = store a.labels.now a.entries.now a.words.now in
-    let h = label-done s a.k (sym c.label_check-answer.ensures ∙ c.in-Done.is) in
+    let h = label-done s a.k (sym c.label_check-answer.ensures ∙ c.in-Ok.is) in
     c.label_at.ensures.bytes ∙ label_is s a.k h.0 h.1

@@ -1,10 +1,12 @@
 -- A rule's numbers name stored labels, and its text goes to the front of the buffer.
-use Rattle.std.proofs.Common.{ℕ, ◌+◌, ◌-◌, ◌<◌, ◌≡◌, true, List, length, get_or, take, drop, sym, ◌∙◌, ap, arith}
+use Rattle.std.proofs.Common.{ℕ, ◌+◌, ◌-◌, ◌<◌, ◌≡◌, true, List, length, get_or, take, drop, ◌∙◌, ap, arith}
+use Rattle.std.proofs.lemmas.Result.{err_from_is_err_and}
 use borrow.Author.Tests.{le-ltb}
 use Rattle.search.proofs.Laws.{entries-length}
 use Rattle.modes.specs.Modes.{modes_text}
 use Rattle.modes.proofs.Laws.{text-long}
-use Rattle.store.specs.Layout.{Store, store, rule_at, undamaged_of}
+use Rattle.store.specs.LentWithin.{lent}
+use Rattle.store.specs.Layout.{Store, rule_at, undamaged_of}
 use Rattle.store.proofs.Laws.{undamaged-is}
 use Rattle.output.proofs.Laws.{front-is}
 use Rattle.listing.specs.Listing.{rule_given, list_answer, list_out}
@@ -31,17 +33,19 @@ known s k t h =
       entries = u.sizes.entries;
     }
 
-pub returns-then-not-undamaged-clause-value : goal.returns-then-not-undamaged-clause-value
+pub returns-in_err-check-clause-value : goal.returns-in_err-check-clause-value
 unfolding list_answer
-returns-then-not-undamaged-clause-value c = rw (sym c.undamaged.ensures ∙ c.if-not-undamaged.true)
+returns-in_err-check-clause-value c =
+    let p = err_from_is_err_and c.from_residual.result c.from_residual.ensures.1 in
+    rw (p.1, p.2, c.in_err-check.ensures.err.0, c.in_err-check.ensures.err.1)
 
-pub returns-then-not-undamaged-clause-out_after : goal.returns-then-not-undamaged-clause-out_after
+pub returns-in_err-check-clause-out_after : goal.returns-in_err-check-clause-out_after
 unfolding list_out
-returns-then-not-undamaged-clause-out_after c = rw (sym c.undamaged.ensures ∙ c.if-not-undamaged.true)
+returns-in_err-check-clause-out_after c = rw c.in_err-check.ensures.err.1
 
-pub bounds-words-1 : goal.bounds-words-1
-bounds-words-1 c =
-    let u = undamaged-is (store c.args.labels.now c.args.entries.now c.args.words.now) (sym c.undamaged.ensures ∙ c.if-not-undamaged.false) in
+pub bounds-state-1 : goal.bounds-state-1
+bounds-state-1 c =
+    let u = undamaged-is (lent c.args.state) c.in_ok-check.ensures.ok in
     omega (arith, u.sizes.words)
 
 pub returns-then-rules-k-clause-value : goal.returns-then-rules-k-clause-value
@@ -49,9 +53,9 @@ unfolding list_answer rule_given
 returns-then-rules-k-clause-value c =
     let a = c.args in
     rw (
-      sym c.undamaged.ensures ∙ c.if-not-undamaged.false,
-      entries-length (rule_at a.entries.now) (get_or a.words.now 1 0),
-      le-ltb a.k (get_or a.words.now 1 0) c.if-rules-k.true,
+      c.in_ok-check.ensures.ok,
+      entries-length (rule_at a.state.entries.now) (get_or a.state.words.now 1 0),
+      le-ltb a.k (get_or a.state.words.now 1 0) c.if-rules-k.true,
     )
 
 pub returns-then-rules-k-clause-out_after : goal.returns-then-rules-k-clause-out_after
@@ -59,76 +63,76 @@ unfolding list_out rule_given
 returns-then-rules-k-clause-out_after c =
     let a = c.args in
     rw (
-      sym c.undamaged.ensures ∙ c.if-not-undamaged.false,
-      entries-length (rule_at a.entries.now) (get_or a.words.now 1 0),
-      le-ltb a.k (get_or a.words.now 1 0) c.if-rules-k.true,
+      c.in_ok-check.ensures.ok,
+      entries-length (rule_at a.state.entries.now) (get_or a.state.words.now 1 0),
+      le-ltb a.k (get_or a.state.words.now 1 0) c.if-rules-k.true,
     )
 
-pub bounds-entries-k : goal.bounds-entries-k
-bounds-entries-k c =
-    let w = known (store c.args.labels.now c.args.entries.now c.args.words.now) c.args.k (sym c.undamaged.ensures ∙ c.if-not-undamaged.false) c.if-rules-k.false in
+pub bounds-state-k : goal.bounds-state-k
+bounds-state-k c =
+    let w = known (lent c.args.state) c.args.k c.in_ok-check.ensures.ok c.if-rules-k.false in
     omega (arith, w.small, w.entries)
 
 pub label_at-subject-requires : goal.label_at-subject-requires
 label_at-subject-requires c =
-    let w = known (store c.args.labels.now c.args.entries.now c.args.words.now) c.args.k (sym c.undamaged.ensures ∙ c.if-not-undamaged.false) c.if-rules-k.false in
+    let w = known (lent c.args.state) c.args.k c.in_ok-check.ensures.ok c.if-rules-k.false in
     (w.labels, w.subject)
 
 pub overflow_add-k : goal.overflow_add-k
 overflow_add-k c =
-    let w = known (store c.args.labels.now c.args.entries.now c.args.words.now) c.args.k (sym c.undamaged.ensures ∙ c.if-not-undamaged.false) c.if-rules-k.false in
+    let w = known (lent c.args.state) c.args.k c.in_ok-check.ensures.ok c.if-rules-k.false in
     omega (arith, w.small)
 
-pub bounds-entries-k-2 : goal.bounds-entries-k-2
-bounds-entries-k-2 c =
-    let w = known (store c.args.labels.now c.args.entries.now c.args.words.now) c.args.k (sym c.undamaged.ensures ∙ c.if-not-undamaged.false) c.if-rules-k.false in
+pub bounds-state-k-2 : goal.bounds-state-k-2
+bounds-state-k-2 c =
+    let w = known (lent c.args.state) c.args.k c.in_ok-check.ensures.ok c.if-rules-k.false in
     omega (arith, w.small, w.entries)
 
 pub label_at-object-requires : goal.label_at-object-requires
 label_at-object-requires c =
-    let w = known (store c.args.labels.now c.args.entries.now c.args.words.now) c.args.k (sym c.undamaged.ensures ∙ c.if-not-undamaged.false) c.if-rules-k.false in
+    let w = known (lent c.args.state) c.args.k c.in_ok-check.ensures.ok c.if-rules-k.false in
     (w.labels, w.object)
 
 pub overflow_add-k-2 : goal.overflow_add-k-2
 overflow_add-k-2 c =
-    let w = known (store c.args.labels.now c.args.entries.now c.args.words.now) c.args.k (sym c.undamaged.ensures ∙ c.if-not-undamaged.false) c.if-rules-k.false in
+    let w = known (lent c.args.state) c.args.k c.in_ok-check.ensures.ok c.if-rules-k.false in
     omega (arith, w.small)
 
-pub bounds-entries-k-3 : goal.bounds-entries-k-3
-bounds-entries-k-3 c =
-    let w = known (store c.args.labels.now c.args.entries.now c.args.words.now) c.args.k (sym c.undamaged.ensures ∙ c.if-not-undamaged.false) c.if-rules-k.false in
+pub bounds-state-k-3 : goal.bounds-state-k-3
+bounds-state-k-3 c =
+    let w = known (lent c.args.state) c.args.k c.in_ok-check.ensures.ok c.if-rules-k.false in
     omega (arith, w.small, w.entries)
 
 pub slice_bounds-put_text-end : goal.slice_bounds-put_text-end
 slice_bounds-put_text-end c =
-    let m = get_or c.args.entries.now (512 + c.args.k) 0 in
+    let m = get_or c.args.state.entries.now (512 + c.args.k) 0 in
     omega (arith, c.write_modes-n.ensures.value, text-long m, c.write_modes-n.auto.out)
 
 pub put_text-requires : goal.put_text-requires
 put_text-requires c =
     let a = c.args in
-    let m = get_or a.entries.now (512 + a.k) 0 in
+    let m = get_or a.state.entries.now (512 + a.k) 0 in
     let e = ap length c.label_at-subject.ensures.bytes in
     let f = ap length c.label_at-object.ensures.bytes in
-    let g = label-short a.labels.now (get_or a.entries.now a.k 0) in
-    let h = label-short a.labels.now (get_or a.entries.now (256 + a.k) 0) in
+    let g = label-short a.state.labels.now (get_or a.state.entries.now a.k 0) in
+    let h = label-short a.state.labels.now (get_or a.state.entries.now (256 + a.k) 0) in
     let t = ap (λ (x : List ℕ). take (c.write_modes-n.result - 0) (drop 0 x)) c.write_modes-n.ensures.out_after ∙ front-is _ (modes_text m) c.write_modes-n.result c.write_modes-n.ensures.value in
     (omega (arith, e, f, g, h), omega (arith, e, f, g, h), rw t (text-long m))
 
 pub returns-clause-value : goal.returns-clause-value
 returns-clause-value c =
     let a = c.args in
-    let m = get_or a.entries.now (512 + a.k) 0 in
+    let m = get_or a.state.entries.now (512 + a.k) 0 in
     let t = ap (λ (x : List ℕ). take (c.write_modes-n.result - 0) (drop 0 x)) c.write_modes-n.ensures.out_after ∙ front-is _ (modes_text m) c.write_modes-n.result c.write_modes-n.ensures.value in
-    let s = store a.labels.now a.entries.now a.words.now in
-    let whole = sym c.undamaged.ensures ∙ c.if-not-undamaged.false in
+    let s = lent a.state in
+    let whole = c.in_ok-check.ensures.ok in
     c.put_text.ensures.value ∙ list-answer s (undamaged-is s whole) a.k c.if-rules-k.false _ _ _ a.out.now c.label_at-subject.ensures.bytes c.label_at-object.ensures.bytes t whole
 
 pub returns-clause-out_after : goal.returns-clause-out_after
 returns-clause-out_after c =
     let a = c.args in
-    let m = get_or a.entries.now (512 + a.k) 0 in
+    let m = get_or a.state.entries.now (512 + a.k) 0 in
     let t = ap (λ (x : List ℕ). take (c.write_modes-n.result - 0) (drop 0 x)) c.write_modes-n.ensures.out_after ∙ front-is _ (modes_text m) c.write_modes-n.result c.write_modes-n.ensures.value in
-    let s = store a.labels.now a.entries.now a.words.now in
-    let whole = sym c.undamaged.ensures ∙ c.if-not-undamaged.false in
+    let s = lent a.state in
+    let whole = c.in_ok-check.ensures.ok in
     c.put_text.ensures.out_after ∙ list-out s (undamaged-is s whole) a.k c.if-rules-k.false _ _ _ a.out.now c.label_at-subject.ensures.bytes c.label_at-object.ensures.bytes t whole

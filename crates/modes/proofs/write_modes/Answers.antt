@@ -10,25 +10,23 @@ returns-then-modes-eq0-clause-value c = (wrote-dash c.args.out.now c.args.at c.a
 pub returns-then-modes-eq0-clause-out_after : goal.returns-then-modes-eq0-clause-out_after
 returns-then-modes-eq0-clause-out_after c = (wrote-dash c.args.out.now c.args.at c.args.modes c.if-modes-eq0.true (omega arith)).1
 
-pub loop-i-init : goal.loop-i-init
-loop-i-init c = (omega arith, wrote_none c.args.out.now c.args.at c.args.modes c.if-modes-eq0.false)
+pub loop-entry-init : goal.loop-entry-init
+loop-entry-init c = wrote_none c.args.out.now c.args.at c.args.modes c.if-modes-eq0.false
 
-pub loop-i-preserved : goal.loop-i-preserved
-loop-i-preserved c =
+pub loop-entry-preserved : goal.loop-entry-preserved
+loop-entry-preserved c =
     let a = c.args in
-    let l = c.loop-i in
-    let j = c.if-modes-entry-ne0 in (
-      omega arith,
-      elim j.branch [
-        | then-modes-entry-ne0 w ↦
-            wrote-letter a.out.now a.at a.modes (omega arith) l.out l.n l.i l.invariant.1 (omega arith) j.out j.n w.if-modes-entry-ne0.true w.out-is w.n-is
-        | else-modes-entry-ne0 w ↦
-            wrote-other a.out.now a.at a.modes (omega arith) l.out l.n l.i l.invariant.1 (omega arith) j.out j.n w.if-modes-entry-ne0.false w.out-is w.n-is
-      ],
-    )
+    let l = c.loop-entry in
+    let j = c.if-modes-entry-ne0 in
+    elim j.branch [
+      | then-modes-entry-ne0 w ↦
+          wrote-letter a.out.now a.at a.modes (omega arith) l.out l.n l.entry-index l.invariant (omega arith) j.out j.n w.if-modes-entry-ne0.true w.out-is w.n-is
+      | else-modes-entry-ne0 w ↦
+          wrote-other a.out.now a.at a.modes (omega arith) l.out l.n l.entry-index l.invariant (omega arith) j.out j.n w.if-modes-entry-ne0.false w.out-is w.n-is
+    ]
 
 pub returns-clause-value : goal.returns-clause-value
-returns-clause-value c = (wrote-all c.args.out.now c.args.at c.args.modes c.loop-i.out c.loop-i.n c.loop-i.i (omega arith) c.loop-i.invariant.1).0
+returns-clause-value c = (wrote-all c.args.out.now c.args.at c.args.modes c.loop-entry.out c.loop-entry.n c.loop-entry.entry-index (omega arith) c.loop-entry.invariant).0
 
 pub returns-clause-out_after : goal.returns-clause-out_after
-returns-clause-out_after c = (wrote-all c.args.out.now c.args.at c.args.modes c.loop-i.out c.loop-i.n c.loop-i.i (omega arith) c.loop-i.invariant.1).1
+returns-clause-out_after c = (wrote-all c.args.out.now c.args.at c.args.modes c.loop-entry.out c.loop-entry.n c.loop-entry.entry-index (omega arith) c.loop-entry.invariant).1

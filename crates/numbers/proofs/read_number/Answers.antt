@@ -11,29 +11,28 @@ returns-then-field-lt1 c = sym (number-empty c.args.field.now c.if-field-lt1.tru
 pub returns-then-field-gt3 : goal.returns-then-field-gt3
 returns-then-field-gt3 c = sym (number-long c.args.field.now c.if-field-gt3.true)
 
-pub loop-i-init : goal.loop-i-init
-loop-i-init c = (omega arith, omega arith, number-all c.args.field.now (omega arith) (omega arith))
+pub loop-b-init : goal.loop-b-init
+loop-b-init c = (omega arith, number-all c.args.field.now (omega arith) (omega arith))
 
 pub returns-then-b-lt48 : goal.returns-then-b-lt48
-returns-then-b-lt48 c = sym (c.loop-i.invariant.2 ∙ number-below c.loop-i.value c.args.field.now c.loop-i.i (omega arith) c.if-b-lt48.true)
+returns-then-b-lt48 c = sym (c.loop-b.invariant.1 ∙ number-below c.loop-b.value c.args.field.now c.loop-b.b-index (omega arith) c.if-b-lt48.true)
 
 pub returns-then-b-gt57 : goal.returns-then-b-gt57
-returns-then-b-gt57 c = sym (c.loop-i.invariant.2 ∙ number_above c.loop-i.value c.args.field.now c.loop-i.i (omega arith) c.if-b-gt57.true)
+returns-then-b-gt57 c = sym (c.loop-b.invariant.1 ∙ number_above c.loop-b.value c.args.field.now c.loop-b.b-index (omega arith) c.if-b-gt57.true)
 
-pub loop-i-preserved : goal.loop-i-preserved
-loop-i-preserved c =
+pub loop-b-preserved : goal.loop-b-preserved
+loop-b-preserved c =
     let a = c.args.field.now in
-    let i = c.loop-i.i in
-    let v = c.loop-i.value in
+    let i = c.loop-b.b-index in
+    let v = c.loop-b.value in
     let b = get_or a i 0 in
-    let w = v * 10 + c.wide.result in
-    let e : w ≡ one_more v b = omega (arith, c.wide.ensures) in (
-      omega arith,
-      one-more_lt v b i c.loop-i.invariant.1 (omega arith) w e,
-      c.loop-i.invariant.2 ∙ number_more v a i (omega arith) (omega arith) (omega arith) ∙ ap (λ (x : ℕ). number_from x (drop (i + 1) a)) (sym e),
+    let w = v * 10 + c.from.result in
+    let e : w ≡ one_more v b = omega (arith, c.from.ensures) in (
+      one-more_lt v b i c.loop-b.invariant.0 (omega arith) w e,
+      c.loop-b.invariant.1 ∙ number_more v a i (omega arith) (omega arith) (omega arith) ∙ ap (λ (x : ℕ). number_from x (drop (i + 1) a)) (sym e),
     )
 
 pub returns : goal.returns
 returns c =
-    let i = c.loop-i.i in
-    sym (c.loop-i.invariant.2 ∙ rw (drop_of_length-le c.args.field.now {i = i} (omega arith)) (number-none c.loop-i.value))
+    let i = c.loop-b.b-index in
+    sym (c.loop-b.invariant.1 ∙ rw (drop_of_length-le c.args.field.now {i = i} (omega arith)) (number-none c.loop-b.value))

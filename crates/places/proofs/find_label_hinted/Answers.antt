@@ -10,13 +10,13 @@ use Rattle.places.proofs.find_label_hinted.Goals as goal
 pub label_at-hinted-requires : goal.label_at-hinted-requires
 label_at-hinted-requires c =
     let a = c.args in
-    let k = c.in-At.k in
-    let below : k < a.count = found_below (same_bytes (label_at a.labels.now k)) (label_at a.labels.now) a.count k (c.requires.2 k c.in-At.is) in
+    let k = c.in-Some.k in
+    let below : k < a.count = found_below (same_bytes (label_at a.labels.now k)) (label_at a.labels.now) a.count k (c.requires.2 k c.in-Some.is) in
     (c.requires.0, omega arith)
 
 pub returns-then-same_bytes : goal.returns-then-same_bytes
 returns-then-same_bytes c =
     let a = c.args in
-    let k = c.in-At.k in
+    let k = c.in-Some.k in
     let here : same_bytes a.label.now (label_at a.labels.now k) ≡ true = sym (c.same_bytes.ensures ∙ ap (same_bytes a.label.now) c.label_at-hinted.ensures.bytes) ∙ c.if-same_bytes.true in
-    sym (ap (λ (l : List ℕ). first (same_bytes l) (listed (label_at a.labels.now) a.count)) (same-equal a.label.now (label_at a.labels.now k) here) ∙ c.requires.2 k c.in-At.is)
+    sym (ap (λ (l : List ℕ). first (same_bytes l) (listed (label_at a.labels.now) a.count)) (same-equal a.label.now (label_at a.labels.now k) here) ∙ c.requires.2 k c.in-Some.is)

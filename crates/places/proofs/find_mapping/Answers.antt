@@ -10,10 +10,10 @@ pub returns-then-entries-i : goal.returns-then-entries-i
 unfolding names mapping_at
 returns-then-entries-i c words =
     let a = c.args in
-    sym (found-at (names a.number) (mapping_at a.entries.now words) a.count c.loop-i.i (omega arith) c.loop-i.invariant.1 (eq-eqb _ _ c.if-entries-i.true))
+    sym (found-at (names a.number) (mapping_at a.entries.now words) a.count c.loop-i.i (omega arith) c.loop-i.invariant (eq-eqb _ _ c.if-entries-i.true))
 
 pub returns : goal.returns
 unfolding names mapping_at
 returns c words =
     let a = c.args in
-    sym (found_none (names a.number) (mapping_at a.entries.now words) a.count (λ k h. c.loop-i.invariant.1 k (omega arith)))
+    sym (found_none (names a.number) (mapping_at a.entries.now words) a.count (λ k h. c.loop-i.invariant k (omega arith)))

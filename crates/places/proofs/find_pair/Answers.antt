@@ -14,7 +14,7 @@ returns-then-k-count c =
     let low = c.lowest_pair-low.result in
     sym
     (found-at (is_pair a.subject a.object) (rule_at a.entries.now) a.count (from + low) (omega arith)
-    (none-before-lowest (is_pair a.subject a.object) (rule_at a.entries.now) none_in_block from block low (from + low) c.loop-passed.invariant.1 c.lowest_pair-low.ensures (omega arith) (omega arith))
+    (none-before-lowest (is_pair a.subject a.object) (rule_at a.entries.now) none_in_block from block low (from + low) c.loop-passed.invariant c.lowest_pair-low.ensures (omega arith) (omega arith))
     (at-lowest (is_pair a.subject a.object) (λ (i : ℕ). rule_at a.entries.now (from + i)) none_in_block block low c.lowest_pair-low.ensures (λ e. omega arith)))
 
 pub returns-then-low-lt-BLOCK : goal.returns-then-low-lt-BLOCK
@@ -24,14 +24,14 @@ returns-then-low-lt-BLOCK c =
     let low = c.lowest_pair-low.result in
     sym
     (found_none (is_pair a.subject a.object) (rule_at a.entries.now) a.count
-    (none-before-lowest (is_pair a.subject a.object) (rule_at a.entries.now) none_in_block from block low a.count c.loop-passed.invariant.1 c.lowest_pair-low.ensures (omega arith) (omega arith)))
+    (none-before-lowest (is_pair a.subject a.object) (rule_at a.entries.now) none_in_block from block low a.count c.loop-passed.invariant c.lowest_pair-low.ensures (omega arith) (omega arith)))
 
 pub loop-passed-preserved : goal.loop-passed-preserved
 loop-passed-preserved c =
     let a = c.args in
     let from = c.loop-passed.passed * block in
     let low = c.lowest_pair-low.result in
-    (omega arith, none-before-lowest (is_pair a.subject a.object) (rule_at a.entries.now) none_in_block from block low _ c.loop-passed.invariant.1 c.lowest_pair-low.ensures (omega arith) (omega arith))
+    none-before-lowest (is_pair a.subject a.object) (rule_at a.entries.now) none_in_block from block low _ c.loop-passed.invariant c.lowest_pair-low.ensures (omega arith) (omega arith)
 
 pub returns : goal.returns
-returns c = sym (found_none _ _ _ (λ k h. c.loop-passed.invariant.1 k (omega arith)))
+returns c = sym (found_none _ _ _ (λ k h. c.loop-passed.invariant k (omega arith)))

@@ -9,10 +9,10 @@ use Rattle.places.proofs.lowest_pair.Goals as goal
 
 pub loop-i-init : goal.loop-i-init
 unfolding first listed
-loop-i-init c = (omega arith, refl)
+loop-i-init c = refl
 
 pub loop-i-preserved : goal.loop-i-preserved
 unfolding is_pair rule_at
 loop-i-preserved c =
     let a = c.args in
-    (omega arith, c.smaller-low.ensures ∙ lowest-more (is_pair a.subject a.object) (λ (j : ℕ). rule_at a.entries.now (a.from + j)) none_in_block c.loop-i.i c.loop-i.low c.place_if.result (omega arith) c.loop-i.invariant.1 c.place_if.ensures)
+    c.smaller-low.ensures ∙ lowest-more (is_pair a.subject a.object) (λ (j : ℕ). rule_at a.entries.now (a.from + j)) none_in_block c.loop-i.i c.loop-i.low c.place_if.result (omega arith) c.loop-i.invariant c.place_if.ensures

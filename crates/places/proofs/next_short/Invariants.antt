@@ -1,10 +1,7 @@
 -- No place passed is like the label.
-use Rattle.std.proofs.Common.{ℕ, ◌*◌, ◌≤◌, ◌<◌, ◌-◌, ◌≡◌}
+use Rattle.std.proofs.Common.{ℕ, ◌≤◌, ◌<◌, max}
 use Rattle.places.specs.Within.{Unlike}
 use Rattle.places.proofs.next_short.Given as goal
 
-abbrev pub invariant-loop-i : goal.invariant-loop-i
-invariant-loop-i l = (l.at ≡ l.i * 256) × (l.from ≤ l.i) × ((k : ℕ) → k < l.i → l.from ≤ k → Unlike l.labels k l.n l.last)
-
-abbrev pub decreases-loop-i : goal.decreases-loop-i
-decreases-loop-i l = l.count - l.i
+abbrev pub invariant-loop-k : goal.invariant-loop-k
+invariant-loop-k l = (l.k ≤ max l.from l.count) × ((k : ℕ) → k < l.k → l.from ≤ k → Unlike l.labels k l.n l.last)

@@ -1,6 +1,6 @@
 -- `program::answer_lines`: each run of bytes joins the line or ends it, and each line that ends is answered. Assumes nothing.
 use Rattle.std.proofs.Common.{ℕ, ◌+◌, ◌*◌, ◌<◌, ◌≡◌, refl, sym, ap, ◌∙◌, arith, List, [], ◌++◌, append_assoc, append-nil, length, drop}
-use Rattle.store.specs.Layout.{store}
+use Rattle.store.specs.LentWithin.{lent}
 use Rattle.reports.specs.declared.Loader.{Loader}
 use Rattle.load.specs.Loader.{Load, load}
 use Rattle.text_lines.proofs.Laws.{end-behind, end-within, run_between}
@@ -22,14 +22,14 @@ take_run-next-requires c = (c.loop-next.invariant.1, run_between c.args.input.no
 pub returns-then-end-input-clause-state : goal.returns-then-end-input-clause-state
 returns-then-end-input-clause-state c =
     let a = c.args in
-    let tables = store a.labels.now a.entries.now a.words.now in
+    let tables = lent a.state in
     let over = lines-over (load tables c.loop-next.line c.loop-next.next) a.input.now c.loop-next.i c.line_end-end.result c.loop-next.invariant.0 c.line_end-end.ensures (c.take_run-next.ensures tables) c.if-end-input.true in
     sym (c.loop-next.invariant.2 ∙ over.0)
 
 pub returns-then-end-input-clause-says : goal.returns-then-end-input-clause-says
 returns-then-end-input-clause-says c =
     let a = c.args in
-    let tables = store a.labels.now a.entries.now a.words.now in
+    let tables = lent a.state in
     let over = lines-over (load tables c.loop-next.line c.loop-next.next) a.input.now c.loop-next.i c.line_end-end.result c.loop-next.invariant.0 c.line_end-end.ensures (c.take_run-next.ensures tables) c.if-end-input.true in
     let said = c.loop-next.invariant.3 in
     put-said (line_room * length a.input.now) said.put (sym (said.says ∙ ap (λ (l : List ℕ). said.so_far ++ l) over.1 ∙ append-nil said.so_far)) (omega (arith, c.loop-next.invariant.0))
@@ -38,7 +38,7 @@ pub loop-next-preserved : goal.loop-next-preserved
 loop-next-preserved c =
     let a = c.args in
     let input = a.input.now in
-    let tables = store a.labels.now a.entries.now a.words.now in
+    let tables = lent a.state in
     let end = c.line_end-end.result in
     let v = c.loop-next.invariant in
     let inside = end-within input c.loop-next.i end v.0 c.line_end-end.ensures in

@@ -1,5 +1,5 @@
 -- `program::end_text`: it writes the report that the end call answers. Assumes nothing.
-use Rattle.store.specs.Layout.{store}
+use Rattle.store.specs.Lent.{lent_mut}
 use Rattle.program.specs.Steps.{state}
 use Rattle.program.proofs.Laws.{text-damaged, text_went}
 use Rattle.program.proofs.end_text.Goals as goal
@@ -7,9 +7,9 @@ use Rattle.program.proofs.end_text.Goals as goal
 pub returns-in_default-clause-text_ends : goal.returns-in_default-clause-text_ends
 returns-in_default-clause-text_ends c =
     let a = c.args in
-    text-damaged (state (store a.labels.now a.entries.now a.words.now) a.line.now a.s) c.unmarked-last.ensures c.end.ensures.value c.end.ensures.loaded a.out.now c.in_default.is c.requires
+    text-damaged (state (lent_mut a.state.now) a.line.now a.s) c.unmarked-last.ensures c.end.ensures.value c.end.ensures.loaded a.out.now c.in_default.is c.requires
 
 pub returns-clause-text_ends : goal.returns-clause-text_ends
 returns-clause-text_ends c =
     let a = c.args in
-    text_went (state (store a.labels.now a.entries.now a.words.now) a.line.now a.s) c.unmarked-last.ensures c.end.ensures.value c.end.ensures.loaded c.in-Report.is c.requires c.write_report-at.ensures
+    text_went (state (lent_mut a.state.now) a.line.now a.s) c.unmarked-last.ensures c.end.ensures.value c.end.ensures.loaded c.in-Ok.is c.requires c.write_report-at.ensures

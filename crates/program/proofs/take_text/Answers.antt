@@ -2,7 +2,7 @@
 use Rattle.std.proofs.Common.{ℕ, ◌+◌, ◌≤◌, ◌≡◌, sym, ap, ◌∙◌, arith, Bool, List, length, length-drop}
 use Rattle.std.proofs.Common.{nat_eq}
 use lib.Seq.{length-take-le}
-use Rattle.store.specs.Layout.{store}
+use Rattle.store.specs.Lent.{lent_mut}
 use Rattle.program.specs.Steps.{State, state, at_mark}
 use Rattle.program.specs.Within.{text_end}
 use Rattle.program.proofs.Laws.{text-inside, rest-is, feed_damaged, feed-all, feed-rest}
@@ -19,48 +19,48 @@ module _ (b : State) (input : List ℕ) {m : Bool} {end : ℕ} (mark : m ≡ at_
 pub slice_bounds-piece-end : goal.slice_bounds-piece-end
 slice_bounds-piece-end c =
     let a = c.args in
-    let b = state (store a.labels.now a.entries.now a.words.now) a.line.now a.s in
+    let b = state (lent_mut a.state.now) a.line.now a.s in
     sym (length-take-le c.text_end-end.result a.input.now (inside b a.input.now c.is_mark.ensures c.text_end-end.ensures))
 
-pub returns-in_default : goal.returns-in_default
-returns-in_default c =
+pub returns-in_default-clause-feeds : goal.returns-in_default-clause-feeds
+returns-in_default-clause-feeds c =
     let a = c.args in
-    let b = state (store a.labels.now a.entries.now a.words.now) a.line.now a.s in
+    let b = state (lent_mut a.state.now) a.line.now a.s in
     feed_damaged b c.requires.0 a.input.now c.text_end-end.result (ends b a.input.now c.is_mark.ensures c.text_end-end.ensures) c.piece.ensures.value c.piece.ensures.loaded a.out.now c.in_default.is c.requires.1
 
-pub returns-then-end-input : goal.returns-then-end-input
-returns-then-end-input c =
+pub returns-then-end-input-clause-feeds : goal.returns-then-end-input-clause-feeds
+returns-then-end-input-clause-feeds c =
     let a = c.args in
-    let b = state (store a.labels.now a.entries.now a.words.now) a.line.now a.s in
-    feed-all b c.requires.0 a.input.now c.text_end-end.result (ends b a.input.now c.is_mark.ensures c.text_end-end.ensures) c.piece.ensures.value c.piece.ensures.loaded c.in-Done.is a.out.now c.requires.1 c.if-end-input.true
+    let b = state (lent_mut a.state.now) a.line.now a.s in
+    feed-all b c.requires.0 a.input.now c.text_end-end.result (ends b a.input.now c.is_mark.ensures c.text_end-end.ensures) c.piece.ensures.value c.piece.ensures.loaded c.in-Ok.is a.out.now c.requires.1 c.if-end-input.true
 
 pub overflow_add-behind : goal.overflow_add-behind
 overflow_add-behind c =
     let a = c.args in
-    let b = state (store a.labels.now a.entries.now a.words.now) a.line.now a.s in
+    let b = state (lent_mut a.state.now) a.line.now a.s in
     omega (arith, c.if-end-input.false, inside b a.input.now c.is_mark.ensures c.text_end-end.ensures)
 
 pub slice_bounds-turn_to_questions-count : goal.slice_bounds-turn_to_questions-count
 slice_bounds-turn_to_questions-count c =
     let a = c.args in
-    let b = state (store a.labels.now a.entries.now a.words.now) a.line.now a.s in
+    let b = state (lent_mut a.state.now) a.line.now a.s in
     omega (arith, c.if-end-input.false, inside b a.input.now c.is_mark.ensures c.text_end-end.ensures)
 
 pub slice_bounds-turn_to_questions-start : goal.slice_bounds-turn_to_questions-start
 slice_bounds-turn_to_questions-start c =
     let a = c.args in
-    let b = state (store a.labels.now a.entries.now a.words.now) a.line.now a.s in
+    let b = state (lent_mut a.state.now) a.line.now a.s in
     omega (arith, c.if-end-input.false, inside b a.input.now c.is_mark.ensures c.text_end-end.ensures)
 
 pub turn_to_questions-requires : goal.turn_to_questions-requires
 turn_to_questions-requires c =
     let a = c.args in
-    let b = state (store a.labels.now a.entries.now a.words.now) a.line.now a.s in
+    let b = state (lent_mut a.state.now) a.line.now a.s in
     let k = c.text_end-end.result + 1 in
     omega (arith, c.if-end-input.false, inside b a.input.now c.is_mark.ensures c.text_end-end.ensures, c.requires.1, ap length (rest-is a.input.now k), length-drop k a.input.now)
 
-pub returns : goal.returns
-returns c =
+pub returns-clause-feeds : goal.returns-clause-feeds
+returns-clause-feeds c =
     let a = c.args in
-    let b = state (store a.labels.now a.entries.now a.words.now) a.line.now a.s in
-    feed-rest b c.requires.0 a.input.now c.text_end-end.result (ends b a.input.now c.is_mark.ensures c.text_end-end.ensures) c.piece.ensures.value c.piece.ensures.loaded c.in-Done.is (rest-is a.input.now (c.text_end-end.result + 1)) c.requires.1 c.if-end-input.false c.turn_to_questions.ensures
+    let b = state (lent_mut a.state.now) a.line.now a.s in
+    feed-rest b c.requires.0 a.input.now c.text_end-end.result (ends b a.input.now c.is_mark.ensures c.text_end-end.ensures) c.piece.ensures.value c.piece.ensures.loaded c.in-Ok.is (rest-is a.input.now (c.text_end-end.result + 1)) c.requires.1 c.if-end-input.false c.turn_to_questions.ensures.turns_over

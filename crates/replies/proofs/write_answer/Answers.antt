@@ -6,6 +6,6 @@ use Rattle.replies.proofs.write_answer.Goals as goal
 
 pub returns : goal.returns
 returns c =
-    let s = c.show-shown in
+    let s = c.from-shown in
     let both = put_next 20 c.write_word-word.ensures c.write_field.ensures (omega (arith, c.requires)) (omega arith) in
     put-said line_room both (answer-said c.args.answer s.result s.ensures) (omega arith)

@@ -1,9 +1,8 @@
 -- Each number is the place that was found or the next.
-use Rattle.std.proofs.Common.{ℕ, ◌<◌, ◌≡◌, sym, ◌∙◌, ap, List, get_or, arith}
+use Rattle.std.proofs.Common.{ℕ, ◌<◌, ◌≡◌, sym, ◌∙◌, ap, List, get_or, arith, Option}
 use mathlib.Core.Path.{subst}
 use Rattle.search.specs.Within.{count_after}
 use Rattle.search.specs.Search.{place_of}
-use Rattle.search.specs.declared.Found.{Found}
 use Rattle.store.specs.Layout.{store}
 use Rattle.places.specs.declared.Numbered.{Numbered}
 use Rattle.rules.specs.declared.Spot.{Spot}
@@ -12,7 +11,7 @@ use Rattle.rules.proofs.Laws.{Facts, facts, rule_set, same_store, same-entered, 
 use Rattle.rules.proofs.Laid.{pair-laid}
 use Rattle.rules.proofs.set_pair.Goals as goal
 
-abbrev numbers : Found → ℕ → Numbered
+abbrev numbers : Option ℕ → ℕ → Numbered
 numbers f n = record { number = place_of f n; count = count_after f n }
 
 -- the numbers that its parts have or get
@@ -44,45 +43,45 @@ fits l e w s o spot q = facts (store l e w) s o spot q
 pub enter-requires : goal.enter-requires
 enter-requires c =
     let a = c.args in
-    let f = fits a.labels.now a.entries.now a.words.now a.subject.now a.object.now a.spot c.requires in
+    let f = fits a.state.now.labels.now a.state.now.entries.now a.state.now.words.now a.subject.now a.object.now a.spot c.requires in
     (c.requires.sizes.labels, omega (arith, f.subject, f.grows.1, f.labels), c.requires.subject)
 
 pub enter-requires-2 : goal.enter-requires-2
 enter-requires-2 c =
     let a = c.args in
-    let f = fits a.labels.now a.entries.now a.words.now a.subject.now a.object.now a.spot c.requires in
-    let d = known (get_or a.words.now 0 0) (get_or a.words.now 1 0) a.spot _ _ _ c.number_for-a.ensures c.number_for-b.ensures c.number_for-c.ensures in
+    let f = fits a.state.now.labels.now a.state.now.entries.now a.state.now.words.now a.subject.now a.object.now a.spot c.requires in
+    let d = known (get_or a.state.now.words.now 0 0) (get_or a.state.now.words.now 1 0) a.spot _ _ _ c.number_for-a.ensures c.number_for-b.ensures c.number_for-c.ensures in
     let h : place_of a.spot.object c.number_for-a.result.count < 64 = subst (λ (m : ℕ). place_of a.spot.object m < 64) (sym d.subject-count) (omega (arith, f.object, f.labels)) in
     (c.enter.auto.labels ∙ c.requires.sizes.labels, h, c.requires.object)
 
 pub overflow_cast-a : goal.overflow_cast-a
 overflow_cast-a c =
     let a = c.args in
-    let f = fits a.labels.now a.entries.now a.words.now a.subject.now a.object.now a.spot c.requires in
-    let d = known (get_or a.words.now 0 0) (get_or a.words.now 1 0) a.spot _ _ _ c.number_for-a.ensures c.number_for-b.ensures c.number_for-c.ensures in
+    let f = fits a.state.now.labels.now a.state.now.entries.now a.state.now.words.now a.subject.now a.object.now a.spot c.requires in
+    let d = known (get_or a.state.now.words.now 0 0) (get_or a.state.now.words.now 1 0) a.spot _ _ _ c.number_for-a.ensures c.number_for-b.ensures c.number_for-c.ensures in
     omega (arith, d.subject_number, f.subject, f.grows.1, f.labels)
 
 pub overflow_cast-b : goal.overflow_cast-b
 overflow_cast-b c =
     let a = c.args in
-    let f = fits a.labels.now a.entries.now a.words.now a.subject.now a.object.now a.spot c.requires in
-    let d = known (get_or a.words.now 0 0) (get_or a.words.now 1 0) a.spot _ _ _ c.number_for-a.ensures c.number_for-b.ensures c.number_for-c.ensures in
+    let f = fits a.state.now.labels.now a.state.now.entries.now a.state.now.words.now a.subject.now a.object.now a.spot c.requires in
+    let d = known (get_or a.state.now.words.now 0 0) (get_or a.state.now.words.now 1 0) a.spot _ _ _ c.number_for-a.ensures c.number_for-b.ensures c.number_for-c.ensures in
     omega (arith, d.object_number, f.object, f.labels)
 
 pub write_rule-requires : goal.write_rule-requires
 write_rule-requires c =
     let a = c.args in
-    let f = fits a.labels.now a.entries.now a.words.now a.subject.now a.object.now a.spot c.requires in
-    let d = known (get_or a.words.now 0 0) (get_or a.words.now 1 0) a.spot _ _ _ c.number_for-a.ensures c.number_for-b.ensures c.number_for-c.ensures in
+    let f = fits a.state.now.labels.now a.state.now.entries.now a.state.now.words.now a.subject.now a.object.now a.spot c.requires in
+    let d = known (get_or a.state.now.words.now 0 0) (get_or a.state.now.words.now 1 0) a.spot _ _ _ c.number_for-a.ensures c.number_for-b.ensures c.number_for-c.ensures in
     (omega (arith, c.requires.sizes.entries), omega (arith, d.rule_number, f.rule, f.rules))
 
-pub returns : goal.returns
+pub returns-clause-stored : goal.returns-clause-stored
 unfolding rule_set
-returns c =
+returns-clause-stored c =
     let a = c.args in
-    let d = known (get_or a.words.now 0 0) (get_or a.words.now 1 0) a.spot _ _ _ c.number_for-a.ensures c.number_for-b.ensures c.number_for-c.ensures in
+    let d = known (get_or a.state.now.words.now 0 0) (get_or a.state.now.words.now 1 0) a.spot _ _ _ c.number_for-a.ensures c.number_for-b.ensures c.number_for-c.ensures in
     same_store
-    (c.enter-2.ensures ∙ same-entered a.spot.object a.object.now c.enter.ensures d.subject-count)
-    (c.write_rule.ensures ∙ same-rule a.entries.now a.modes d.rule_number d.subject_number d.object_number)
-    (same-words a.words.now 1 d.object-count d.rule-count)
-    ∙ pair-laid (store a.labels.now a.entries.now a.words.now) a.subject.now a.object.now a.spot a.modes c.requires (λ k. omega (arith, c.slice_known-1.given k))
+    (c.enter-2.ensures.labels_after ∙ same-entered a.spot.object a.object.now c.enter.ensures.labels_after d.subject-count)
+    (c.write_rule.ensures ∙ same-rule a.state.now.entries.now a.modes d.rule_number d.subject_number d.object_number)
+    (same-words a.state.now.words.now 1 d.object-count d.rule-count)
+    ∙ pair-laid (store a.state.now.labels.now a.state.now.entries.now a.state.now.words.now) a.subject.now a.object.now a.spot a.modes c.requires c.enter.ensures.bytes

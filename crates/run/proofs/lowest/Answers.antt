@@ -1,18 +1,27 @@
 -- One record more.
-use Rattle.std.proofs.Common.{length, sym, ◌∙◌, arith}
+use Rattle.std.proofs.Common.{length, get_or-take, length-take, ap, ◌∙◌, arith}
+use Rattle.run.specs.Run.{lower_of}
 use Rattle.run.proofs.Laws.{left_start, left_next, left_settled, searched-within}
 use Rattle.run.specs.declared.Record.{Record}
 use Rattle.run.proofs.lowest.Goals as goal
 
-pub loop-i-init : goal.loop-i-init
-loop-i-init c = (omega arith, omega (arith, c.reach-count.ensures, searched-within c.args.level c.args.set (length c.args.run.now)), left_start _ _ _)
+pub loop-record-init : goal.loop-record-init
+loop-record-init c = left_start _ _ _
 
-pub loop-i-preserved : goal.loop-i-preserved
-loop-i-preserved c =
+pub slice_bounds-record-items-end : goal.slice_bounds-record-items-end
+slice_bounds-record-items-end c = simp length-take (omega (arith, c.reach-count.ensures, searched-within c.args.level c.args.set (length c.args.run.now)))
+
+pub loop-record-preserved : goal.loop-record-preserved
+loop-record-preserved c =
+    let a = c.args in
+    let l = c.loop-record in
     let z : Record = record { label = 0; level = 0; set = record { first = 0; second = 0; third = 0 } } in
-    (omega arith, omega arith, left_next c.args.run.now c.args.level c.args.set z c.loop-i.best c.lower-best.result c.loop-i.i (omega arith) c.lower-best.ensures c.loop-i.invariant.2)
+    let e = ap (lower_of a.level a.set l.best) (get_or-take c.reach-count.result a.run.now l.record-index z (omega (arith, length-take {A = Record}))) in
+    left_next a.run.now a.level a.set z l.best c.lower-best.result l.record-index (omega (arith, length-take {A = Record})) (c.lower-best.ensures ∙ e) l.invariant
 
 pub returns : goal.returns
 returns c =
+    let a = c.args in
+    let l = c.loop-record in
     c.settled.ensures
-    ∙ left_settled c.args.run.now c.args.level c.args.set c.loop-i.best c.loop-i.i (rw (sym c.reach-count.ensures) c.loop-i-test.false) c.loop-i.invariant.2
+    ∙ left_settled a.run.now a.level a.set l.best l.record-index (omega (arith, c.reach-count.ensures, searched-within a.level a.set (length a.run.now), length-take {A = Record})) l.invariant

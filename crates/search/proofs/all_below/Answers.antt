@@ -1,22 +1,23 @@
 -- One number more.
 use Rattle.std.proofs.Common.{ℕ, ◌≡◌, ◌<◌, ltb, length, take, get_or, refl, sym, ◌∙◌, add-one, arith}
-use lib.Seq.{take-suc}
+use lib.Seq.{take-suc, take-length}
 use Rattle.search.specs.Search.{all}
 use Rattle.search.proofs.Laws.{all_snoc}
 use Rattle.search.proofs.all_below.Goals as goal
 
-pub loop-i-init : goal.loop-i-init
+pub loop-x-init : goal.loop-x-init
 unfolding all
-loop-i-init c = (omega arith, refl)
+loop-x-init c = refl
 
-pub loop-i-preserved : goal.loop-i-preserved
-loop-i-preserved c =
-    let i = c.loop-i.i in
-    let run = c.args.run.now in
+pub loop-x-preserved : goal.loop-x-preserved
+loop-x-preserved c =
+    let i = c.loop-x.x-index in
+    let run = take c.args.count c.args.run.now in
     let h : i < length run = omega arith in
-    (omega arith, rw (c.loop-i.invariant.1, add-one, take-suc run i 0 h) (sym (all_snoc (λ (x : ℕ). ltb x c.args.limit) (take i run) (get_or run i 0))))
+    rw (c.loop-x.invariant, add-one, take-suc run i 0 h) (sym (all_snoc (λ (x : ℕ). ltb x c.args.limit) (take i run) (get_or run i 0)))
 
 pub returns : goal.returns
 returns c =
-    let e : c.loop-i.i ≡ c.args.count = omega arith in
-    c.loop-i.invariant.1 ∙ rw e
+    let run = take c.args.count c.args.run.now in
+    let e : c.loop-x.x-index ≡ length run = omega arith in
+    c.loop-x.invariant ∙ rw (e, take-length)

@@ -1,8 +1,7 @@
 -- Its four bytes as one number.
-use Rattle.std.proofs.Common.{refl}
 use Rattle.search.specs.Within.{word_at}
 use Rattle.search.proofs.word_at.Goals as goal
 
 pub returns : goal.returns
 unfolding word_at
-returns c = refl
+returns c = c.from_le_bytes.ensures

@@ -11,9 +11,9 @@ returns-then-byte_at-ne0 c =
 pub returns-then-bitmap-i-ne0 : goal.returns-then-bitmap-i-ne0
 returns-then-bitmap-i-ne0 c =
     let b = c.args.bitmap.now in
-    sym (later-byte b (λ i. (c.type_inv.bitmap i).fits) c.loop-i.i c.loop-i.invariant.0 c.if-bitmap-i-ne0.true)
+    sym (later-byte b (λ i. (c.type_inv.bitmap i).fits) c.loop-i.i (omega arith) c.if-bitmap-i-ne0.true)
 
 pub returns : goal.returns
 returns c =
     let b = c.args.bitmap.now in
-    sym (only_these b (λ i. (c.type_inv.bitmap i).fits) (omega (arith, c.byte_at.ensures)) (sym (ap (λ (x : ℕ). x % 128) c.byte_at-2.ensures) ∙ c.if-byte_at-ne0.false) (λ i h m. c.loop-i.invariant.1 i h (omega arith)))
+    sym (only_these b (λ i. (c.type_inv.bitmap i).fits) (omega (arith, c.byte_at.ensures)) (sym (ap (λ (x : ℕ). x % 128) c.byte_at-2.ensures) ∙ c.if-byte_at-ne0.false) (λ i h m. c.loop-i.invariant i h (omega arith)))

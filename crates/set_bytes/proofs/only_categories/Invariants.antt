@@ -1,9 +1,6 @@
 -- Of the bytes passed those behind byte 23 are 0.
-use Rattle.std.proofs.Common.{ℕ, ◌≡◌, ◌<◌, ◌≤◌, ◌-◌, length, get_or}
+use Rattle.std.proofs.Common.{ℕ, ◌≡◌, ◌<◌, ◌≤◌, get_or}
 use Rattle.set_bytes.proofs.only_categories.Given as goal
 
 abbrev pub invariant-loop-i : goal.invariant-loop-i
-invariant-loop-i l = (24 ≤ l.i) × ((k : ℕ) → 24 ≤ k → k < l.i → get_or l.bitmap k 0 ≡ 0)
-
-abbrev pub decreases-loop-i : goal.decreases-loop-i
-decreases-loop-i l = length l.bitmap - l.i
+invariant-loop-i l = (k : ℕ) → 24 ≤ k → k < l.i → get_or l.bitmap k 0 ≡ 0

@@ -16,7 +16,7 @@ loop-i-preserved c =
     let h : i < a.count = omega arith in
     let h₁ : a.at + i < length a.out.now = omega arith in
     let h₂ : i < length src = rw (entries-length bytes a.count) h in
-    (omega arith, rw (c.loop-i.invariant.1, add-one, c.byte_of.ensures, ← entries_at bytes 0 a.count i h) (paste-suc a.out.now a.at src i 0 h₁ h₂))
+    rw (c.loop-i.invariant, add-one, c.byte_of.ensures, ← entries_at bytes 0 a.count i h) (paste-suc a.out.now a.at src i 0 h₁ h₂)
 
 pub returns : goal.returns
 unfolding written
@@ -25,4 +25,4 @@ returns c =
     let bytes : ℕ → ℕ = byte_of (record { first = a.first; second = a.second; third = a.third }) in
     let src = entries bytes a.count in
     let e : c.loop-i.i ≡ length src = rw (entries-length bytes a.count) (omega arith) in
-    rw (c.loop-i.invariant.1, e, take-length) (append_assoc (take a.at a.out.now) src (drop (a.at + length src) a.out.now))
+    rw (c.loop-i.invariant, e, take-length) (append_assoc (take a.at a.out.now) src (drop (a.at + length src) a.out.now))

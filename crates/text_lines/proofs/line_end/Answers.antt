@@ -1,22 +1,13 @@
--- 16 bytes without a newline are passed.
-use Rattle.std.proofs.Common.{refl, sym, ◌∙◌, arith}
-use Rattle.text_lines.proofs.Laws.{newline-none, newline_past}
+-- Where memchr finds a newline it is the first; where it finds none, there is none.
+use Rattle.std.proofs.Common.{ℕ, ◌+◌, sym, ap, arith}
+use Rattle.text_lines.proofs.Laws.{newline-none, newline-found, newline-missing}
 use Rattle.text_lines.proofs.line_end.Goals as goal
 
-pub returns-then-n-from : goal.returns-then-n-from
-returns-then-n-from c = omega (arith, newline-none c.args.text.now c.args.from (omega arith))
+pub returns-then-text-from : goal.returns-then-text-from
+returns-then-text-from c = omega (arith, newline-none c.args.text.now c.args.from (omega arith))
 
-pub loop-at-init : goal.loop-at-init
-loop-at-init c = (omega arith, refl)
+pub returns-in-Some : goal.returns-in-Some
+returns-in-Some c = let h = c.in-Some.ensures in ap (λ (n : ℕ). c.args.from + n) (sym (newline-found c.args.text.now c.args.from c.in-Some.k h.0.high h.1 h.0.before))
 
-pub returns-then-sixteen : goal.returns-then-sixteen
-returns-then-sixteen c = c.byte_by_byte.ensures ∙ c.loop-at.invariant.1
-
-pub loop-at-preserved : goal.loop-at-preserved
-loop-at-preserved c = (
-  omega arith,
-  omega (arith, c.loop-at.invariant.1, newline_past c.args.text.now c.loop-at.at 16 (omega arith) (sym c.sixteen.ensures ∙ c.if-sixteen.false)),
-)
-
-pub returns : goal.returns
-returns c = c.byte_by_byte-2.ensures ∙ c.loop-at.invariant.1
+pub returns-in-None : goal.returns-in-None
+returns-in-None c = omega (arith, newline-missing c.args.text.now c.args.from c.in-None.ensures)

@@ -1,5 +1,5 @@
 -- By what the write says.
-use Rattle.std.proofs.Common.{ℕ, List, ◌≡◌, true, sym, ◌∙◌, ap}
+use Rattle.std.proofs.Common.{ℕ, List, ◌≡◌, true, sym, ◌∙◌, ap, rules}
 use Rattle.store.specs.Table.{Table}
 use Rattle.store.specs.Layout.{store, table_of, undamaged_of}
 use Rattle.store.specs.Judged.{on_state}
@@ -26,39 +26,39 @@ by_place l e w text s o a d u says =
     let t : Table = table_of (store l e w) in
     ap (judged t) (sym says) ∙ change-at t (table-sound (store l e w) u) s o (formed text s o a d says) a d
 
-pub returns-then-not-undamaged-clause-value : goal.returns-then-not-undamaged-clause-value
+pub returns-in_err-check-clause-value : goal.returns-in_err-check-clause-value
 unfolding change_answer on_state
-returns-then-not-undamaged-clause-value c = rw (sym c.undamaged.ensures ∙ c.if-not-undamaged.true)
+returns-in_err-check-clause-value c = rw (ap undamaged_of (sym c.shared.ensures) ∙ c.in_err-check.ensures.err.1) (search rules)
 
-pub returns-then-not-undamaged-clause-stored : goal.returns-then-not-undamaged-clause-stored
+pub returns-in_err-check-clause-stored : goal.returns-in_err-check-clause-stored
 unfolding change_store on_state
-returns-then-not-undamaged-clause-stored c = rw (sym c.undamaged.ensures ∙ c.if-not-undamaged.true)
+returns-in_err-check-clause-stored c = rw (ap undamaged_of (sym c.shared.ensures) ∙ c.in_err-check.ensures.err.1)
+
+pub returns-in_err-change-clause-value : goal.returns-in_err-change-clause-value
+unfolding change_answer on_state
+returns-in_err-change-clause-value c = rw (ap undamaged_of (sym c.shared.ensures) ∙ c.in_ok-check.ensures.ok, sym c.in_err-change.ensures.said) (search rules)
+
+pub returns-in_err-change-clause-stored : goal.returns-in_err-change-clause-stored
+unfolding change_store on_state
+returns-in_err-change-clause-stored c = rw (ap undamaged_of (sym c.shared.ensures) ∙ c.in_ok-check.ensures.ok, sym c.in_err-change.ensures.said)
 
 pub set_modes-requires : goal.set_modes-requires
 set_modes-requires c =
-    let f = formed c.args.text.now _ _ _ _ c.in-Change.ensures.said in
-    (sym c.undamaged.ensures ∙ c.if-not-undamaged.false, formed-short _ f.subject, formed-short _ f.object)
+    let f = formed c.args.text.now _ _ _ _ c.in_ok-change.ensures.said in
+    (ap undamaged_of (sym c.shared.ensures) ∙ c.in_ok-check.ensures.ok, formed-short _ f.subject, formed-short _ f.object)
 
-pub returns-in-Refused-clause-value : goal.returns-in-Refused-clause-value
+pub returns-clause-value : goal.returns-clause-value
 unfolding change_answer on_state
-returns-in-Refused-clause-value c = rw (sym c.undamaged.ensures ∙ c.if-not-undamaged.false, sym c.in-Refused.ensures.said)
-
-pub returns-in-Refused-clause-stored : goal.returns-in-Refused-clause-stored
-unfolding change_store on_state
-returns-in-Refused-clause-stored c = rw (sym c.undamaged.ensures ∙ c.if-not-undamaged.false, sym c.in-Refused.ensures.said)
-
-pub returns-in-Change-clause-value : goal.returns-in-Change-clause-value
-unfolding change_answer on_state
-returns-in-Change-clause-value c =
+returns-clause-value c =
     let a = c.args in
-    let u = sym c.undamaged.ensures ∙ c.if-not-undamaged.false in
-    let e = by_place a.labels.now a.entries.now a.words.now a.text.now _ _ _ _ u c.in-Change.ensures.said in
+    let u = ap undamaged_of (sym c.shared.ensures) ∙ c.in_ok-check.ensures.ok in
+    let e = by_place a.state.now.labels.now a.state.now.entries.now a.state.now.words.now a.text.now _ _ _ _ u c.in_ok-change.ensures.said in
     rw (u, e) c.set_modes.ensures.value
 
-pub returns-in-Change-clause-stored : goal.returns-in-Change-clause-stored
+pub returns-clause-stored : goal.returns-clause-stored
 unfolding change_store on_state
-returns-in-Change-clause-stored c =
+returns-clause-stored c =
     let a = c.args in
-    let u = sym c.undamaged.ensures ∙ c.if-not-undamaged.false in
-    let e = by_place a.labels.now a.entries.now a.words.now a.text.now _ _ _ _ u c.in-Change.ensures.said in
+    let u = ap undamaged_of (sym c.shared.ensures) ∙ c.in_ok-check.ensures.ok in
+    let e = by_place a.state.now.labels.now a.state.now.entries.now a.state.now.words.now a.text.now _ _ _ _ u c.in_ok-change.ensures.said in
     rw (u, e) c.set_modes.ensures.stored

@@ -1,5 +1,6 @@
 -- By what the line says.
-use Rattle.std.proofs.Common.{ℕ, List, ◌≡◌, true, sym, ◌∙◌, ap}
+use Rattle.std.proofs.Common.{ℕ, List, ◌≡◌, true, sym, ◌∙◌, ap, rules}
+use Rattle.std.proofs.lemmas.Result.{err_from_is_err_and}
 use Rattle.store.specs.Table.{Table}
 use Rattle.store.specs.Layout.{store, table_of, undamaged_of}
 use Rattle.rules.specs.Within.{placing}
@@ -26,57 +27,61 @@ by_place l e w line s o m u says =
     let t : Table = table_of (store l e w) in
     ap (judged t) (sym says) ∙ rule-at t (table-sound (store l e w) u) s o (formed line s o m says) m
 
-pub set_modes-done-requires : goal.set_modes-done-requires
-set_modes-done-requires c =
-    let f = formed c.args.line.now _ _ _ c.in-Rule.ensures.said in
+pub returns-in_err-rule-clause-value : goal.returns-in_err-rule-clause-value
+unfolding line_outcome
+returns-in_err-rule-clause-value c = rw (sym c.in_err-rule.ensures.said) (search rules)
+
+pub returns-in_err-rule-clause-stored : goal.returns-in_err-rule-clause-stored
+unfolding line_stored
+returns-in_err-rule-clause-stored c = rw (sym c.in_err-rule.ensures.said)
+
+pub returns-in_default-clause-value : goal.returns-in_default-clause-value
+unfolding line_outcome
+returns-in_default-clause-value c = rw (sym (rw c.in_default.is at c.in_ok-rule.ensures.said))
+
+pub returns-in_default-clause-stored : goal.returns-in_default-clause-stored
+unfolding line_stored
+returns-in_default-clause-stored c = rw (sym (rw c.in_default.is at c.in_ok-rule.ensures.said))
+
+pub set_modes-requires : goal.set_modes-requires
+set_modes-requires c =
+    let f = formed c.args.line.now _ _ _ (rw c.in-Some.is at c.in_ok-rule.ensures.said) in
     (c.requires, formed-short _ f.subject, formed-short _ f.object)
 
-pub returns-in-Skipped-clause-value : goal.returns-in-Skipped-clause-value
+pub returns-in_err-set_modes-clause-value : goal.returns-in_err-set_modes-clause-value
 unfolding line_outcome
-returns-in-Skipped-clause-value c = rw (sym c.in-Skipped.ensures.said)
+returns-in_err-set_modes-clause-value c =
+    let a = c.args in
+    let r = c.in-Some.rule in
+    let t = table_of (store a.state.now.labels.now a.state.now.entries.now a.state.now.words.now) in
+    let s = at a.line.now r.labels.subject in
+    let o = at a.line.now r.labels.object in
+    let e = by_place a.state.now.labels.now a.state.now.entries.now a.state.now.words.now a.line.now _ _ _ c.requires (rw c.in-Some.is at c.in_ok-rule.ensures.said) in
+    let p = err_from_is_err_and c.from_residual-in_err-set_modes.result c.from_residual-in_err-set_modes.ensures.1 in
+    rw e (rw (p.1, p.2) (done_refused t s o (x.Rule r.modes) (placing t s o) _ (sym c.in_err-set_modes.ensures.value)))
 
-pub returns-in-Skipped-clause-stored : goal.returns-in-Skipped-clause-stored
+pub returns-in_err-set_modes-clause-stored : goal.returns-in_err-set_modes-clause-stored
 unfolding line_stored
-returns-in-Skipped-clause-stored c = rw (sym c.in-Skipped.ensures.said)
+returns-in_err-set_modes-clause-stored c =
+    let a = c.args in
+    let e = by_place a.state.now.labels.now a.state.now.entries.now a.state.now.words.now a.line.now _ _ _ c.requires (rw c.in-Some.is at c.in_ok-rule.ensures.said) in
+    rw e c.set_modes.ensures.stored
 
-pub returns-in-Refused-clause-value : goal.returns-in-Refused-clause-value
+pub returns-clause-value : goal.returns-clause-value
 unfolding line_outcome
-returns-in-Refused-clause-value c = rw (sym c.in-Refused.ensures.said)
+returns-clause-value c =
+    let a = c.args in
+    let r = c.in-Some.rule in
+    let t = table_of (store a.state.now.labels.now a.state.now.entries.now a.state.now.words.now) in
+    let s = at a.line.now r.labels.subject in
+    let o = at a.line.now r.labels.object in
+    let e = by_place a.state.now.labels.now a.state.now.entries.now a.state.now.words.now a.line.now _ _ _ c.requires (rw c.in-Some.is at c.in_ok-rule.ensures.said) in
+    let held = rw c.in-Some.is at c.in_ok-rule.ensures.rule_held in
+    rw e (done-accepted t s o (x.Rule r.modes) (placing t s o) held (sym c.in_ok-set_modes.ensures.value))
 
-pub returns-in-Refused-clause-stored : goal.returns-in-Refused-clause-stored
+pub returns-clause-stored : goal.returns-clause-stored
 unfolding line_stored
-returns-in-Refused-clause-stored c = rw (sym c.in-Refused.ensures.said)
-
-pub returns-in-Done-clause-value : goal.returns-in-Done-clause-value
-unfolding line_outcome
-returns-in-Done-clause-value c =
+returns-clause-stored c =
     let a = c.args in
-    let t = table_of (store a.labels.now a.entries.now a.words.now) in
-    let s = at a.line.now c.in-Rule.pair.subject in
-    let o = at a.line.now c.in-Rule.pair.object in
-    let e = by_place a.labels.now a.entries.now a.words.now a.line.now _ _ _ c.requires c.in-Rule.ensures.said in
-    rw e (done-accepted t s o (x.Rule c.in-Rule.modes) (placing t s o) c.in-Rule.ensures.rule_held (sym c.in-Done.ensures.value))
-
-pub returns-in-Done-clause-stored : goal.returns-in-Done-clause-stored
-unfolding line_stored
-returns-in-Done-clause-stored c =
-    let a = c.args in
-    let e = by_place a.labels.now a.entries.now a.words.now a.line.now _ _ _ c.requires c.in-Rule.ensures.said in
-    rw e c.set_modes-done.ensures.stored
-
-pub returns-in-Refused-done-clause-value : goal.returns-in-Refused-done-clause-value
-unfolding line_outcome
-returns-in-Refused-done-clause-value c =
-    let a = c.args in
-    let t = table_of (store a.labels.now a.entries.now a.words.now) in
-    let s = at a.line.now c.in-Rule.pair.subject in
-    let o = at a.line.now c.in-Rule.pair.object in
-    let e = by_place a.labels.now a.entries.now a.words.now a.line.now _ _ _ c.requires c.in-Rule.ensures.said in
-    rw e (done_refused t s o (x.Rule c.in-Rule.modes) (placing t s o) _ (sym c.in-Refused-done.ensures.value))
-
-pub returns-in-Refused-done-clause-stored : goal.returns-in-Refused-done-clause-stored
-unfolding line_stored
-returns-in-Refused-done-clause-stored c =
-    let a = c.args in
-    let e = by_place a.labels.now a.entries.now a.words.now a.line.now _ _ _ c.requires c.in-Rule.ensures.said in
-    rw e c.set_modes-done.ensures.stored
+    let e = by_place a.state.now.labels.now a.state.now.entries.now a.state.now.words.now a.line.now _ _ _ c.requires (rw c.in-Some.is at c.in_ok-rule.ensures.said) in
+    rw e c.set_modes.ensures.stored

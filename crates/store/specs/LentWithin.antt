@@ -1,0 +1,11 @@
+-- The slices of a state that are only read, as contracts inside the library name them. Nobody has to believe this. Assumes nothing.
+use Rattle.store.specs.declared.Lent.{Lent}
+use Rattle.store.specs.declared.Tables.{Tables}
+use Rattle.store.specs.Layout.{Store, store}
+
+-- what was lent to be read, and what was lent and tested
+abbrev pub lent : Lent → Store
+lent s = store s.labels.now s.entries.now s.words.now
+
+abbrev pub tested : Tables → Store
+tested t = store t.labels.now t.entries.now t.words.now
