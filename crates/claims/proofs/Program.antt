@@ -16,7 +16,9 @@ use Rattle.store.specs.Layout.{Store, store, Sizes}
 use Rattle.store.specs.Judged.{fresh_store}
 use Rattle.store.proofs.Judged.{fresh-entries}
 use Rattle.load.specs.Loader.{ready}
-use Rattle.lists.specs.Called.{first, second, third, fourth, seventh, left}
+use Rattle.store.specs.Lent.{lent_mut}
+use Rattle.store.specs.declared.LentMut.{LentMut}
+use Rattle.lists.specs.Called.{first, second, third, fifth}
 use Rattle.lists.specs.Reader.{start_on}
 use Rattle.replies.specs.Replies.{line_room}
 use Rattle.program.specs.declared.Session.{Session}
@@ -32,10 +34,10 @@ use Rattle.claims.specs.Program.{CalledBegin, CalledFeed, CalledFinish, InPieces
 -- ---- every run
 
 follows : {st : Store} {line : List ℕ} {x : Session} {pieces : List (List ℕ)} {said : List ℕ} (q : Phase) → Stands (state st line x) q → InPieces st line x pieces said → said ≡ said_from q (joined pieces)
-follows q h (an_end k room) = finish_law q k.ensures room h
+follows q h (an_end k room) = finish_law q k.ensures.0 room h
 follows q h (a_piece k {pieces} {said} room rest) =
-    let input = (seventh k.args).now in
-    let d = feed_law q input k.ensures room h in
+    let input = (fifth k.args).now in
+    let d = feed_law q input k.ensures.0 room h in
     ap (λ (x : List ℕ). x ++ said) d.says
     ∙ ap (λ (x : List ℕ). said_on q input ++ x) (follows (phase_on q input) d.stands rest)
     ∙ sym (said-append q input (joined pieces))
@@ -70,6 +72,13 @@ begin_call st =
       ensures = (refl, fresh-entries st);
     }
 
+-- the three slices of a state in one hand, and that lent
+abbrev slices : Store → LentMut
+slices st = record { labels = lends_mut st.labels; entries = lends_mut st.entries; words = lends_mut st.words }
+
+abbrev lends_state : Store → MutBor LentMut
+lends_state st = record { ref_ptr = (0, 0); ghost_name = 0; now = slices st }
+
 -- what a call leaves that goes on to `after` and says so much
 abbrev leaves : ℕ → State → State → List ℕ → State
 leaves most s after out = cond (leb most (length out) && ready s.load) after s
@@ -82,12 +91,12 @@ feed_call st line x input out =
     let s = state st line x in
     let n = leaves (line_room * length input) s (take_input s input) out in
     record {
-      lifetimes = ([], ([], ([], ([], ([], ([], tt))))));
-      args = (lends_mut st.labels, (lends_mut st.entries, (lends_mut st.words, (lends_mut line, (lends_mut out, (x, (lends input, tt)))))));
+      lifetimes = ([], ([], ([], ([], ([], tt)))));
+      args = (lends_state st, (lends_mut line, (lends_mut out, (x, (lends input, tt)))));
       asked = tt;
       result = turn_of (leb (line_room * length input) (length out)) s (take_input s input) (say_input s input);
-      last = (n.load.store.labels, (n.load.store.entries, (n.load.store.words, (n.load.line, (puts (line_room * length input) s (say_input s input) out, (tt, (tt, tt)))))));
-      ensures = some_turn _ st line x (take_input s input) (say_input s input) out;
+      last = (slices n.load.store, (n.load.line, (puts (line_room * length input) s (say_input s input) out, (tt, (tt, tt)))));
+      ensures = (some_turn _ st line x (take_input s input) (say_input s input) out, (refl, refl, refl));
     }
 
 abbrev finish_call : (st : Store) (line : List ℕ) (x : Session) (out : List ℕ) → CalledFinish
@@ -95,12 +104,12 @@ finish_call st line x out =
     let s = state st line x in
     let n = leaves line_room s (take_last s) out in
     record {
-      lifetimes = ([], ([], ([], ([], ([], tt)))));
-      args = (lends_mut st.labels, (lends_mut st.entries, (lends_mut st.words, (lends_mut line, (lends_mut out, (x, tt))))));
+      lifetimes = ([], ([], ([], ([], tt))));
+      args = (lends_state st, (lends_mut line, (lends_mut out, (x, tt))));
       asked = tt;
       result = turn_of (leb line_room (length out)) s (take_last s) (say_last s);
-      last = (n.load.store.labels, (n.load.store.entries, (n.load.store.words, (n.load.line, (puts line_room s (say_last s) out, (tt, tt))))));
-      ensures = some_turn _ st line x (take_last s) (say_last s) out;
+      last = (slices n.load.store, (n.load.line, (puts line_room s (say_last s) out, (tt, tt))));
+      ensures = (some_turn _ st line x (take_last s) (say_last s) out, (refl, refl, refl));
     }
 
 -- an output of n bytes
@@ -115,7 +124,7 @@ runs : (st : Store) (line : List ℕ) (x : Session) (pieces : List (List ℕ)) �
 runs st line x [] = (_, an_end (finish_call st line x (room line_room)) (room-long line_room))
 runs st line x (input ∷ pieces) =
     let k = feed_call st line x input (room (line_room * length input)) in
-    let rest = runs (left k.last) (fourth k.last) (went_session x k.result) pieces in
+    let rest = runs (lent_mut (first k.last)) (second k.last) (went_session x k.result) pieces in
     (_, a_piece k {pieces = pieces} {said = rest.0} (room-long (line_room * length input)) rest.1)
 
 some_run :

@@ -24,14 +24,14 @@ begin_asked = refl
 pub begin_learnt : ◌≡◌ {A = Out 3 begin_kinds.ps begin_kinds.r} (Learnt contracts.begin) begin_reads.Learnt
 begin_learnt = refl
 
-pub feed_asked : ◌≡◌ {A = In 6 feed_kinds.ps} (Asked contracts.feed) feed_reads.Asked
+pub feed_asked : ◌≡◌ {A = In 5 feed_kinds.ps} (Asked contracts.feed) feed_reads.Asked
 feed_asked = refl
 
-pub feed_learnt : ◌≡◌ {A = Out 6 feed_kinds.ps feed_kinds.r} (Learnt contracts.feed) feed_reads.Learnt
+pub feed_learnt : ◌≡◌ {A = Out 5 feed_kinds.ps feed_kinds.r} (Learnt contracts.feed) feed_reads.Learnt
 feed_learnt = refl
 
-pub finish_asked : ◌≡◌ {A = In 5 finish_kinds.ps} (Asked contracts.finish) finish_reads.Asked
+pub finish_asked : ◌≡◌ {A = In 4 finish_kinds.ps} (Asked contracts.finish) finish_reads.Asked
 finish_asked = refl
 
-pub finish_learnt : ◌≡◌ {A = Out 5 finish_kinds.ps finish_kinds.r} (Learnt contracts.finish) finish_reads.Learnt
+pub finish_learnt : ◌≡◌ {A = Out 4 finish_kinds.ps finish_kinds.r} (Learnt contracts.finish) finish_reads.Learnt
 finish_learnt = refl

@@ -35,7 +35,7 @@ feed = record {
   requires = λ κs a w. (of_feed.clauses w.𝓛 w.𝓜.mem w.𝓡.returns κs a).requires tt;
   ensures = λ κs a r l w. (of_feed.clauses w.𝓛 w.𝓜.mem w.𝓡.returns κs a).ensures tt r l;
   asks = λ κs a. all_models _ (λ w. r_top) (λ w. refl) (λ w. refl) (λ w. refl);
-  tells = λ κs a r l. all_models _ (λ w. r_last _) (λ w. refl) (λ w. refl) (λ w. refl);
+  tells = λ κs a r l. all_models _ (λ w. r_join _ _ (r_last _) (r_last _)) (λ w. refl) (λ w. refl) (λ w. refl);
   all_asked = λ κs a. (λ w. refl, refl, refl);
   all_told = λ κs a r l. (λ w. refl, refl, refl);
 }
@@ -46,7 +46,7 @@ finish = record {
   requires = λ κs a w. (of_finish.clauses w.𝓛 w.𝓜.mem w.𝓡.returns κs a).requires tt;
   ensures = λ κs a r l w. (of_finish.clauses w.𝓛 w.𝓜.mem w.𝓡.returns κs a).ensures tt r l;
   asks = λ κs a. all_models _ (λ w. r_top) (λ w. refl) (λ w. refl) (λ w. refl);
-  tells = λ κs a r l. all_models _ (λ w. r_last _) (λ w. refl) (λ w. refl) (λ w. refl);
+  tells = λ κs a r l. all_models _ (λ w. r_join _ _ (r_last _) (r_last _)) (λ w. refl) (λ w. refl) (λ w. refl);
   all_asked = λ κs a. (λ w. refl, refl, refl);
   all_told = λ κs a r l. (λ w. refl, refl, refl);
 }

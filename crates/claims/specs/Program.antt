@@ -5,7 +5,8 @@ use Rattle.std.specs.Prelude.{ℕ, ◌*◌, ◌≤◌, ◌≡◌, List, [], ◌�
 use Rattle.search.specs.Bytes.{ascii}
 use Rattle.alphabet.specs.Alphabet.{line_limit, fields}
 use Rattle.store.specs.Layout.{Store, store, Sizes}
-use Rattle.lists.specs.Called.{Called, first, second, third, fourth, fifth, sixth, seventh, lent_mut, left}
+use Rattle.store.specs.Lent.{lent_mut}
+use Rattle.lists.specs.Called.{Called, first, second, third, fourth, fifth}
 use Rattle.program.specs.declared.Session.{Session}
 use Rattle.store.specs.Table.{Table}
 use Rattle.access.specs.Access.{answer}
@@ -33,14 +34,14 @@ begun k = store (first k.last) (second k.args).now (third k.last)
 -- tables, the line and the session that the one before it left, and with an output that has `line_room` bytes for each byte of the piece; the last is `finish`
 
 pub data InPieces : Store → List ℕ → Session → List (List ℕ) → List ℕ → Type 0 where
-  an_end : (k : CalledFinish) → line_room ≤ length (fifth k.args).now →
-      InPieces (lent_mut k.args) (fourth k.args).now (sixth k.args) [] (take (went_count k.result) (fifth k.last))
+  an_end : (k : CalledFinish) → line_room ≤ length (third k.args).now →
+      InPieces (lent_mut (first k.args).now) (second k.args).now (fourth k.args) [] (take (went_count k.result) (third k.last))
   a_piece :
       (k : CalledFeed) {pieces : List (List ℕ)} {said : List ℕ} →
-      line_room * length (seventh k.args).now ≤ length (fifth k.args).now →
-      InPieces (left k.last) (fourth k.last) (went_session (sixth k.args) k.result) pieces said →
-      InPieces (lent_mut k.args) (fourth k.args).now (sixth k.args) ((seventh k.args).now ∷ pieces)
-      (take (went_count k.result) (fifth k.last) ++ said)
+      line_room * length (fifth k.args).now ≤ length (third k.args).now →
+      InPieces (lent_mut (first k.last)) (second k.last) (went_session (fourth k.args) k.result) pieces said →
+      InPieces (lent_mut (first k.args).now) (second k.args).now (fourth k.args) ((fifth k.args).now ∷ pieces)
+      (take (went_count k.result) (third k.last) ++ said)
 
 -- the pieces as one input
 abbrev pub joined : List (List ℕ) → List ℕ
