@@ -94,8 +94,9 @@ pub fn copy_at(dst: &mut [u8], at: usize, src: &[u8])
     requires { at + length src.now ≤ length dst.old }
     ensures { dst.new ≡ written dst.old at src.now }
 {
-    let end = at + src.len();
-    dst[at..end].copy_from_slice(src);
+    for i in 0..src.len() {
+        dst[at + i] = src[i];
+    }
 }
 
 // Whether the first `count` numbers of a run are all below `limit`. It reads all of them, so that the compiler can take many at a time.
