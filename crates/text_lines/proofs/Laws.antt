@@ -1,13 +1,14 @@
 -- Laws of the lines of a text: its bytes before a newline, and the line from an index on. Assumes nothing.
 use mathlib.Core.Path.{◌≡◌, refl, sym, ap, ◌∙◌, subst}
-use mathlib.Core.Bool.{Bool, true, false}
+use mathlib.Core.Bool.{Bool, true, false, ◌||◌, or-true, or-false}
 use mathlib.Core.List.{List, [], ◌∷◌, ◌++◌}
 use Prim.Native.Nat.{ℕ, zero, suc, ◌+◌, ◌-◌, ◌<◌, ◌≤◌}
+use native.Mathlib.Numerals.{add-one}
 use native.Mathlib.Omega.{arith}
-use lib.Dec.{eqb}
-use borrow.Author.Tests.{eqb-true, eqb-false, eq-eqb, ne_eqb}
+use lib.Dec.{eqb, ltb}
+use borrow.Author.Tests.{ltb-true, ltb-false, eqb-true, eqb-false, lt-ltb, le-ltb, eq-eqb, ne_eqb}
 use lib.ListN.{length, take, drop, get_or, length-drop, take-append-drop, drop_of_length-le}
-use lib.Seq.{drop-drop, take-add, take_all, take-length}
+use lib.Seq.{drop-cons, drop-drop, get_or-drop, take-add, take_all, take-length}
 use Rattle.text_lines.specs.Within.{before_newline, NoNewline}
 
 -- ---- bytes with no newline
@@ -35,9 +36,67 @@ newline-within (b ∷ bs) =
     let ih = newline-within bs in
     newline_or b (λ e. omega (arith, newline-here b bs e)) (λ e. omega (arith, newline-later b bs e, ih))
 
+-- at an index of a text: a newline is there, or the first one is that of the bytes behind
+pub newline-at : (text : List ℕ) (i : ℕ) → i < length text → get_or text i 0 ≡ 10 → before_newline (drop i text) ≡ 0
+newline-at text i h e = ap before_newline (drop-cons text i 0 h) ∙ newline-here (get_or text i 0) (drop (suc i) text) e
+
+pub newline-behind : (text : List ℕ) (i : ℕ) → i < length text → (get_or text i 0 ≡ 10 → ⊥) → before_newline (drop i text) ≡ suc (before_newline (drop (i + 1) text))
+newline-behind text i h e =
+    ap before_newline (drop-cons text i 0 h)
+    ∙ newline-later (get_or text i 0) (drop (suc i) text) e
+    ∙ ap (λ (k : ℕ). suc (before_newline (drop k text))) (sym (add-one i))
+
 pub newline-none : (text : List ℕ) (i : ℕ) → length text ≤ i → before_newline (drop i text) ≡ 0
 unfolding before_newline
 newline-none text i h = ap before_newline (drop_of_length-le text {i = i} h)
+
+-- a newline at an index is the first one or behind it; another byte is not the first one
+newline_upto : (run : List ℕ) (k : ℕ) → k < length run → get_or run k 0 ≡ 10 → before_newline run ≤ k
+newline_upto [] k h q = absurd (omega arith)
+newline_upto (b ∷ bs) zero h q = omega (arith, newline-here b bs q)
+newline_upto (b ∷ bs) (suc k) h q =
+    let ih = newline_upto bs k (omega arith) q in
+    newline_or b (λ e. omega (arith, newline-here b bs e)) (λ e. omega (arith, newline-later b bs e, ih))
+
+newline-other : (run : List ℕ) (k : ℕ) → k < length run → (get_or run k 0 ≡ 10 → ⊥) → before_newline run ≡ k → ⊥
+newline-other [] k h q z = absurd (omega arith)
+newline-other (b ∷ bs) zero h q z = omega (arith, newline-later b bs q)
+newline-other (b ∷ bs) (suc k) h q z =
+    newline_or b (λ e. omega (arith, newline-here b bs e)) (λ e. newline-other bs k (omega arith) q (omega (arith, z, newline-later b bs e)))
+
+-- whether the first newline from `at` on is among n bytes, and one more
+pub newline-among : (text : List ℕ) (at n : ℕ) → at + n < length text → ltb (before_newline (drop at text)) (n + 1) ≡ (ltb (before_newline (drop at text)) n || eqb (get_or text (at + n) 0) 10)
+newline-among text at n h = rw (← get_or-drop at text n 0) (newline_or (get_or run n 0) here other)
+  where
+    run : List ℕ
+    run = drop at text
+
+    before : ℕ
+    before = before_newline run
+
+    within : n < length run
+    within = omega (arith, length-drop at text)
+
+    here : get_or run n 0 ≡ 10 → ltb before (n + 1) ≡ (ltb before n || eqb (get_or run n 0) 10)
+    here e = rw (eq-eqb (get_or run n 0) 10 e, lt-ltb before (n + 1) (omega (arith, newline_upto run n within e)), or-true (ltb before n))
+
+    by-test : (before ≡ n → ⊥) → (t : Bool) → ltb before n ≡ t → ltb before (n + 1) ≡ t
+    by-test z true e = lt-ltb before (n + 1) (omega (arith, ltb-true before n e))
+    by-test z false e = le-ltb before (n + 1) (omega (arith, z, ltb-false before n e))
+
+    other : (get_or run n 0 ≡ 10 → ⊥) → ltb before (n + 1) ≡ (ltb before n || eqb (get_or run n 0) 10)
+    other e = rw (ne_eqb (get_or run n 0) 10 e, or-false (ltb before n)) (by-test (newline-other run n within e) (ltb before n) refl)
+
+-- where none of n bytes is a newline, the first one is that of the bytes behind them
+pub newline_past : (text : List ℕ) (at n : ℕ) → at + n ≤ length text → ltb (before_newline (drop at text)) n ≡ false → before_newline (drop at text) ≡ n + before_newline (drop (at + n) text)
+newline_past text at n h e = rw (← drop-drop n at text) (passed (drop at text) n (omega (arith, length-drop at text)) (ltb-false _ n e))
+  where
+    passed : (run : List ℕ) (k : ℕ) → k ≤ length run → k ≤ before_newline run → before_newline run ≡ k + before_newline (drop k run)
+    passed run zero h m = omega arith
+    passed [] (suc k) h m = absurd (omega arith)
+    passed (b ∷ bs) (suc k) h m =
+        newline_or b (λ e. absurd (omega (arith, m, newline-here b bs e)))
+        (λ e. let z = newline-later b bs e in omega (arith, z, passed bs k (omega arith) (omega (arith, m, z))))
 
 -- the first newline of a run, or that it has none, by the test of each byte
 newline-first : (run : List ℕ) (k : ℕ) → k < length run → eqb (get_or run k 0) 10 ≡ true → ((j : ℕ) → 0 ≤ j → j < k → eqb (get_or run j 0) 10 ≡ true → ⊥) → before_newline run ≡ k
