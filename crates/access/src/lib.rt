@@ -90,6 +90,7 @@ pub fn by_marks(subject: &[u8], object: &[u8], wanted: u8) -> Verdict
 }
 
 // Whether two labels are equal, by the numbers that were found for them: their bytes are compared only where neither has one.
+#[inline(always)]
 fn same_label(subject: &[u8], object: &[u8], s: Option<usize>, o: Option<usize>) -> bool
     ensures { result ≡ within.same_label subject.now object.now s o }
 {
@@ -107,6 +108,7 @@ fn same_label(subject: &[u8], object: &[u8], s: Option<usize>, o: Option<usize>)
 
 // Where the rule of two labels that were sought stands. The rule search, `places::find_pair`, is handed two numbers and lent no label; it is not begun
 // where a label has no number. Who calls it has tested the store, and has the numbers from searches of it.
+#[inline(always)]
 fn find_rule(
     entries: &[u8],
     words: &[u64],
@@ -176,6 +178,7 @@ fn denied(
 }
 
 // The answer by what the rules say. Who calls it has tested the store.
+#[inline(always)]
 fn answered(
     entries: &[u8],
     words: &[u64],
@@ -195,6 +198,7 @@ fn answered(
 
 // Rules 5 to 7, by whether the two labels are equal and the numbers that were found for them. No label is looked up or compared; and it is small, so that the
 // compiler can put it into each of its callers. Who calls it has tested the store, and has the numbers from searches of it.
+#[inline(always)]
 pub fn by_numbers(
     entries: &[u8],
     words: &[u64],
@@ -234,6 +238,7 @@ pub fn by_numbers(
 
 // The first of the seven rules that applies decides. Where rules 1 to 4 do, no label is looked up, but for a denial that may be overridden. Otherwise each
 // label is looked up once, the object first at the place where the subject was found, where it stands under rule 5. Who calls it has tested the store.
+#[inline(always)]
 fn decide(tables: Tables, subject: &[u8], object: &[u8], wanted: u8, capable: bool) -> Answer
     ensures { result ≡ access.decide (table_of (tested tables.entry)) subject.now object.now wanted capable }
 {

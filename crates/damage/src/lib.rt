@@ -114,32 +114,41 @@ pub fn what_undamaged_is()
     ensures { WhatUndamagedIs }
 {}
 
+// The test of the three slices, one by one: so each goes in registers, and every call of the library makes the test by a call of this one. The whole
+// state in a struct would go through memory.
+#[inline(never)]
+fn slices_undamaged(labels: &[u8], entries: &[u8], words: &[u64]) -> bool
+    ensures { result ≡ undamaged_of (store labels.now entries.now words.now) }
+{
+    if labels.len() != store::LABELS_SIZE {
+        return false;
+    }
+    if entries.len() != store::ENTRIES_SIZE {
+        return false;
+    }
+    if words.len() != store::WORDS_SIZE {
+        return false;
+    }
+    if (store::LABEL_LIMIT as u64) < words[store::LABEL_COUNT] {
+        return false;
+    }
+    if (store::RULE_LIMIT as u64) < words[store::RULE_COUNT] {
+        return false;
+    }
+    if (store::MAPPING_LIMIT as u64) < words[store::MAPPING_COUNT] {
+        return false;
+    }
+    if (store::ONLYCAP_LIMIT as u64) < words[store::ONLYCAP_COUNT] {
+        return false;
+    }
+    sound(entries, words)
+}
+
 // Whether the lent state is undamaged: refusal 0 otherwise.
 pub fn undamaged(state: Lent) -> bool
     ensures { result ≡ undamaged_of (lent state.entry) }
 {
-    if state.labels.len() != store::LABELS_SIZE {
-        return false;
-    }
-    if state.entries.len() != store::ENTRIES_SIZE {
-        return false;
-    }
-    if state.words.len() != store::WORDS_SIZE {
-        return false;
-    }
-    if (store::LABEL_LIMIT as u64) < state.words[store::LABEL_COUNT] {
-        return false;
-    }
-    if (store::RULE_LIMIT as u64) < state.words[store::RULE_COUNT] {
-        return false;
-    }
-    if (store::MAPPING_LIMIT as u64) < state.words[store::MAPPING_COUNT] {
-        return false;
-    }
-    if (store::ONLYCAP_LIMIT as u64) < state.words[store::ONLYCAP_COUNT] {
-        return false;
-    }
-    sound(state.entries, state.words)
+    slices_undamaged(state.labels, state.entries, state.words)
 }
 
 // That the lent state is undamaged, or refusal 0.

@@ -53,6 +53,7 @@ pub struct ChangeLine {
 
 // The two labels that a line begins with, not judged yet; or nothing, where it has only blanks. Who calls it lends the table that
 // `alphabet::classes` gives.
+#[inline(always)]
 fn two_labels(classes: &[u8], line: &[u8]) -> Result<Option<Labels>, Refusal>
     requires { classes.now ≡ class_table }
     ensures { result ≡ two_labels_at line.now }
@@ -87,6 +88,7 @@ fn two_labels(classes: &[u8], line: &[u8]) -> Result<Option<Labels>, Refusal>
 }
 
 // That both labels of a line are well formed, or refusal 3 with the place of the first bad byte. Who calls it has read them from that line.
+#[inline(always)]
 fn check_formed(line: &[u8], labels: Labels) -> Result<(), Refusal>
     requires { TwoLabels line.now labels }
     ensures ok { IfOk result (λ _. formed_at line.now labels.pair ≡ true) }
@@ -107,6 +109,7 @@ fn check_formed(line: &[u8], labels: Labels) -> Result<(), Refusal>
 }
 
 // That the two labels of a line are not the same, or refusal 5.
+#[inline(always)]
 fn check_apart(line: &[u8], pair: Pair) -> Result<(), Refusal>
     requires { SpanInside line.now pair.subject × SpanInside line.now pair.object }
     ensures ok { IfOk result (λ _. same_at line.now pair ≡ false) }
@@ -140,11 +143,11 @@ pub fn rule_line(line: &[u8]) -> Result<Option<RuleLine>, Refusal>
     let Field::End = alphabet::next_field_in(&classes, line, end) else {
         return Err(Refusal::WrongFields);
     };
-    check_formed(line, labels)?;
+    check_formed(line, labels)?; // before the access field is read
     let Some(m) = modes::read_modes(&line[start..end], modes::LINE_LETTERS, true) else {
         return Err(Refusal::BadAccess);
     };
-    check_apart(line, pair)?;
+    check_apart(line, pair)?; // behind the access field
     Ok(Some(RuleLine {
         labels: pair,
         modes: m & modes::RULE_LETTERS,
@@ -180,7 +183,7 @@ pub fn change_line(line: &[u8]) -> Result<ChangeLine, Refusal>
     let Field::End = alphabet::next_field_in(&classes, line, deny_to) else {
         return Err(Refusal::WrongFields);
     };
-    check_formed(line, labels)?;
+    check_formed(line, labels)?; // before the two fields of modes are read
     let Some(allow) = modes::read_modes(&line[allow_from..allow_to], modes::CHANGE_LETTERS, true)
     else {
         return Err(Refusal::BadAccess);
@@ -189,7 +192,7 @@ pub fn change_line(line: &[u8]) -> Result<ChangeLine, Refusal>
     else {
         return Err(Refusal::BadAccess);
     };
-    check_apart(line, pair)?;
+    check_apart(line, pair)?; // behind the two fields of modes
     Ok(ChangeLine {
         labels: pair,
         allow,

@@ -38,8 +38,9 @@ fn last_byte(label: &[u8]) -> u8
 }
 
 // The next place from an index on, of the first `count`, that has a label of length n with this last byte, or one past them: for labels of
-// fewer than four bytes. Its contract speaks of the places that it passes alone, as do those of the five that follow: the place that it stops at is
+// fewer than four bytes. Its contract speaks of the places that it passes alone, as do those of the three that follow: the place that it stops at is
 // compared whole. Who calls it has tested the store and the length.
+#[inline(never)]
 fn next_short(labels: &[u8], from: usize, count: usize, n: usize, last: u8) -> usize
     requires { (length labels.now ≡ labels_size) × (from ≤ label_limit) × (count ≤ label_limit) × (n ≤ 255) }
     ensures { (from ≤ result) × ((k : ℕ) → from ≤ k → k < result → Unlike labels.now k n last) }
@@ -139,6 +140,7 @@ pub fn find_label(labels: &[u8], count: usize, label: &[u8]) -> Option<usize>
 
 // The same, where the other label of a question, which is often the same, has been sought: the place that it answered is compared first, and not again. Who
 // calls it has tested the store and has that answer.
+#[inline(always)]
 pub fn find_label_hinted(
     labels: &[u8],
     count: usize,

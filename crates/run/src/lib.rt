@@ -30,7 +30,13 @@ fn lower(best: Option<u64>, entry: Record, level: u64, set: CategorySet) -> Opti
         return best;
     }
     match best {
-        Some(n) => Some(entry.label.min(n)),
+        Some(n) => {
+            if entry.label < n {
+                Some(entry.label)
+            } else {
+                Some(n)
+            }
+        }
         None => Some(entry.label),
     }
 }

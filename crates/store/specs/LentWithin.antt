@@ -1,4 +1,5 @@
--- The slices of a state that are only read, as contracts inside the library name them. Nobody has to believe this. Assumes nothing.
+-- The slices of a state that are only read, as contracts name them; no claim reaches them. Who calls the library from Rattle reads `lent` in the
+-- contracts of the calls that change nothing. Assumes nothing.
 use Rattle.store.specs.declared.Lent.{Lent}
 use Rattle.store.specs.declared.Tables.{Tables}
 use Rattle.store.specs.Layout.{Store, store}
